@@ -1,0 +1,123 @@
+-- THE CLAIM: the request's demand 3, sentence by sentence, of what one whole run reported. `laws` proves it of every adjacency that the whole
+-- run accepts (`claim`). Under a field stands the wrong program that it rules out.
+-- Assumes nothing.
+use Prim.Native.Nat.{ℕ, _+_, _*_, _-_, _/_, _≤_, _<_}
+use mathlib.Core.Bool.{true}
+use mathlib.Core.List.{List}
+use mathlib.Core.Logic.{_↔_}
+use mathlib.Core.Path.{_≡_}
+use lib.Dec.{eqb}
+use Rattle.basis.specs.Lists.{countb, memb}
+use Rattle.spec.specs.Refusal.{refuse, _orElse_}
+use Rattle.spec.specs.Graph.{Graph, nodes, adjoins, ofNode, sizeOf, graphOf}
+use Rattle.spec.specs.Levels.{part, leaders, Neighbouring}
+use Rattle.spec.specs.Measures.{isNumbering, renumbered, bandwidth, profile}
+use Rattle.spec.specs.Numbering.{Figures, partResult, run}
+use Rattle.spec.specs.Store.{Pair, hasPlace, place, joinedAfter, joined, markAt}
+use Rattle.spec.specs.Lent.{outcome, accepted, short}
+use Rattle.spec.specs.CallsStore.{EliminationFigures, eliminationFigures, eliminationAnswer, eliminationBytes}
+
+-- ---- what the sentences speak of
+
+-- the number of levels of the part that z leads
+abbrev pub depthOf : Graph → ℕ → ℕ
+depthOf g z = partResult g z .report .k
+
+-- z leads a part, and i is the number of one of its levels
+pub record IsLevel (g : Graph) (z i : ℕ) : Type 0 where
+  pub leads : memb z (leaders g) ≡ true
+  pub low : 1 ≤ i
+  pub high : i ≤ depthOf g z
+
+-- x stands in level i of the part that z leads
+pub record StandsIn (g : Graph) (levels : List ℕ) (z i x : ℕ) : Type 0 where
+  pub level : IsLevel g z i
+  pub inside : memb x (part g z) ≡ true
+  pub at : ofNode levels x ≡ i
+
+-- how many nodes stand in level i of the part that z leads
+abbrev pub countIn : Graph → List ℕ → ℕ → ℕ → ℕ
+countIn g levels z i = countb (λ x. eqb (ofNode levels x) i) (part g z)
+
+-- the pair is joined after the eliminations 1 .. i; for i = 0, before the first one
+pub record JoinedAt (h : Graph) (i : ℕ) (pq : Pair) : Type 0 where
+  pub order : pq .low < pq .high
+  pub join : adjoins (joinedAfter i h) (pq .low) (pq .high) ≡ true
+
+-- t is the place of a pair that is joined at the end, a pair that has a place
+pub record JoinedPlace (h : Graph) (t : ℕ) : Type 0 where
+  pub pair : Pair
+  pub order : pair .low < pair .high
+  pub join : adjoins (joined h) (pair .low) (pair .high) ≡ true
+  pub has : hasPlace h pair ≡ true
+  pub stands : place h pair ≡ t
+
+-- place t belongs to exactly one pair that has a place
+pub record OnePair (h : Graph) (t : ℕ) : Type 0 where
+  pub pair : Pair
+  pub has : hasPlace h pair ≡ true
+  pub inside : pair .high ≤ h .size
+  pub stands : place h pair ≡ t
+  pub only : (a : Pair) → hasPlace h a ≡ true → place h a ≡ t → a ≡ pair
+
+-- ---- the store: of any two lists S and N, any numbering X of their nodes, and the size of the store
+
+pub record StoreClaim (S N X : List ℕ) (size : ℕ) : Type 0 where
+  -- "Eliminate in the order of the new numbers: before the first elimination and after each one, every pair joined so far has a place"
+  -- rules out: a store with places for the edges alone
+  pub has-place : (i : ℕ) (pq : Pair) → JoinedAt (renumbered (graphOf S N) X) i pq → hasPlace (renumbered (graphOf S N) X) pq ≡ true
+  -- a pair is the same whichever number is named first
+  pub both-ways : (i p q : ℕ) → adjoins (joinedAfter i (renumbered (graphOf S N) X)) p q ≡ true
+      → adjoins (joinedAfter i (renumbered (graphOf S N) X)) q p ≡ true
+  -- "no two of them share one"
+  -- rules out: a map that sends two coefficients to one place
+  pub no-share : (i : ℕ) (a b : Pair) → JoinedAt (renumbered (graphOf S N) X) i a → JoinedAt (renumbered (graphOf S N) X) i b
+      → place (renumbered (graphOf S N) X) a ≡ place (renumbered (graphOf S N) X) b → a ≡ b
+  -- "and all lie in a store of exactly the reported profile": none past its end ..
+  -- rules out: a reported profile that is too small
+  pub in-store : (i : ℕ) (pq : Pair) → JoinedAt (renumbered (graphOf S N) X) i pq → place (renumbered (graphOf S N) X) pq < size
+  -- .. and no place that belongs to no pair
+  -- rules out: a reported profile that is too large
+  pub exact : (t : ℕ) → t < size → OnePair (renumbered (graphOf S N) X) t
+  -- "Handed that adjacency with the new numbers unchanged, the elimination call refuses nothing but a short buffer": scratch C, bytes B
+  -- rules out: a call that refuses what it should take, or always
+  pub refuses : (C B : List ℕ) → eliminationAnswer S N X C B
+      ≡ outcome (refuse (short C (sizeOf S)) 5 orElse refuse (short B ((size + 7) / 8)) 8) (eliminationFigures (renumbered (graphOf S N) X))
+  -- "If it accepts, its marks that are 1 stand at exactly the places of the pairs joined at the end": t any bit of its bytes
+  -- rules out: marks for the edges only, marks everywhere, spare bits that are 1
+  pub marks : (C B : List ℕ) (e : EliminationFigures) → eliminationAnswer S N X C B ≡ accepted e → (t : ℕ) → t < 8 * ((size + 7) / 8)
+      → (markAt (eliminationBytes S N X C B) t ≡ 1) ↔ JoinedPlace (renumbered (graphOf S N) X) t
+
+-- ---- the claim: S and N are the two lists, F the reported figures, X and L the first n words of numbers and levels as the run leaves them
+
+pub record Claim (S N : List ℕ) (F : Figures) (X L : List ℕ) : Type 0 where
+  -- "The levels, their greatest width w, the new numbers, the bandwidth and the profile that it reports are those document 01 defines."
+  -- rules out: levels all equal to 1, old numbers handed straight back, an invented figure
+  pub figures : F ≡ run (graphOf S N) .figures
+  pub levels : L ≡ run (graphOf S N) .levels
+  pub numbers : X ≡ run (graphOf S N) .numbers
+  -- the levels are those of each part, "as they stand after any change of names"
+  pub level-is : (z x : ℕ) → memb z (leaders (graphOf S N)) ≡ true → memb x (part (graphOf S N) z) ≡ true
+      → ofNode L x ≡ ofNode (partResult (graphOf S N) z .levels) x
+  -- w "is the greatest level count of any part": no level has more, and one has as many
+  pub width-most : (z i : ℕ) → IsLevel (graphOf S N) z i → countIn (graphOf S N) L z i ≤ F .width
+  pub width-met : (z : ℕ) × (i : ℕ) × IsLevel (graphOf S N) z i × (countIn (graphOf S N) L z i ≡ F .width)
+  -- rules out: zeroed buffers; a run that numbers the first part and copies the rest
+  pub numbering : isNumbering (sizeOf S) X ≡ true
+  pub bandwidth-is : F .bandwidth ≡ bandwidth (renumbered (graphOf S N) X)
+  pub profile-is : F .profile ≡ profile (renumbered (graphOf S N) X)
+  -- "In each part every level holds a node,"
+  -- rules out: a depth that counts one level too far
+  pub occupied : (z i : ℕ) → IsLevel (graphOf S N) z i → (x : ℕ) × StandsIn (graphOf S N) L z i x
+  -- "and every node stands in exactly one level."
+  -- rules out: a node left at level 0
+  pub one-level : (x : ℕ) → memb x (nodes (graphOf S N)) ≡ true
+      → (z : ℕ) × (i : ℕ) × StandsIn (graphOf S N) L z i x × ((z′ i′ : ℕ) → StandsIn (graphOf S N) L z′ i′ x → (z′ ≡ z) × (i′ ≡ i))
+  -- "Each edge joins equal or neighbouring levels."
+  -- rules out: a loop over levels that runs one too far, so that a node lands two levels from its neighbour
+  pub edges : (p q : ℕ) → adjoins (graphOf S N) p q ≡ true → Neighbouring (ofNode L p) (ofNode L q)
+  -- "The reported bandwidth is at most 2w − 1."
+  -- rules out: an order that does not go level by level
+  pub band : F .bandwidth ≤ 2 * F .width - 1
+  -- the sentences on the store, the eliminations and the elimination call
+  pub store : StoreClaim S N X (F .profile)
