@@ -1,57 +1,16 @@
 -- The starred rows of document 01's bracket table, all as one table, and the program's sample: each holds by computation.
--- The graphs are small and the buffers hold 9s at first, so that what a call writes shows.
 -- Assumes nothing.
-use Prim.Native.Nat.{ℕ, _*_}
+use Prim.Native.Nat.{ℕ}
 use mathlib.Core.Path.{_≡_, refl}
 use mathlib.Core.List.{List, [], _∷_}
-use lib.ListN.{replicate}
-use Rattle.spec.specs.Graph.{graphOf, sizeOf}
+use Rattle.spec.specs.Graph.{graphOf}
 use Rattle.spec.specs.Measures.{inOrder, profile, fronts}
-use Rattle.spec.specs.Numbering.{Reversed, PartReport, Figures}
+use Rattle.spec.specs.Numbering.{Reversed}
 use Rattle.spec.specs.Text.{ascii}
 use Rattle.spec.specs.File.{programOutput}
-use Rattle.spec.specs.Lent.{Outcome, refused, accepted}
-use Rattle.spec.specs.CallsLevels.{LevelFigures, rootedAnswer}
-use Rattle.spec.specs.CallsNumbering.{MeasureFigures, measuresAnswer, reportAnswer, runAnswer, runNumbers, runLevels}
-use Rattle.spec.specs.CallsStore.{EliminationFigures, eliminationAnswer, eliminationBytes}
+use Rattle.spec.specs.Lent.{refused, accepted}
 use Rattle.spec.proofs.Compute.{computes}
-
--- the two lists of a graph
-record Lists : Type 0 where
-  starts : List ℕ
-  neighbours : List ℕ
-
--- buffers of the size that a call asks for
-words : Lists → ℕ → List ℕ
-words l k = replicate (k * sizeOf (l .starts)) 9
-
--- the numbers that the run writes
-numbersFor : Lists → List ℕ
-numbersFor l = runNumbers (l .starts) (l .neighbours) (words l 1) (words l 1) (words l 8)
-
--- the levels that the run writes
-levelsFor : Lists → List ℕ
-levelsFor l = runLevels (l .starts) (l .neighbours) (words l 1) (words l 1) (words l 8)
-
--- what the run answers
-figuresFor : Lists → Outcome Figures
-figuresFor l = runAnswer (l .starts) (l .neighbours) (words l 1) (words l 1) (words l 8)
-
--- the report of z's part
-reportFor : Lists → ℕ → Outcome PartReport
-reportFor l z = reportAnswer (l .starts) (l .neighbours) z (words l 8)
-
--- the measures of a numbering
-measuresFor : Lists → List ℕ → Outcome MeasureFigures
-measuresFor l x = measuresAnswer (l .starts) (l .neighbours) x (words l 1)
-
--- the elimination under a numbering
-eliminationFor : Lists → List ℕ → Outcome EliminationFigures
-eliminationFor l x = eliminationAnswer (l .starts) (l .neighbours) x (words l 1) (9 ∷ [])
-
--- the levels rooted at r
-rootedFor : Lists → ℕ → Outcome LevelFigures
-rootedFor l r = rootedAnswer (l .starts) (l .neighbours) r (words l 1)
+use Rattle.spec.proofs.Called.{Lists, numbersFor, levelsFor, figuresFor, rootedFor, reportFor, measuresFor, eliminationFor, bytesFor, eight}
 
 -- one node
 one : Lists
@@ -80,11 +39,6 @@ path = record { starts = 0 ∷ 2 ∷ 4 ∷ 6 ∷ 7 ∷ 8 ∷ []; neighbours = 2 
 -- rows {2}, {}
 unpaired : Lists
 unpaired = record { starts = 0 ∷ 1 ∷ 1 ∷ []; neighbours = 2 ∷ [] }
-
--- the eight figures in the order of the program's first line
-eight : ℕ → ℕ → ℕ → ℕ → ℕ → ℕ → ℕ → ℕ → Outcome Figures
-eight n parts b p f ls w passes =
-    accepted (record { nodes = n; parts = parts; bandwidth = b; profile = p; front = f; levels = ls; width = w; passes = passes })
 
 -- the file of the sample: GRD, version 1, 5 nodes, 4 elements, bars 1-2, 1-4, 2-3, 3-5
 sample : List ℕ
@@ -118,14 +72,14 @@ record BracketTable : Type 0 where
   ring-levels : levelsFor ring ≡ 1 ∷ 2 ∷ 3 ∷ 2 ∷ []
   ring-numbers : numbersFor ring ≡ 1 ∷ 2 ∷ 4 ∷ 3 ∷ []
   ring-figures : figuresFor ring ≡ eight 4 1 2 5 3 3 2 1
-  ring-marks : eliminationFor ring (1 ∷ 2 ∷ 4 ∷ 3 ∷ []) ≡ accepted (record { marked = 5; new = 1 })
-  ring-bytes : eliminationBytes (ring .starts) (ring .neighbours) (1 ∷ 2 ∷ 4 ∷ 3 ∷ []) (words ring 1) (9 ∷ 9 ∷ []) ≡ 31 ∷ 9 ∷ []
+  ring-marks : eliminationFor ring (1 ∷ 2 ∷ 4 ∷ 3 ∷ []) 1 ≡ accepted (record { marked = 5; new = 1 })
+  ring-bytes : bytesFor ring (1 ∷ 2 ∷ 4 ∷ 3 ∷ []) 2 ≡ 31 ∷ 9 ∷ []
   -- Edges 1-2, 1-4, 2-3, 3-5 under numbers 1 to 5: bandwidth 3, profile 7, fronts 3, 3, 3, 2, 1
   path-measures : measuresFor path (1 ∷ 2 ∷ 3 ∷ 4 ∷ 5 ∷ []) ≡ accepted (record { bandwidth = 3; profile = 7; front = 3 })
   path-fronts : fronts (graphOf (path .starts) (path .neighbours)) ≡ 3 ∷ 3 ∷ 3 ∷ 2 ∷ 1 ∷ []
   -- Numbering 1, 1 of two nodes: 7
   repeated-number : measuresFor isolated (1 ∷ 1 ∷ []) ≡ refused 7
-  repeated-number-elimination : eliminationFor isolated (1 ∷ 1 ∷ []) ≡ refused 7
+  repeated-number-elimination : eliminationFor isolated (1 ∷ 1 ∷ []) 1 ≡ refused 7
   -- Rows {2}, {}: 4
   unpaired-run : figuresFor unpaired ≡ refused 4
   unpaired-numbers : numbersFor unpaired ≡ 9 ∷ 9 ∷ []
@@ -136,7 +90,7 @@ record BracketTable : Type 0 where
 
 -- the whole table
 bracket-table : BracketTable
-unfolding computes words numbersFor levelsFor figuresFor reportFor measuresFor eliminationFor rootedFor one isolated triangle star ring path unpaired eight sample
+unfolding computes one isolated triangle star ring path unpaired sample
 bracket-table = record {
   one-numbers = refl;
   one-figures = refl;

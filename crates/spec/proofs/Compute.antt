@@ -2,7 +2,7 @@
 -- A contract and its proof name what they need one by one instead.
 -- Assumes nothing.
 use Rattle.spec.specs.Graph.{nodes, adjoins, degree, beforeE, sortE, firstInE, graphBy, restrict, rowOf, refuses1, refuses2}
-use Rattle.spec.specs.Graph.{badRow, refuses3, refuses4, graphRefusal, legal, ofNode}
+use Rattle.spec.specs.Graph.{badRow, refuses3, refuses4, graphRefusal, ofNode}
 use Rattle.spec.specs.Levels.{nextLevel, levelsFrom, levels, depth, sizes, width, reached, levelCounted, levelOf, levelList, part}
 use Rattle.spec.specs.Levels.{leads, leaders, parts}
 use Rattle.spec.specs.Ends.{depthAt, widthAt, farthest, deeper, rootsFrom, roots, narrower, otherEnd, endsAt, ends}
@@ -36,5 +36,5 @@ use Rattle.spec.specs.CallsListing.{listingScratch}
 
 -- unfolds every definition that is named below
 unfoldable pub computes : Unit {0}
-unfolding nodes adjoins degree beforeE sortE firstInE graphBy restrict rowOf refuses1 refuses2 badRow refuses3 refuses4 graphRefusal legal ofNode nextLevel levelsFrom levels depth sizes width reached levelCounted levelOf levelList part leads leaders parts depthAt widthAt farthest deeper rootsFrom roots narrower otherEnd endsAt ends mirrored levelPairs settled settledLevels largerPiece pieces countAt added raised peak placeBy bySecond placePiece combined widthOf isNumbering orderOf numbersOf inOrder renumbered firstIn rowSpan bandwidth profile frontAt fronts front renames startNode finishNode partLevels levelNodes unnumberedBy firstFilled nextWithin within fromBefore laterLevel forwardOrder directionOf turns partResultBy partResult partResults wholeOrder wholeLevels figuresOf runOf run startOf hasPlace place placedPairs eliminate joinedAfter joined marks markCount newCount markByteCount markByte markBytes markAt kindTable nodeCount repeats badNodes elementRefusal elementsRefusal elementsIn elements joins meshGraph entryCount startList neighbourList refuses11 ascii digitsBefore decimal newline wordsOf hasMark fileWords fileVersion fileNodes fileElements body badHeader countedRefusal wordsTaken leftOver fileGraph headerRefusal bodyRefusal fileRefusal item figuresLine nodeLine listing refusedLine output programOutput outcome filled zeroed scratchAfter adjacencyAnswer levelFigures rootedRefusal rootedAnswer rootedLevels partScratch partRefusal endsAnswer endsScratch combinedFigures combinedRefusal combinedAnswer combinedLevels combinedScratch measureFigures measuresRefusal measuresAnswer measuresScratch reportAnswer reportScratch runRefusal runAnswer runNumbers runLevels runScratch eliminationFigures eliminationRefusal eliminationAnswer eliminationScratch eliminationBytes handedNumbers handedScratch runEliminateAnswer runEliminateBytes graphOfElements meshRefusal meshAnswer meshStarts meshNeighbours meshScratch shortBuffers earlyRefusal listingRefusal listingText textFits listingAnswer listingBytes listingOutput listingWords listingStarts listingNeighbours listingNumbers listingLevels listingScratch
+unfolding nodes adjoins degree beforeE sortE firstInE graphBy restrict rowOf refuses1 refuses2 badRow refuses3 refuses4 graphRefusal ofNode nextLevel levelsFrom levels depth sizes width reached levelCounted levelOf levelList part leads leaders parts depthAt widthAt farthest deeper rootsFrom roots narrower otherEnd endsAt ends mirrored levelPairs settled settledLevels largerPiece pieces countAt added raised peak placeBy bySecond placePiece combined widthOf isNumbering orderOf numbersOf inOrder renumbered firstIn rowSpan bandwidth profile frontAt fronts front renames startNode finishNode partLevels levelNodes unnumberedBy firstFilled nextWithin within fromBefore laterLevel forwardOrder directionOf turns partResultBy partResult partResults wholeOrder wholeLevels figuresOf runOf run startOf hasPlace place placedPairs eliminate joinedAfter joined marks markCount newCount markByteCount markByte markBytes markAt kindTable nodeCount repeats badNodes elementRefusal elementsRefusal elementsIn elements joins meshGraph entryCount startList neighbourList refuses11 ascii digitsBefore decimal newline wordsOf hasMark fileWords fileVersion fileNodes fileElements body badHeader countedRefusal wordsTaken leftOver fileGraph headerRefusal bodyRefusal fileRefusal item figuresLine nodeLine listing refusedLine output programOutput outcome filled zeroed scratchAfter adjacencyAnswer levelFigures rootedRefusal rootedAnswer rootedLevels partScratch partRefusal endsAnswer endsScratch combinedFigures combinedRefusal combinedAnswer combinedLevels combinedScratch measureFigures measuresRefusal measuresAnswer measuresScratch reportAnswer reportScratch runRefusal runAnswer runNumbers runLevels runScratch eliminationFigures eliminationRefusal eliminationAnswer eliminationScratch eliminationBytes handedNumbers handedScratch runEliminateAnswer runEliminateBytes graphOfElements meshRefusal meshAnswer meshStarts meshNeighbours meshScratch shortBuffers earlyRefusal listingRefusal listingText textFits listingAnswer listingBytes listingOutput listingWords listingStarts listingNeighbours listingNumbers listingLevels listingScratch
 computes = tt

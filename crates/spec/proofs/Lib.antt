@@ -1,2 +1,4 @@
 pub mod Compute
+pub mod Called
 pub mod Bracket
+pub mod Examples

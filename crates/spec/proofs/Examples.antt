@@ -1,0 +1,366 @@
+-- A second table by computation: graphs chosen so that each slip of document 01 and each tie rule shows, and the order of the refusals.
+-- Made by tests/definitions/examples.py: every expected value is the independent program's, tests/reference. Assumes nothing.
+use Prim.Native.Nat.{ℕ, _*_}
+use mathlib.Core.Path.{_≡_, refl}
+use mathlib.Core.List.{List, [], _∷_}
+use lib.ListN.{replicate}
+use Rattle.spec.specs.Graph.{sizeOf}
+use Rattle.spec.specs.Ends.{Ends}
+use Rattle.spec.specs.Numbering.{Forward, Reversed, PartReport, Figures}
+use Rattle.spec.specs.Lent.{Outcome, refused, accepted}
+use Rattle.spec.specs.CallsLevels.{adjacencyAnswer, rootedAnswer, endsAnswer}
+use Rattle.spec.specs.CallsNumbering.{runAnswer, measuresAnswer}
+use Rattle.spec.specs.CallsStore.{EliminationFigures, eliminationAnswer}
+use Rattle.spec.proofs.Compute.{computes}
+use Rattle.spec.proofs.Called.{Lists, numbersFor, levelsFor, figuresFor, endsFor, combinedFor, reportFor, eliminationFor, bytesFor}
+
+-- what the calls say of a graph and of the part of node 1; the elimination is handed the run's numbers and four bytes
+record Found : Type 0 where
+  ends : Outcome Ends
+  combined : List ℕ
+  report : Outcome PartReport
+  levels : List ℕ
+  numbers : List ℕ
+  figures : Outcome Figures
+  marks : Outcome EliminationFigures
+  bytes : List ℕ
+
+found : Lists → Found
+found l = record {
+  ends = endsFor l 1;
+  combined = combinedFor l 1;
+  report = reportFor l 1;
+  levels = levelsFor l;
+  numbers = numbersFor l;
+  figures = figuresFor l;
+  marks = eliminationFor l (numbersFor l) 4;
+  bytes = bytesFor l (numbersFor l) 4;
+}
+
+-- a refusal's number, 0 for an accepted call
+numberOf : {A : Type 0} → Outcome A → ℕ
+numberOf (refused c) = c
+numberOf (accepted a) = 0
+
+-- what the adjacency test, rooted levels, ends, run, measures and elimination refuse by, with so many words lent for each node and no mark byte
+refusals : List ℕ → List ℕ → ℕ → List ℕ → ℕ → List ℕ
+refusals S N node x k =
+    let w : List ℕ = replicate (k * sizeOf S) 9 in
+    numberOf (adjacencyAnswer S N)
+    ∷ numberOf (rootedAnswer S N node w)
+    ∷ numberOf (endsAnswer S N node w)
+    ∷ numberOf (runAnswer S N w w w)
+    ∷ numberOf (measuresAnswer S N x w)
+    ∷ numberOf (eliminationAnswer S N x w [])
+    ∷ []
+
+-- a change of names: u has lower degree than v
+names : Lists
+names = record {
+  starts = 0 ∷ 3 ∷ 5 ∷ 8 ∷ 12 ∷ 16 ∷ 20 ∷ 22 ∷ [];
+  neighbours = 4 ∷ 5 ∷ 6 ∷ 5 ∷ 7 ∷ 4 ∷ 6 ∷ 7 ∷ 1 ∷ 3 ∷ 5 ∷ 6 ∷ 1 ∷ 2 ∷ 4 ∷ 6 ∷ 1 ∷ 3 ∷ 4 ∷ 5 ∷ 2 ∷ 3 ∷ [];
+}
+
+names-found : Found
+names-found = record {
+  ends = accepted (record { v = 1; u = 7; k = 4; widthV = 3; widthU = 3; passes = 2 });
+  combined = 1 ∷ 3 ∷ 3 ∷ 2 ∷ 2 ∷ 2 ∷ 4 ∷ [];
+  report = accepted (record { v = 7; u = 1; k = 4; width = 3; passes = 2; direction = Forward });
+  levels = 4 ∷ 2 ∷ 2 ∷ 3 ∷ 3 ∷ 3 ∷ 1 ∷ [];
+  numbers = 7 ∷ 2 ∷ 3 ∷ 5 ∷ 4 ∷ 6 ∷ 1 ∷ [];
+  figures = accepted (record { nodes = 7; parts = 1; bandwidth = 3; profile = 13; front = 4; levels = 4; width = 3; passes = 2 });
+  marks = accepted (record { marked = 13; new = 2 });
+  bytes = 255 ∷ 31 ∷ 9 ∷ 9 ∷ [];
+}
+
+-- a change of names after two passes: the first s deeper than v, not the last
+deeper : Lists
+deeper = record {
+  starts = 0 ∷ 3 ∷ 6 ∷ 7 ∷ 9 ∷ 11 ∷ 13 ∷ 15 ∷ 16 ∷ [];
+  neighbours = 3 ∷ 4 ∷ 7 ∷ 4 ∷ 5 ∷ 6 ∷ 1 ∷ 1 ∷ 2 ∷ 2 ∷ 6 ∷ 2 ∷ 5 ∷ 1 ∷ 8 ∷ 7 ∷ [];
+}
+
+deeper-found : Found
+deeper-found = record {
+  ends = accepted (record { v = 5; u = 8; k = 6; widthV = 2; widthU = 2; passes = 2 });
+  combined = 4 ∷ 2 ∷ 5 ∷ 3 ∷ 1 ∷ 2 ∷ 5 ∷ 6 ∷ [];
+  report = accepted (record { v = 8; u = 5; k = 6; width = 2; passes = 2; direction = Forward });
+  levels = 3 ∷ 5 ∷ 2 ∷ 4 ∷ 6 ∷ 5 ∷ 2 ∷ 1 ∷ [];
+  numbers = 4 ∷ 6 ∷ 3 ∷ 5 ∷ 8 ∷ 7 ∷ 2 ∷ 1 ∷ [];
+  figures = accepted (record { nodes = 8; parts = 1; bandwidth = 2; profile = 8; front = 3; levels = 6; width = 2; passes = 2 });
+  marks = accepted (record { marked = 8; new = 0 });
+  bytes = 255 ∷ 9 ∷ 9 ∷ 9 ∷ [];
+}
+
+-- three passes
+passes : Lists
+passes = record {
+  starts = 0 ∷ 2 ∷ 4 ∷ 6 ∷ 8 ∷ 10 ∷ 12 ∷ 14 ∷ 17 ∷ 20 ∷ [];
+  neighbours = 4 ∷ 9 ∷ 5 ∷ 9 ∷ 4 ∷ 5 ∷ 1 ∷ 3 ∷ 2 ∷ 3 ∷ 7 ∷ 8 ∷ 6 ∷ 8 ∷ 6 ∷ 7 ∷ 9 ∷ 1 ∷ 2 ∷ 8 ∷ [];
+}
+
+passes-found : Found
+passes-found = record {
+  ends = accepted (record { v = 6; u = 3; k = 6; widthV = 2; widthU = 2; passes = 3 });
+  combined = 4 ∷ 4 ∷ 6 ∷ 5 ∷ 5 ∷ 1 ∷ 2 ∷ 2 ∷ 3 ∷ [];
+  report = accepted (record { v = 6; u = 3; k = 6; width = 2; passes = 3; direction = Forward });
+  levels = 4 ∷ 4 ∷ 6 ∷ 5 ∷ 5 ∷ 1 ∷ 2 ∷ 2 ∷ 3 ∷ [];
+  numbers = 5 ∷ 6 ∷ 9 ∷ 7 ∷ 8 ∷ 1 ∷ 2 ∷ 3 ∷ 4 ∷ [];
+  figures = accepted (record { nodes = 9; parts = 1; bandwidth = 2; profile = 13; front = 3; levels = 6; width = 2; passes = 3 });
+  marks = accepted (record { marked = 13; new = 3 });
+  bytes = 255 ∷ 31 ∷ 9 ∷ 9 ∷ [];
+}
+
+-- S is taken in E, not by number
+inE : Lists
+inE = record {
+  starts = 0 ∷ 2 ∷ 4 ∷ 7 ∷ 9 ∷ 10 ∷ 13 ∷ 14 ∷ [];
+  neighbours = 6 ∷ 7 ∷ 3 ∷ 4 ∷ 2 ∷ 4 ∷ 6 ∷ 2 ∷ 3 ∷ 6 ∷ 1 ∷ 3 ∷ 5 ∷ 1 ∷ [];
+}
+
+inE-found : Found
+inE-found = record {
+  ends = accepted (record { v = 7; u = 2; k = 5; widthV = 2; widthU = 2; passes = 2 });
+  combined = 2 ∷ 5 ∷ 4 ∷ 5 ∷ 4 ∷ 3 ∷ 1 ∷ [];
+  report = accepted (record { v = 7; u = 2; k = 5; width = 2; passes = 2; direction = Reversed });
+  levels = 2 ∷ 5 ∷ 4 ∷ 5 ∷ 4 ∷ 3 ∷ 1 ∷ [];
+  numbers = 6 ∷ 2 ∷ 3 ∷ 1 ∷ 4 ∷ 5 ∷ 7 ∷ [];
+  figures = accepted (record { nodes = 7; parts = 1; bandwidth = 2; profile = 7; front = 3; levels = 5; width = 2; passes = 2 });
+  marks = accepted (record { marked = 7; new = 0 });
+  bytes = 127 ∷ 9 ∷ 9 ∷ 9 ∷ [];
+}
+
+-- several pieces of equal size: the lowest number first, each against the counts as they then are
+equal : Lists
+equal = record {
+  starts = 0 ∷ 4 ∷ 6 ∷ 7 ∷ 8 ∷ 9 ∷ 10 ∷ [];
+  neighbours = 2 ∷ 4 ∷ 5 ∷ 6 ∷ 1 ∷ 3 ∷ 2 ∷ 1 ∷ 1 ∷ 1 ∷ [];
+}
+
+equal-found : Found
+equal-found = record {
+  ends = accepted (record { v = 3; u = 4; k = 4; widthV = 3; widthU = 3; passes = 1 });
+  combined = 3 ∷ 2 ∷ 1 ∷ 4 ∷ 4 ∷ 2 ∷ [];
+  report = accepted (record { v = 3; u = 4; k = 4; width = 2; passes = 1; direction = Forward });
+  levels = 3 ∷ 2 ∷ 1 ∷ 4 ∷ 4 ∷ 2 ∷ [];
+  numbers = 4 ∷ 2 ∷ 1 ∷ 5 ∷ 6 ∷ 3 ∷ [];
+  figures = accepted (record { nodes = 6; parts = 1; bandwidth = 2; profile = 6; front = 3; levels = 4; width = 2; passes = 1 });
+  marks = accepted (record { marked = 6; new = 1 });
+  bytes = 63 ∷ 9 ∷ 9 ∷ 9 ∷ [];
+}
+
+-- larger pieces first; a second part
+larger : Lists
+larger = record {
+  starts = 0 ∷ 2 ∷ 8 ∷ 9 ∷ 9 ∷ 12 ∷ 15 ∷ 16 ∷ 18 ∷ [];
+  neighbours = 2 ∷ 6 ∷ 1 ∷ 3 ∷ 5 ∷ 6 ∷ 7 ∷ 8 ∷ 2 ∷ 2 ∷ 6 ∷ 8 ∷ 1 ∷ 2 ∷ 5 ∷ 2 ∷ 2 ∷ 5 ∷ [];
+}
+
+larger-found : Found
+larger-found = record {
+  ends = accepted (record { v = 3; u = 5; k = 3; widthV = 5; widthU = 3; passes = 1 });
+  combined = 1 ∷ 2 ∷ 1 ∷ 0 ∷ 3 ∷ 2 ∷ 3 ∷ 2 ∷ [];
+  report = accepted (record { v = 3; u = 5; k = 3; width = 3; passes = 1; direction = Forward });
+  levels = 1 ∷ 2 ∷ 1 ∷ 1 ∷ 3 ∷ 2 ∷ 3 ∷ 2 ∷ [];
+  numbers = 2 ∷ 3 ∷ 1 ∷ 8 ∷ 7 ∷ 4 ∷ 6 ∷ 5 ∷ [];
+  figures = accepted (record { nodes = 8; parts = 2; bandwidth = 4; profile = 13; front = 5; levels = 4; width = 3; passes = 2 });
+  marks = accepted (record { marked = 13; new = 4 });
+  bytes = 255 ∷ 31 ∷ 9 ∷ 9 ∷ [];
+}
+
+-- h over the levels that the piece touches
+untouched : Lists
+untouched = record {
+  starts = 0 ∷ 6 ∷ 8 ∷ 9 ∷ 12 ∷ 15 ∷ 17 ∷ 20 ∷ [];
+  neighbours = 2 ∷ 3 ∷ 4 ∷ 5 ∷ 6 ∷ 7 ∷ 1 ∷ 4 ∷ 1 ∷ 1 ∷ 2 ∷ 7 ∷ 1 ∷ 6 ∷ 7 ∷ 1 ∷ 5 ∷ 1 ∷ 4 ∷ 5 ∷ [];
+}
+
+untouched-found : Found
+untouched-found = record {
+  ends = accepted (record { v = 3; u = 4; k = 3; widthV = 5; widthU = 3; passes = 1 });
+  combined = 2 ∷ 3 ∷ 1 ∷ 3 ∷ 1 ∷ 1 ∷ 2 ∷ [];
+  report = accepted (record { v = 3; u = 4; k = 3; width = 3; passes = 1; direction = Forward });
+  levels = 2 ∷ 3 ∷ 1 ∷ 3 ∷ 1 ∷ 1 ∷ 2 ∷ [];
+  numbers = 4 ∷ 6 ∷ 1 ∷ 7 ∷ 3 ∷ 2 ∷ 5 ∷ [];
+  figures = accepted (record { nodes = 7; parts = 1; bandwidth = 3; profile = 11; front = 4; levels = 3; width = 3; passes = 1 });
+  marks = accepted (record { marked = 11; new = 1 });
+  bytes = 255 ∷ 7 ∷ 9 ∷ 9 ∷ [];
+}
+
+-- h and l equal, and u narrower than v: by second numbers
+narrower : Lists
+narrower = record {
+  starts = 0 ∷ 2 ∷ 3 ∷ 7 ∷ 9 ∷ 10 ∷ 12 ∷ [];
+  neighbours = 3 ∷ 6 ∷ 4 ∷ 1 ∷ 4 ∷ 5 ∷ 6 ∷ 2 ∷ 3 ∷ 3 ∷ 1 ∷ 3 ∷ [];
+}
+
+narrower-found : Found
+narrower-found = record {
+  ends = accepted (record { v = 2; u = 1; k = 4; widthV = 3; widthU = 2; passes = 1 });
+  combined = 4 ∷ 1 ∷ 3 ∷ 2 ∷ 2 ∷ 3 ∷ [];
+  report = accepted (record { v = 2; u = 1; k = 4; width = 2; passes = 1; direction = Forward });
+  levels = 4 ∷ 1 ∷ 3 ∷ 2 ∷ 2 ∷ 3 ∷ [];
+  numbers = 6 ∷ 1 ∷ 4 ∷ 2 ∷ 3 ∷ 5 ∷ [];
+  figures = accepted (record { nodes = 6; parts = 1; bandwidth = 2; profile = 6; front = 3; levels = 4; width = 2; passes = 1 });
+  marks = accepted (record { marked = 6; new = 0 });
+  bytes = 63 ∷ 9 ∷ 9 ∷ 9 ∷ [];
+}
+
+-- degree in the whole graph, not in what is left of it
+degrees : Lists
+degrees = record {
+  starts = 0 ∷ 1 ∷ 3 ∷ 8 ∷ 9 ∷ 11 ∷ 12 ∷ [];
+  neighbours = 3 ∷ 3 ∷ 5 ∷ 1 ∷ 2 ∷ 4 ∷ 5 ∷ 6 ∷ 3 ∷ 2 ∷ 3 ∷ 3 ∷ [];
+}
+
+degrees-found : Found
+degrees-found = record {
+  ends = accepted (record { v = 1; u = 2; k = 3; widthV = 4; widthU = 3; passes = 1 });
+  combined = 1 ∷ 3 ∷ 2 ∷ 1 ∷ 2 ∷ 3 ∷ [];
+  report = accepted (record { v = 1; u = 2; k = 3; width = 2; passes = 1; direction = Forward });
+  levels = 1 ∷ 3 ∷ 2 ∷ 1 ∷ 2 ∷ 3 ∷ [];
+  numbers = 1 ∷ 6 ∷ 3 ∷ 2 ∷ 4 ∷ 5 ∷ [];
+  figures = accepted (record { nodes = 6; parts = 1; bandwidth = 3; profile = 8; front = 4; levels = 3; width = 2; passes = 1 });
+  marks = accepted (record { marked = 8; new = 2 });
+  bytes = 255 ∷ 9 ∷ 9 ∷ 9 ∷ [];
+}
+
+-- nodes left in a level: the first in E
+leftover : Lists
+leftover = record {
+  starts = 0 ∷ 5 ∷ 7 ∷ 10 ∷ 13 ∷ 15 ∷ 16 ∷ [];
+  neighbours = 2 ∷ 3 ∷ 4 ∷ 5 ∷ 6 ∷ 1 ∷ 3 ∷ 1 ∷ 2 ∷ 4 ∷ 1 ∷ 3 ∷ 5 ∷ 1 ∷ 4 ∷ 1 ∷ [];
+}
+
+leftover-found : Found
+leftover-found = record {
+  ends = accepted (record { v = 6; u = 2; k = 3; widthV = 4; widthU = 3; passes = 1 });
+  combined = 2 ∷ 3 ∷ 2 ∷ 1 ∷ 1 ∷ 1 ∷ [];
+  report = accepted (record { v = 6; u = 2; k = 3; width = 3; passes = 1; direction = Forward });
+  levels = 2 ∷ 3 ∷ 2 ∷ 1 ∷ 1 ∷ 1 ∷ [];
+  numbers = 4 ∷ 6 ∷ 5 ∷ 3 ∷ 2 ∷ 1 ∷ [];
+  figures = accepted (record { nodes = 6; parts = 1; bandwidth = 3; profile = 8; front = 3; levels = 3; width = 3; passes = 1 });
+  marks = accepted (record { marked = 8; new = 0 });
+  bytes = 255 ∷ 9 ∷ 9 ∷ 9 ∷ [];
+}
+
+-- within a level the lowest-numbered node first
+lowest : Lists
+lowest = record {
+  starts = 0 ∷ 3 ∷ 5 ∷ 8 ∷ 12 ∷ 16 ∷ 19 ∷ 23 ∷ 25 ∷ 28 ∷ [];
+  neighbours = 3 ∷ 6 ∷ 9 ∷ 4 ∷ 7 ∷ 1 ∷ 4 ∷ 8 ∷ 2 ∷ 3 ∷ 5 ∷ 6 ∷ 4 ∷ 6 ∷ 7 ∷ 9 ∷ 1 ∷ 4 ∷ 5 ∷ 2 ∷ 5 ∷ 8 ∷ 9 ∷ 3 ∷ 7 ∷ 1 ∷ 5 ∷ 7 ∷ [];
+}
+
+lowest-found : Found
+lowest-found = record {
+  ends = accepted (record { v = 2; u = 1; k = 4; widthV = 5; widthU = 4; passes = 1 });
+  combined = 4 ∷ 1 ∷ 3 ∷ 2 ∷ 2 ∷ 3 ∷ 2 ∷ 2 ∷ 3 ∷ [];
+  report = accepted (record { v = 2; u = 1; k = 4; width = 4; passes = 1; direction = Reversed });
+  levels = 4 ∷ 1 ∷ 3 ∷ 2 ∷ 2 ∷ 3 ∷ 2 ∷ 2 ∷ 3 ∷ [];
+  numbers = 1 ∷ 9 ∷ 4 ∷ 8 ∷ 6 ∷ 3 ∷ 7 ∷ 5 ∷ 2 ∷ [];
+  figures = accepted (record { nodes = 9; parts = 1; bandwidth = 5; profile = 23; front = 5; levels = 4; width = 4; passes = 1 });
+  marks = accepted (record { marked = 23; new = 9 });
+  bytes = 255 ∷ 255 ∷ 127 ∷ 9 ∷ [];
+}
+
+-- three parts, Forward beside Reversed
+directions : Lists
+directions = record {
+  starts = 0 ∷ 2 ∷ 6 ∷ 8 ∷ 8 ∷ 9 ∷ 10 ∷ 12 ∷ [];
+  neighbours = 2 ∷ 3 ∷ 1 ∷ 3 ∷ 5 ∷ 7 ∷ 1 ∷ 2 ∷ 2 ∷ 7 ∷ 2 ∷ 6 ∷ [];
+}
+
+directions-found : Found
+directions-found = record {
+  ends = accepted (record { v = 5; u = 6; k = 4; widthV = 3; widthU = 3; passes = 1 });
+  combined = 3 ∷ 2 ∷ 3 ∷ 0 ∷ 1 ∷ 4 ∷ 3 ∷ [];
+  report = accepted (record { v = 5; u = 6; k = 4; width = 3; passes = 1; direction = Reversed });
+  levels = 3 ∷ 2 ∷ 3 ∷ 1 ∷ 1 ∷ 4 ∷ 3 ∷ [];
+  numbers = 4 ∷ 5 ∷ 3 ∷ 7 ∷ 6 ∷ 1 ∷ 2 ∷ [];
+  figures = accepted (record { nodes = 7; parts = 2; bandwidth = 3; profile = 6; front = 3; levels = 5; width = 3; passes = 2 });
+  marks = accepted (record { marked = 6; new = 0 });
+  bytes = 63 ∷ 9 ∷ 9 ∷ 9 ∷ [];
+}
+
+-- equal profiles stay Forward; equal widths of u and v go by first numbers
+profiles : Lists
+profiles = record {
+  starts = 0 ∷ 2 ∷ 4 ∷ 4 ∷ 6 ∷ [];
+  neighbours = 2 ∷ 4 ∷ 1 ∷ 4 ∷ 1 ∷ 2 ∷ [];
+}
+
+profiles-found : Found
+profiles-found = record {
+  ends = accepted (record { v = 1; u = 2; k = 2; widthV = 2; widthU = 2; passes = 1 });
+  combined = 1 ∷ 2 ∷ 0 ∷ 2 ∷ [];
+  report = accepted (record { v = 1; u = 2; k = 2; width = 2; passes = 1; direction = Forward });
+  levels = 1 ∷ 2 ∷ 1 ∷ 2 ∷ [];
+  numbers = 1 ∷ 2 ∷ 4 ∷ 3 ∷ [];
+  figures = accepted (record { nodes = 4; parts = 2; bandwidth = 2; profile = 3; front = 3; levels = 3; width = 2; passes = 2 });
+  marks = accepted (record { marked = 3; new = 0 });
+  bytes = 7 ∷ 9 ∷ 9 ∷ 9 ∷ [];
+}
+
+record ExampleTable : Type 0 where
+  is-names : found names ≡ names-found
+  is-deeper : found deeper ≡ deeper-found
+  is-passes : found passes ≡ passes-found
+  is-inE : found inE ≡ inE-found
+  is-equal : found equal ≡ equal-found
+  is-larger : found larger ≡ larger-found
+  is-untouched : found untouched ≡ untouched-found
+  is-narrower : found narrower ≡ narrower-found
+  is-degrees : found degrees ≡ degrees-found
+  is-leftover : found leftover ≡ leftover-found
+  is-lowest : found lowest ≡ lowest-found
+  is-directions : found directions ≡ directions-found
+  is-profiles : found profiles ≡ profiles-found
+  -- an empty start list
+  refusals-1 : refusals [] [] 1 [] 8 ≡ (1 ∷ 1 ∷ 1 ∷ 1 ∷ 1 ∷ 1 ∷ [])
+  -- one start word
+  refusals-2 : refusals (5 ∷ []) [] 1 [] 8 ≡ (1 ∷ 1 ∷ 1 ∷ 1 ∷ 1 ∷ 1 ∷ [])
+  -- starts that fall, and a row that leaves 1..n
+  refusals-3 : refusals (0 ∷ 2 ∷ 1 ∷ 3 ∷ []) (9 ∷ 9 ∷ 9 ∷ []) 1 [] 8 ≡ (2 ∷ 2 ∷ 2 ∷ 2 ∷ 2 ∷ 2 ∷ [])
+  -- 3 before 4: row 1 lacks its partner, and row 3 falls
+  refusals-4 : refusals (0 ∷ 1 ∷ 1 ∷ 3 ∷ []) (2 ∷ 2 ∷ 1 ∷ []) 1 [] 8 ≡ (3 ∷ 3 ∷ 3 ∷ 3 ∷ 3 ∷ 3 ∷ [])
+  -- equal neighbours side by side
+  refusals-5 : refusals (0 ∷ 2 ∷ 4 ∷ []) (2 ∷ 2 ∷ 1 ∷ 1 ∷ []) 1 [] 8 ≡ (3 ∷ 3 ∷ 3 ∷ 3 ∷ 3 ∷ 3 ∷ [])
+  -- 4 before 5: no partner, and nothing lent
+  refusals-6 : refusals (0 ∷ 1 ∷ 1 ∷ []) (2 ∷ []) 1 (1 ∷ 2 ∷ []) 0 ≡ (4 ∷ 4 ∷ 4 ∷ 4 ∷ 4 ∷ 4 ∷ [])
+  -- 5 before 6 and 7: nothing lent, node 0, and a numbering that is none
+  refusals-7 : refusals (0 ∷ 1 ∷ 2 ∷ []) (2 ∷ 1 ∷ []) 0 (1 ∷ 1 ∷ []) 0 ≡ (0 ∷ 5 ∷ 5 ∷ 5 ∷ 5 ∷ 5 ∷ [])
+  -- 6, and a numbering that is too long
+  refusals-8 : refusals (0 ∷ 1 ∷ 2 ∷ []) (2 ∷ 1 ∷ []) 3 (1 ∷ 2 ∷ 1 ∷ []) 8 ≡ (0 ∷ 6 ∷ 6 ∷ 0 ∷ 7 ∷ 7 ∷ [])
+  -- 7 before 8: a numbering that is none, and no mark byte
+  refusals-9 : refusals (0 ∷ 1 ∷ 2 ∷ []) (2 ∷ 1 ∷ []) 1 (0 ∷ 1 ∷ []) 8 ≡ (0 ∷ 0 ∷ 0 ∷ 0 ∷ 7 ∷ 7 ∷ [])
+  -- 8: no mark byte
+  refusals-10 : refusals (0 ∷ 1 ∷ 2 ∷ []) (2 ∷ 1 ∷ []) 1 (2 ∷ 1 ∷ []) 8 ≡ (0 ∷ 0 ∷ 0 ∷ 0 ∷ 0 ∷ 8 ∷ [])
+
+-- the whole table
+example-table : ExampleTable
+unfolding computes found numberOf refusals names names-found deeper deeper-found passes passes-found inE inE-found equal equal-found larger larger-found untouched untouched-found narrower narrower-found degrees degrees-found leftover leftover-found lowest lowest-found directions directions-found profiles profiles-found
+example-table = record {
+  is-names = refl;
+  is-deeper = refl;
+  is-passes = refl;
+  is-inE = refl;
+  is-equal = refl;
+  is-larger = refl;
+  is-untouched = refl;
+  is-narrower = refl;
+  is-degrees = refl;
+  is-leftover = refl;
+  is-lowest = refl;
+  is-directions = refl;
+  is-profiles = refl;
+  refusals-1 = refl;
+  refusals-2 = refl;
+  refusals-3 = refl;
+  refusals-4 = refl;
+  refusals-5 = refl;
+  refusals-6 = refl;
+  refusals-7 = refl;
+  refusals-8 = refl;
+  refusals-9 = refl;
+  refusals-10 = refl;
+}

@@ -1,0 +1,213 @@
+#!/usr/bin/env python3
+"""The second table of crate `spec`: a dozen graphs, one for each slip and each tie rule of document 01, and an order of refusals.
+
+  examples.py            print crates/spec/proofs/Examples.antt; `rt fmt` lays it out
+  examples.py --check    say whether the file stands as this script prints it, layout aside
+
+Every expected value is what tests/reference answers or leaves; nothing is taken from the definitions.
+"""
+
+import os
+import sys
+
+HERE = os.path.dirname(os.path.abspath(__file__))
+TOP = os.path.dirname(os.path.dirname(HERE))
+sys.path[:0] = [os.path.join(TOP, 'tests', 'reference'), HERE]
+
+import calls
+from antt import ELIMINATION_FIGURES, ENDS, FIGURES, PART_REPORT, figures, outcome, words
+from graph import from_edges
+
+# name, what it is for, nodes, edges
+GRAPHS = [
+    ('names', 'a change of names: u has lower degree than v', 7,
+     [(1, 4), (1, 5), (1, 6), (2, 5), (2, 7), (3, 4), (3, 6), (3, 7), (4, 5), (4, 6), (5, 6)]),
+    ('deeper', 'a change of names after two passes: the first s deeper than v, not the last', 8,
+     [(1, 3), (1, 4), (1, 7), (2, 4), (2, 5), (2, 6), (5, 6), (7, 8)]),
+    ('passes', 'three passes', 9,
+     [(1, 4), (1, 9), (2, 5), (2, 9), (3, 4), (3, 5), (6, 7), (6, 8), (7, 8), (8, 9)]),
+    ('inE', 'S is taken in E, not by number', 7, [(1, 6), (1, 7), (2, 3), (2, 4), (3, 4), (3, 6), (5, 6)]),
+    ('equal', 'several pieces of equal size: the lowest number first, each against the counts as they then are', 6,
+     [(1, 2), (1, 4), (1, 5), (1, 6), (2, 3)]),
+    ('larger', 'larger pieces first; a second part', 8,
+     [(1, 2), (1, 6), (2, 3), (2, 5), (2, 6), (2, 7), (2, 8), (5, 6), (5, 8)]),
+    ('untouched', 'h over the levels that the piece touches', 7,
+     [(1, 2), (1, 3), (1, 4), (1, 5), (1, 6), (1, 7), (2, 4), (4, 7), (5, 6), (5, 7)]),
+    ('narrower', 'h and l equal, and u narrower than v: by second numbers', 6,
+     [(1, 3), (1, 6), (2, 4), (3, 4), (3, 5), (3, 6)]),
+    ('degrees', 'degree in the whole graph, not in what is left of it', 6,
+     [(1, 3), (2, 3), (2, 5), (3, 4), (3, 5), (3, 6)]),
+    ('leftover', 'nodes left in a level: the first in E', 6,
+     [(1, 2), (1, 3), (1, 4), (1, 5), (1, 6), (2, 3), (3, 4), (4, 5)]),
+    ('lowest', 'within a level the lowest-numbered node first', 9,
+     [(1, 3), (1, 6), (1, 9), (2, 4), (2, 7), (3, 4), (3, 8), (4, 5), (4, 6), (5, 6), (5, 7), (5, 9), (7, 8), (7, 9)]),
+    ('directions', 'three parts, Forward beside Reversed', 7, [(1, 2), (1, 3), (2, 3), (2, 5), (2, 7), (6, 7)]),
+    ('profiles', 'equal profiles stay Forward; equal widths of u and v go by first numbers', 4, [(1, 2), (1, 4), (2, 4)]),
+]
+
+# what it shows, starts, neighbours, given node, given numbering, words lent for each node
+REFUSALS = [
+    ('an empty start list', [], [], 1, [], 8),
+    ('one start word', [5], [], 1, [], 8),
+    ('starts that fall, and a row that leaves 1..n', [0, 2, 1, 3], [9, 9, 9], 1, [], 8),
+    ('3 before 4: row 1 lacks its partner, and row 3 falls', [0, 1, 1, 3], [2, 2, 1], 1, [], 8),
+    ('equal neighbours side by side', [0, 2, 4], [2, 2, 1, 1], 1, [], 8),
+    ('4 before 5: no partner, and nothing lent', [0, 1, 1], [2], 1, [1, 2], 0),
+    ('5 before 6 and 7: nothing lent, node 0, and a numbering that is none', [0, 1, 2], [2, 1], 0, [1, 1], 0),
+    ('6, and a numbering that is too long', [0, 1, 2], [2, 1], 3, [1, 2, 1], 8),
+    ('7 before 8: a numbering that is none, and no mark byte', [0, 1, 2], [2, 1], 1, [0, 1], 8),
+    ('8: no mark byte', [0, 1, 2], [2, 1], 1, [2, 1], 8),
+]
+
+HEAD = '''-- A second table by computation: graphs chosen so that each slip of document 01 and each tie rule shows, and the order of the refusals.
+-- Made by tests/definitions/examples.py: every expected value is the independent program's, tests/reference. Assumes nothing.
+use Prim.Native.Nat.{ℕ, _*_}
+use mathlib.Core.Path.{_≡_, refl}
+use mathlib.Core.List.{List, [], _∷_}
+use lib.ListN.{replicate}
+use Rattle.spec.specs.Graph.{sizeOf}
+use Rattle.spec.specs.Ends.{Ends}
+use Rattle.spec.specs.Numbering.{Forward, Reversed, PartReport, Figures}
+use Rattle.spec.specs.Lent.{Outcome, refused, accepted}
+use Rattle.spec.specs.CallsLevels.{adjacencyAnswer, rootedAnswer, endsAnswer}
+use Rattle.spec.specs.CallsNumbering.{runAnswer, measuresAnswer}
+use Rattle.spec.specs.CallsStore.{EliminationFigures, eliminationAnswer}
+use Rattle.spec.proofs.Compute.{computes}
+use Rattle.spec.proofs.Called.{Lists, numbersFor, levelsFor, figuresFor, endsFor, combinedFor, reportFor, eliminationFor, bytesFor}
+
+-- what the calls say of a graph and of the part of node 1; the elimination is handed the run's numbers and four bytes
+record Found : Type 0 where
+  ends : Outcome Ends
+  combined : List ℕ
+  report : Outcome PartReport
+  levels : List ℕ
+  numbers : List ℕ
+  figures : Outcome Figures
+  marks : Outcome EliminationFigures
+  bytes : List ℕ
+
+found : Lists → Found
+found l = record {
+  ends = endsFor l 1;
+  combined = combinedFor l 1;
+  report = reportFor l 1;
+  levels = levelsFor l;
+  numbers = numbersFor l;
+  figures = figuresFor l;
+  marks = eliminationFor l (numbersFor l) 4;
+  bytes = bytesFor l (numbersFor l) 4;
+}
+'''
+
+
+def buffer(count):
+    return [9] * count
+
+
+def found(n, edges):
+    """The fields of Found, as the reference has them."""
+    starts, neighbours = from_edges(n, edges)
+    combined, numbers, levels, marks = buffer(n), buffer(n), buffer(n), buffer(4)
+    ends = calls.ends(starts, neighbours, 1, buffer(8 * n))
+    calls.combined_levels(starts, neighbours, 1, combined, buffer(8 * n))
+    report = calls.part_report(starts, neighbours, 1, buffer(8 * n))
+    run = calls.whole_run(starts, neighbours, numbers, levels, buffer(8 * n))
+    elimination = calls.elimination(starts, neighbours, numbers, buffer(n), marks)
+    return [('ends', outcome(ends, figures(ENDS))), ('combined', words(combined)),
+            ('report', outcome(report, figures(PART_REPORT))), ('levels', words(levels)),
+            ('numbers', words(numbers)), ('figures', outcome(run, figures(FIGURES))),
+            ('marks', outcome(elimination, figures(ELIMINATION_FIGURES))), ('bytes', words(marks))]
+
+
+def refusals(starts, neighbours, node, numbering, per_node):
+    """What the calls refuse these by, or a 0 for each that accepts."""
+    n = max(0, len(starts) - 1)
+    lent = lambda: buffer(per_node * n)
+    answers = [calls.adjacency_test(starts, neighbours),
+               calls.rooted_levels(starts, neighbours, node, lent()),
+               calls.ends(starts, neighbours, node, lent()),
+               calls.whole_run(starts, neighbours, lent(), lent(), lent()),
+               calls.measures(starts, neighbours, numbering, lent()),
+               calls.elimination(starts, neighbours, numbering, lent(), [])]
+    return [value if state == 'refused' else 0 for state, value in answers]
+
+
+def bare(term):
+    """A list without the brackets that it has as an argument."""
+    return term[1:-1] if term.startswith('(') else term
+
+
+def listed(name, kind, fields):
+    """A definition of a record, a field to a line."""
+    return '%s : %s\n%s = record {\n%s\n}\n' % (
+        name, kind, name, '\n'.join('  %s = %s;' % (field, bare(term)) for field, term in fields))
+
+
+def graph_rows():
+    """The lists of each graph and what is found of it, its field of the table, and its proof."""
+    lists, fields, proofs = [], [], []
+    for name, why, n, edges in GRAPHS:
+        starts, neighbours = from_edges(n, edges)
+        lists.append('-- %s\n' % why
+                     + listed(name, 'Lists', [('starts', words(starts)), ('neighbours', words(neighbours))]))
+        lists.append(listed(name + '-found', 'Found', found(n, edges)))
+        fields.append('  is-%s : found %s ≡ %s-found' % (name, name, name))
+        proofs.append('  is-%s = refl;' % name)
+    return lists, fields, proofs
+
+
+def refusal_rows():
+    """A field for each refused input, and its proof."""
+    fields, proofs = [], []
+    for number, (why, *given) in enumerate(REFUSALS):
+        starts, neighbours, node, numbering, per_node = given
+        fields.append('  -- %s\n  refusals-%d : refusals %s %s %d %s %d ≡ %s' % (
+            why, number + 1, words(starts), words(neighbours), node, words(numbering),
+            per_node, words(refusals(*given))))
+        proofs.append('  refusals-%d = refl;' % (number + 1))
+    return fields, proofs
+
+
+REFUSED = '''-- a refusal's number, 0 for an accepted call
+numberOf : {A : Type 0} → Outcome A → ℕ
+numberOf (refused c) = c
+numberOf (accepted a) = 0
+
+-- what the adjacency test, rooted levels, ends, run, measures and elimination refuse by, with so many words lent for each node and no mark byte
+refusals : List ℕ → List ℕ → ℕ → List ℕ → ℕ → List ℕ
+refusals S N node x k =
+    let w : List ℕ = replicate (k * sizeOf S) 9 in
+    numberOf (adjacencyAnswer S N)
+    ∷ numberOf (rootedAnswer S N node w)
+    ∷ numberOf (endsAnswer S N node w)
+    ∷ numberOf (runAnswer S N w w w)
+    ∷ numberOf (measuresAnswer S N x w)
+    ∷ numberOf (eliminationAnswer S N x w [])
+    ∷ []
+'''
+
+
+def text():
+    lists, fields, proofs = graph_rows()
+    more, refused = refusal_rows()
+    names = ' '.join('%s %s-found' % (name, name) for name, *_ in GRAPHS)
+    return '\n'.join([
+        HEAD,
+        REFUSED, *lists, 'record ExampleTable : Type 0 where', *fields, *more,
+        '\n-- the whole table\nexample-table : ExampleTable',
+        'unfolding computes found numberOf refusals ' + names,
+        'example-table = record {', *proofs, *refused, '}', ''])
+
+
+def main():
+    if sys.argv[1:] != ['--check']:
+        print(text(), end='')
+        return 0
+    with open(os.path.join(TOP, 'crates', 'spec', 'proofs', 'Examples.antt'), encoding='utf-8') as f:
+        same = f.read().split() == text().split()
+    print('Examples.antt: %s' % ('as tests/reference has it' if same else 'NOT as tests/reference has it'))
+    return 0 if same else 1
+
+
+if __name__ == '__main__':
+    sys.exit(main())

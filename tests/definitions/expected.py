@@ -1,0 +1,74 @@
+"""What the definitions must say of an input: each call of crate `spec`, and what the reference answers and leaves."""
+
+import calls
+from antt import (COMBINED_FIGURES, ELIMINATION_FIGURES, ENDS, FIGURES, LEVEL_FIGURES, MEASURE_FIGURES,
+                  PART_REPORT, figures, nothing, one_number, outcome, record, words)
+
+
+def called(call, given, lent):
+    """The answer of a call of the reference, and its lent buffers afterwards."""
+    lent = [list(buffer) for buffer in lent]
+    return call(*given, *lent), lent
+
+
+def terms(*values):
+    return ' '.join(str(v) if isinstance(v, int) else words(v) for v in values)
+
+
+def of_call(call, given, lent, answer_name, value, after_names):
+    """Equations for one call: its answer, then each lent buffer that has a name."""
+    arguments = terms(*given, *lent)
+    answer, after = called(call, given, lent)
+    rows = [('%s %s' % (answer_name, arguments), outcome(answer, value))]
+    rows += [('%s %s' % (name, arguments), words(buffer))
+             for name, buffer in zip(after_names, after) if name]
+    return rows
+
+
+def run_elimination(values):
+    """The run's figures, and what the elimination answers."""
+    run, elimination = values
+    return record(('figures', 'elimination'),
+                  (record(FIGURES, run), '(%s)' % outcome(elimination, figures(ELIMINATION_FIGURES))))
+
+
+def of_graph(i):
+    """Equations for every call on an adjacency."""
+    lists = (i.starts, i.neighbours)
+    run = (i.numbers, i.levels, i.scratch)
+    return (
+        of_call(calls.adjacency_test, lists, (), 'adjacencyAnswer', nothing, ())
+        + of_call(calls.rooted_levels, lists + (i.node,), (i.levels,),
+                  'rootedAnswer', figures(LEVEL_FIGURES), ('rootedLevels',))
+        + of_call(calls.ends, lists + (i.node,), (i.scratch,), 'endsAnswer', figures(ENDS), ('endsScratch',))
+        + of_call(calls.combined_levels, lists + (i.node,), (i.levels, i.scratch),
+                  'combinedAnswer', figures(COMBINED_FIGURES), ('combinedLevels', 'combinedScratch'))
+        + of_call(calls.part_report, lists + (i.node,), (i.scratch,),
+                  'reportAnswer', figures(PART_REPORT), ('reportScratch',))
+        + of_call(calls.whole_run, lists, run,
+                  'runAnswer', figures(FIGURES), ('runNumbers', 'runLevels', 'runScratch'))
+        + of_call(calls.measures, lists + (i.numbering,), (i.words,),
+                  'measuresAnswer', figures(MEASURE_FIGURES), ('measuresScratch',))
+        + of_call(calls.elimination, lists + (i.numbering,), (i.words, i.bytes),
+                  'eliminationAnswer', figures(ELIMINATION_FIGURES), ('eliminationScratch', 'eliminationBytes'))
+        + of_call(calls.run_and_eliminate, lists, run + (i.bytes,),
+                  'runEliminateAnswer', run_elimination, (None, None, None, 'runEliminateBytes')))
+
+
+def of_mesh(i):
+    """Equations for the mesh call."""
+    return of_call(calls.mesh, (i.n, i.elements), (i.starts, i.neighbours, i.scratch),
+                   'meshAnswer', one_number, ('meshStarts', 'meshNeighbours', 'meshScratch'))
+
+
+BUFFERS = ('words', 'starts', 'neighbours', 'scratch', 'numbers', 'levels', 'output')
+AFTER = ('listingWords', 'listingStarts', 'listingNeighbours', 'listingScratch', 'listingNumbers',
+         'listingLevels', 'listingOutput')
+
+
+def of_file(i):
+    """Equations for the listing of a file."""
+    arguments = '%s %s' % (words(i.file), record(BUFFERS, [words(b) for b in i.lent]))
+    answer, after = called(calls.listing, (i.file,), i.lent)
+    return ([('listingAnswer %s' % arguments, outcome(answer, one_number))]
+            + [('%s %s' % (name, arguments), words(buffer)) for name, buffer in zip(AFTER, after)])

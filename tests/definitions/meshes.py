@@ -1,0 +1,68 @@
+"""Inputs of the mesh call and of the listing: elements and files, valid and damaged."""
+
+from collections import namedtuple
+
+from graphs import lent
+from listing import MOST_FILE_WORDS, most_output_bytes
+from graph import MOST_ENTRIES
+from mesh import NODE_COUNT
+
+MeshInput = namedtuple('MeshInput', 'n elements starts neighbours scratch')
+FileInput = namedtuple('FileInput', 'file lent')
+
+
+def elements(rng, n, count):
+    """Words of some elements; now and then a wrong kind, a wrong or repeated node."""
+    out = []
+    for _ in range(count):
+        kinds = [k for k in NODE_COUNT if NODE_COUNT[k] <= n] or [1]
+        kind = rng.choice(kinds) if rng.random() < 0.95 else rng.choice([0, 11, 65535])
+        nodes = rng.sample(range(1, n + 1), min(n, NODE_COUNT.get(kind, 2)))
+        if rng.random() < 0.1:
+            nodes = [rng.choice([0, n + 1, nodes[0]])] + nodes[1:]
+        out += [kind] + nodes
+    return out if rng.random() < 0.9 else out[:-1]
+
+
+def of_bytes(values):
+    """Words, low byte first."""
+    return [byte for value in values for byte in (value % 256, value // 256)]
+
+
+def mesh_inputs(rng, count):
+    inputs = []
+    for _ in range(count):
+        n = rng.choice([0, 4097] + [rng.randint(1, 9)] * 8)
+        if n in (0, 4097):
+            inputs.append(MeshInput(n, [1, 1, 2], [9] * 3, [9] * 3, [9] * 3))
+        else:
+            inputs.append(MeshInput(n, elements(rng, n, rng.randint(0, 4)), lent(rng, n + 1),
+                                    lent(rng, MOST_ENTRIES), lent(rng, n)))
+    return inputs
+
+
+def file_bytes(rng, n):
+    """A file of n nodes; now and then damaged in one place."""
+    count = rng.randint(0, 4)
+    words = [1, n, count] + elements(rng, max(1, n), count)
+    file = list(b'GRD') + of_bytes(words)
+    way = rng.random()
+    if way < 0.1:
+        file[rng.randrange(len(file))] = rng.randint(0, 255)
+    elif way < 0.2:
+        file = file[:rng.randrange(len(file))]
+    elif way < 0.25:
+        file = file + [0] * rng.randint(1, 2)
+    return file
+
+
+def file_inputs(rng, count):
+    inputs = []
+    for _ in range(count):
+        n = rng.choice([0, 4097] + [rng.randint(1, 7)] * 8)
+        needs = (MOST_FILE_WORDS, n + 1, MOST_ENTRIES, 8 * n, n, n, most_output_bytes(n))
+        if n == 4097:
+            needs = (0, 0, 0, 0, 0, 0, rng.randint(9, 12))
+        buffers = [lent(rng, need) if rng.random() < 0.3 else [9] * need for need in needs]
+        inputs.append(FileInput(file_bytes(rng, n), buffers))
+    return inputs

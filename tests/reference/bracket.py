@@ -1,0 +1,265 @@
+"""Document 01's bracket table, every row, its sample output, and demand 3 on random graphs."""
+
+import os
+import random
+import subprocess
+import sys
+
+import calls
+from checking import Checks
+from graph import parts_of, rows_of
+from numbering import forward_order, part_profile
+from program import text_for
+
+FIGURES = ('nodes', 'parts', 'bandwidth', 'profile', 'front', 'levels', 'width', 'passes')
+SAMPLE_EDGES = [(1, 2), (1, 4), (2, 3), (3, 5)]
+SAMPLE_OUTPUT = (b'nodes 5 parts 1 bandwidth 1 profile 4 front 2 levels 5 width 1 passes 1\n'
+                 b'1 2 2\n2 3 3\n3 4 4\n4 1 1\n5 5 5\n')
+
+
+def run(starts, neighbours):
+    """The whole run as a dictionary: its figures by name, its numbers and its level list."""
+    n = len(starts) - 1
+    numbers, levels = [0] * n, [0] * n
+    state, value = calls.whole_run(starts, neighbours, numbers, levels, [0] * (8 * n))
+    if state == 'refused':
+        raise AssertionError('the run refused %d' % value)
+    return dict(zip(FIGURES, value), numbers=numbers, by_node=levels)
+
+
+def report(starts, neighbours, node):
+    n = len(starts) - 1
+    return calls.part_report(starts, neighbours, node, [0] * (8 * n))[1]
+
+
+# The starred rows.
+
+def one_node(checks):
+    got = run(*calls.from_edges(1, []))
+    checks.equal('one node: numbers', got['numbers'], [1])
+    checks.equal('one node: bandwidth', got['bandwidth'], 0)
+    checks.equal('one node: profile', got['profile'], 0)
+    checks.equal('one node: front', got['front'], 1)
+
+
+def two_isolated_nodes(checks):
+    got = run(*calls.from_edges(2, []))
+    checks.equal('two isolated: numbers', got['numbers'], [1, 2])
+    checks.equal('two isolated: parts', got['parts'], 2)
+    checks.equal('two isolated: passes', got['passes'], 2)
+
+
+def triangle(checks):
+    got = run(*calls.from_edges(3, [(1, 2), (2, 3), (1, 3)]))
+    checks.equal('triangle: levels', got['by_node'], [1, 2, 2])
+    checks.equal('triangle: numbers', got['numbers'], [1, 2, 3])
+    checks.equal('triangle: bandwidth', got['bandwidth'], 2)
+    checks.equal('triangle: profile', got['profile'], 3)
+    checks.equal('triangle: front', got['front'], 3)
+
+
+def star(checks):
+    graph = calls.from_edges(4, [(1, 2), (1, 3), (1, 4)])
+    got = run(*graph)
+    v, u, k, width, passes, direction = report(*graph, 1)
+    checks.equal('star: levels', got['by_node'], [2, 1, 3, 3])
+    checks.equal('star: numbers', got['numbers'], [3, 4, 2, 1])
+    checks.equal('star: direction', direction, 'Reversed')
+    rows = rows_of(*graph)
+    level_of = {p: got['by_node'][p - 1] for p in rows}
+    checks.equal('star: profile forward', part_profile(rows, forward_order(rows, v, k, level_of)), 4)
+    checks.equal('star: profile', got['profile'], 3)
+    checks.equal('star: bandwidth', got['bandwidth'], 2)
+    checks.equal('star: front', got['front'], 2)
+
+
+def ring(checks):
+    graph = calls.from_edges(4, [(1, 2), (2, 3), (3, 4), (4, 1)])
+    got = run(*graph)
+    checks.equal('ring: levels', got['by_node'], [1, 2, 3, 2])
+    checks.equal('ring: numbers', got['numbers'], [1, 2, 4, 3])
+    checks.equal('ring: bandwidth', got['bandwidth'], 2)
+    checks.equal('ring: profile', got['profile'], 5)
+    checks.equal('ring: marks and new',
+                 calls.elimination(*graph, got['numbers'], [0] * 4, [0]), ('accepted', (5, 1)))
+
+
+def sample_measures(checks):
+    graph = calls.from_edges(5, SAMPLE_EDGES)
+    numbering = [1, 2, 3, 4, 5]
+    checks.equal('sample graph: measures',
+                 calls.measures(*graph, numbering, [0] * 5), ('accepted', (3, 7, 3)))
+    checks.equal('sample graph: fronts', calls.fronts_of(*graph, numbering), [3, 3, 3, 2, 1])
+
+
+def refused_rows(checks):
+    two = calls.from_edges(2, [])
+    checks.equal('numbering 1, 1: measures', calls.measures(*two, [1, 1], [0, 0]), ('refused', 7))
+    checks.equal('numbering 1, 1: elimination',
+                 calls.elimination(*two, [1, 1], [0, 0], []), ('refused', 7))
+    checks.equal('rows {2}, {}', calls.adjacency_test([0, 1, 1], [2]), ('refused', 4))
+    checks.equal('rows {2}, {}: whole run',
+                 calls.whole_run([0, 1, 1], [2], [0] * 2, [0] * 2, [0] * 16), ('refused', 4))
+    checks.equal('root 0', calls.rooted_levels(*two, 0, [0, 0]), ('refused', 6))
+
+
+# The row without a star.
+
+def path_edges(n):
+    return [(p, p + 1) for p in range(1, n)]
+
+
+def nodes_at_the_limit(checks):
+    got = run(*calls.from_edges(4096, path_edges(4096)))
+    checks.equal('4,096 nodes: path', (got['bandwidth'], got['profile'], got['front']), (1, 4095, 2))
+    checks.equal('4,096 nodes: isolated', run(*calls.from_edges(4096, []))['parts'], 4096)
+    lent = [0] * 4096
+    checks.equal('4,097 nodes: whole run',
+                 calls.whole_run(*calls.from_edges(4097, []), lent, lent, lent), ('refused', 1))
+    checks.equal('4,096 nodes: mesh',
+                 calls.mesh(4096, [], [0] * 4097, [0] * 32768, [0] * 4096), ('accepted', (0,)))
+    checks.equal('4,097 nodes: mesh',
+                 calls.mesh(4097, [], [0] * 4098, [0] * 32768, [0] * 4097), ('refused', 1))
+
+
+def element_words(count_of_bars):
+    """364 tetrahedra of 10 nodes make 32,760 entries; each bar adds 2 on nodes of its own."""
+    words = []
+    for t in range(364):
+        words += [10] + list(range(10 * t + 1, 10 * t + 11))
+    for t in range(count_of_bars):
+        words += [1, 3641 + 2 * t, 3642 + 2 * t]
+    return words
+
+
+def entries_at_the_limit(checks):
+    starts, neighbours, scratch = [0] * 3651, [0] * 32768, [0] * 3650
+    checks.equal('32,768 entries: mesh',
+                 calls.mesh(3650, element_words(4), starts, neighbours, scratch), ('accepted', (32768,)))
+    checks.equal('32,768 entries: whole run', run(starts, neighbours)['parts'], 370)
+    checks.equal('32,770 entries: mesh',
+                 calls.mesh(3650, element_words(5), starts, neighbours, scratch), ('refused', 11))
+    checks.equal('32,770 entries: program', text_for(grd_file(3650, 369, element_words(5))),
+                 b'refused 11\n')
+
+
+# The program.
+
+def grd_file(n, count, words):
+    file = b'GRD'
+    for word in [1, n, count] + words:
+        file += bytes([word % 256, word // 256])
+    return file
+
+
+def program_output(file):
+    """What the program really writes to standard output."""
+    program = os.path.join(os.path.dirname(os.path.abspath(__file__)), 'program.py')
+    done = subprocess.run([sys.executable, '-B', program], input=file, stdout=subprocess.PIPE)
+    return done.stdout
+
+
+def sample_output(checks):
+    words = []
+    for p, q in SAMPLE_EDGES:
+        words += [1, p, q]
+    checks.equal('program: sample', program_output(grd_file(5, 4, words)), SAMPLE_OUTPUT)
+    checks.equal('program: unknown kind', program_output(grd_file(5, 1, [11])), b'refused 9\n')
+
+
+# Demand 3 on random graphs.
+
+def random_tree(rng, n):
+    return [(rng.randint(max(1, p - 6), p - 1), p) for p in range(2, n + 1)]
+
+
+def random_edges(rng, n):
+    """A tree with some nodes cut off and some short edges, under mixed old numbers."""
+    edges = [edge for edge in random_tree(rng, n) if rng.random() < rng.choice([0.8, 0.97, 1])]
+    for _ in range(rng.choice([0, n // 6, n // 2, n])):
+        p = rng.randint(1, n)
+        q = min(n, p + rng.randint(1, 8))
+        if p != q:
+            edges.append((p, q))
+    names = list(range(1, n + 1))
+    rng.shuffle(names)
+    return [(names[p - 1], names[q - 1]) for p, q in edges]
+
+
+def levels_claims(checks, graph, got):
+    """Occupied levels, edges between neighbouring levels, passes; gives the part reports."""
+    rows = rows_of(*graph)
+    reports = []
+    for part in parts_of(rows):
+        done = report(*graph, part[0])
+        k, passes = done[2], done[4]
+        checks.equal('every level holds a node, every node stands in a level',
+                     {got['by_node'][p - 1] for p in part}, set(range(1, k + 1)))
+        checks.holds('passes of a part are at most k', 1 <= passes <= k)
+        reports.append(done)
+    checks.holds('edges join equal or neighbouring levels',
+                 all(abs(got['by_node'][p - 1] - got['by_node'][q - 1]) <= 1
+                     for p in rows for q in rows[p]))
+    return reports
+
+
+def figures_claims(checks, graph, got, reports):
+    n = len(graph[0]) - 1
+    checks.equal('numbers are 1 to n', sorted(got['numbers']), list(range(1, n + 1)))
+    checks.holds('bandwidth at most 2w - 1', got['bandwidth'] <= 2 * got['width'] - 1)
+    checks.holds('front at most bandwidth + 1', got['front'] <= got['bandwidth'] + 1)
+    checks.equal('measures of the numbers', calls.measures(*graph, got['numbers'], [0] * n)[1],
+                 (got['bandwidth'], got['profile'], got['front']))
+    checks.equal('levels, width and passes of the parts',
+                 (got['levels'], got['width'], got['passes']),
+                 (sum(r[2] for r in reports), max(r[3] for r in reports), sum(r[4] for r in reports)))
+
+
+def store_claims(checks, graph, numbers, profile):
+    """Every pair joined at any time has a place; places are distinct and below the profile."""
+    n = len(graph[0]) - 1
+    place_of = calls.places_of(*graph, numbers)
+    checks.equal('places are 0 to profile - 1', sorted(place_of.values()), list(range(profile)))
+    for i in range(n + 1):
+        joined = calls.joined_after(*graph, numbers, i)
+        checks.holds('every pair joined after %d eliminations has a place' % i,
+                     all(pair in place_of for pair in joined))
+    mark_bytes = [0] * ((profile + 7) // 8)
+    state, value = calls.elimination(*graph, numbers, [0] * n, mark_bytes)
+    checks.equal('elimination accepts', state, 'accepted')
+    ones = {t for t in range(8 * len(mark_bytes)) if mark_bytes[t // 8] >> t % 8 & 1}
+    checks.equal('marks stand at the pairs joined at the end', ones, {place_of[pair] for pair in joined})
+    edges = len(graph[1]) // 2
+    checks.equal('counts of marks and new pairs', value, (len(joined), len(joined) - edges))
+
+
+def demand_3(checks):
+    rng = random.Random(1976)
+    names_changed = three_passes = both_directions = 0
+    for t in range(220):
+        n = rng.randint(1, 60)
+        graph = calls.from_edges(n, random_edges(rng, n))
+        got = run(*graph)
+        reports = levels_claims(checks, graph, got)
+        figures_claims(checks, graph, got, reports)
+        if t % 4 == 0:
+            store_claims(checks, graph, got['numbers'], got['profile'])
+        names_changed += sum(calls.ends(*graph, r[0], [0] * (8 * n))[1][0] != r[0] for r in reports)
+        three_passes += sum(r[4] >= 3 for r in reports)
+        both_directions += {r[5] for r in reports} == {'Forward', 'Reversed'}
+    # Small graphs never show these, so see that the random ones do.
+    checks.holds('some part changes names', names_changed)
+    checks.holds('some part takes three passes', three_passes)
+    checks.holds('some run has both directions', both_directions)
+
+
+def main():
+    checks = Checks('bracket table')
+    for row in (one_node, two_isolated_nodes, triangle, star, ring, sample_measures, refused_rows,
+                nodes_at_the_limit, entries_at_the_limit, sample_output, demand_3):
+        row(checks)
+    return checks.report()
+
+
+if __name__ == '__main__':
+    sys.exit(main())

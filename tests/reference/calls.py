@@ -1,0 +1,283 @@
+"""The entry points with their lent buffers and refusals; document 01's 'Lent buffers' and table.
+
+Every call answers ('accepted', tuple) or ('refused', number).
+"""
+
+# from_edges, small_graphs and rows_of stand here for the scripts that import calls.
+import store
+from combined import combined_levels as combined_of_part
+from ends import ends_of_part
+from graph import (MOST_ENTRIES, adjacency_refusal, from_edges, lists_of, part_of,
+                   rows_of, small_graphs, wrong_node_count)
+from levels import by_old_number, depth, width
+from levels import rooted_levels as levels_from
+from listing import (MOST_FILE_WORDS, element_refusal, header_refusal, most_output_bytes,
+                     nodes_of_file, output_text, refusal_line, words_after_header)
+from measures import adjoining, bandwidth, front, fronts, is_numbering, number_of_nodes, profile
+from mesh import mesh_rows, read_elements, too_many_entries
+from numbering import number_part
+from numbering import whole_run as run_of_graph
+
+
+# Answers and buffers.
+
+def refused(number):
+    return ('refused', number)
+
+
+def accepted(*value):
+    return ('accepted', value)
+
+
+def put(buffer, values):
+    """Write at the front of a lent buffer."""
+    # "Longer buffers keep their excess untouched."
+    for t in range(len(values)):
+        buffer[t] = values[t]
+
+
+def zero(scratch, count):
+    # "Scratch ends as zeros when accepted."
+    put(scratch, [0] * count)
+
+
+def is_short(*lent):
+    # 5: "a lent buffer, mark bytes excepted, is short"
+    return any(len(buffer) < need for buffer, need in lent)
+
+
+def is_wrong_node(node, n):
+    # 6: "a given node is 0 or above n"
+    return node == 0 or node > n
+
+
+# Levels.
+
+def adjacency_test(starts, neighbours):
+    number = adjacency_refusal(starts, neighbours)
+    return refused(number) if number else accepted()
+
+
+def rooted_levels(starts, neighbours, root, levels):
+    """(depth, width, reached)"""
+    number = adjacency_refusal(starts, neighbours)
+    if number:
+        return refused(number)
+    n = len(starts) - 1
+    if is_short((levels, n)):
+        return refused(5)
+    if is_wrong_node(root, n):
+        return refused(6)
+    level_of = levels_from(rows_of(starts, neighbours), root)
+    put(levels, by_old_number(level_of, n))
+    # "Depth, width and the count reached are returned."
+    return accepted(depth(level_of), width(level_of), len(level_of))
+
+
+def ends(starts, neighbours, node, scratch):
+    """(v, u, k, width_v, width_u, passes)"""
+    number = adjacency_refusal(starts, neighbours)
+    if number:
+        return refused(number)
+    n = len(starts) - 1
+    if is_short((scratch, 8 * n)):
+        return refused(5)
+    if is_wrong_node(node, n):
+        return refused(6)
+    rows = rows_of(starts, neighbours)
+    found = ends_of_part(rows, part_of(rows, node))
+    zero(scratch, 8 * n)
+    # "The call returns v, u, k, both widths and the passes."
+    return accepted(*found)
+
+
+def combined_levels(starts, neighbours, node, levels, scratch):
+    """(k, width); levels as they stand before any change of names."""
+    number = adjacency_refusal(starts, neighbours)
+    if number:
+        return refused(number)
+    n = len(starts) - 1
+    if is_short((levels, n), (scratch, 8 * n)):
+        return refused(5)
+    if is_wrong_node(node, n):
+        return refused(6)
+    rows = rows_of(starts, neighbours)
+    part = part_of(rows, node)
+    found = ends_of_part(rows, part)
+    level_of = combined_of_part(rows, part, found)
+    # "levels n for the second, where other parts get 0"
+    put(levels, by_old_number(level_of, n))
+    zero(scratch, 8 * n)
+    # "The call returns k and the greatest level count."
+    return accepted(found.k, width(level_of))
+
+
+# Numbering.
+
+def part_report(starts, neighbours, node, scratch):
+    """(v, u, k, width, passes, direction)"""
+    number = adjacency_refusal(starts, neighbours)
+    if number:
+        return refused(number)
+    n = len(starts) - 1
+    if is_short((scratch, 8 * n)):
+        return refused(5)
+    if is_wrong_node(node, n):
+        return refused(6)
+    rows = rows_of(starts, neighbours)
+    done = number_part(rows, part_of(rows, node))
+    zero(scratch, 8 * n)
+    # "The part report gives v and u as now named, k, the combined levels'
+    # width, passes and a direction, which is Forward or Reversed."
+    return accepted(done.v, done.u, done.k, done.width, done.passes, done.direction)
+
+
+def whole_run(starts, neighbours, numbers, levels, scratch):
+    """(nodes, parts, bandwidth, profile, front, levels, width, passes)"""
+    number = adjacency_refusal(starts, neighbours)
+    if number:
+        return refused(number)
+    n = len(starts) - 1
+    if is_short((numbers, n), (levels, n), (scratch, 8 * n)):
+        return refused(5)
+    run = run_of_graph(rows_of(starts, neighbours))
+    # "Numbers and levels run by old number"
+    put(numbers, [run.number_of[p] for p in range(1, n + 1)])
+    put(levels, by_old_number(run.level_of, n))
+    zero(scratch, 8 * n)
+    return accepted(*run.figures)
+
+
+# Measures, store.
+
+def measures(starts, neighbours, numbering, scratch):
+    """(bandwidth, profile, front)"""
+    number = adjacency_refusal(starts, neighbours)
+    if number:
+        return refused(number)
+    n = len(starts) - 1
+    if is_short((scratch, n)):
+        return refused(5)
+    # The n scratch words are 0 for refusal 7 as well as when accepted.
+    zero(scratch, n)
+    if not is_numbering(n, numbering):
+        return refused(7)
+    adjoins = adjoining_of(starts, neighbours, numbering)
+    return accepted(bandwidth(adjoins), profile(adjoins), front(adjoins))
+
+
+def elimination(starts, neighbours, numbering, scratch, mark_bytes):
+    """(marks, new)"""
+    number = adjacency_refusal(starts, neighbours)
+    if number:
+        return refused(number)
+    n = len(starts) - 1
+    if is_short((scratch, n)):
+        return refused(5)
+    # The n scratch words are 0 for refusals 7 and 8 as well as when accepted.
+    zero(scratch, n)
+    if not is_numbering(n, numbering):
+        return refused(7)
+    adjoins = adjoining_of(starts, neighbours, numbering)
+    # 8: "mark bytes are short"
+    if len(mark_bytes) < store.byte_count(profile(adjoins)):
+        return refused(8)
+    marked, marks, new = store.elimination(adjoins)
+    put(mark_bytes, marked)
+    return accepted(marks, new)
+
+
+def run_and_eliminate(starts, neighbours, numbers, levels, scratch, mark_bytes):
+    """(run figures, elimination's answer); refused as the run is refused."""
+    run = whole_run(starts, neighbours, numbers, levels, scratch)
+    if run[0] == 'refused':
+        return run
+    n = len(starts) - 1
+    # "The numbers handed on are the run's n, without the excess of a
+    # longer buffer". The run left all 8n scratch words 0.
+    return accepted(run[1], elimination(starts, neighbours, numbers[:n], scratch, mark_bytes))
+
+
+# Mesh, listing.
+
+def mesh(n, element_words, starts, neighbours, scratch):
+    """(entries,)"""
+    if wrong_node_count(n):
+        return refused(1)
+    if is_short((starts, n + 1), (neighbours, MOST_ENTRIES), (scratch, n)):
+        return refused(5)
+    number, elements = read_elements(n, element_words)
+    if number:
+        return refused(number)
+    # The n scratch words are 0 for refusal 11 as well as when accepted.
+    zero(scratch, n)
+    rows = mesh_rows(n, elements)
+    if too_many_entries(rows):
+        return refused(11)
+    new_starts, new_neighbours = lists_of(rows)
+    put(starts, new_starts)
+    # "Neighbour words past the last used are untouched."
+    put(neighbours, new_neighbours)
+    return accepted(len(new_neighbours))
+
+
+def listing(file, words, starts, neighbours, scratch, numbers, levels, output):
+    """(count,) of the output bytes written."""
+    number = header_refusal(file)
+    if number:
+        return refused_with_line(number, output)
+    n = nodes_of_file(file)
+    if is_short((words, MOST_FILE_WORDS), (starts, n + 1), (neighbours, MOST_ENTRIES),
+                (scratch, 8 * n), (numbers, n), (levels, n), (output, most_output_bytes(n))):
+        return refused_with_line(5, output)
+    # From here on the words stand in the lent list, whatever follows.
+    element_words = words_after_header(file)
+    put(words, element_words)
+    number = element_refusal(file)
+    if number:
+        return refused_with_line(number, output)
+    # All else has been tested: the mesh can only refuse with 11.
+    made = mesh(n, element_words, starts, neighbours, scratch)
+    if made[0] == 'refused':
+        return refused_with_line(made[1], output)
+    (entries,) = made[1]
+    run = whole_run(starts[:n + 1], neighbours[:entries], numbers, levels, scratch)
+    text = output_text(run[1], numbers[:n], levels[:n])
+    put(output, text)
+    return accepted(len(text))
+
+
+def refused_with_line(number, output):
+    """Refuse, with the line at the front of output where it fits."""
+    line = refusal_line(number)
+    if len(line) <= len(output):
+        put(output, line)
+    return refused(number)
+
+
+# For comparisons, on legal input. Pairs are (p, q) with p < q, new numbers.
+
+def adjoining_of(starts, neighbours, numbering):
+    """For each new number the set of new numbers it adjoins."""
+    return adjoining(rows_of(starts, neighbours), number_of_nodes(numbering))
+
+
+def fronts_of(starts, neighbours, numbering):
+    """Fronts at i = 1, 2, .. n."""
+    return fronts(adjoining_of(starts, neighbours, numbering))
+
+
+def joined_after(starts, neighbours, numbering, i):
+    """Set of the pairs joined after i eliminations."""
+    return store.joined_after(adjoining_of(starts, neighbours, numbering), i)
+
+
+def places_of(starts, neighbours, numbering):
+    """Place of each pair that has one."""
+    return store.places(adjoining_of(starts, neighbours, numbering))
+
+
+def marks_of(starts, neighbours, numbering):
+    """Mark of each place after the last elimination, as a list by place."""
+    adjoins = adjoining_of(starts, neighbours, numbering)
+    return store.marks(adjoins, store.joined_after(adjoins, len(adjoins)))

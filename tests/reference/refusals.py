@@ -1,0 +1,324 @@
+"""The table of refusals: broken lists, short buffers, and what each answer leaves in which buffer."""
+
+import random
+import sys
+
+import calls
+from bracket import element_words, grd_file
+from checking import Checks
+from program import text_for
+
+# Fills lent buffers, so that untouched words show.
+OLD = 777
+OLD_BYTE = 77
+
+BROKEN_LISTS = [
+    ('empty start list', [], [], 1),
+    ('empty start list, neighbours given', [], [1, 2], 1),
+    ('one start word', [0], [], 1),
+    ('one start word, not 0', [65535], [1], 1),
+    ('4,098 start words', [0] * 4098, [], 1),
+    ('70,000 start words', [0] * 70000, [], 1),
+    ('70,000 start words of 65,535', [65535] * 70000, [65535] * 70000, 1),
+    ('first start not 0', [1, 1], [2], 2),
+    ('falling starts', [0, 2, 1, 2], [2, 3], 2),
+    ('falling starts, last one fits', [0, 65535, 2], [2, 1], 2),
+    ('all words 65,535', [65535] * 4, [65535] * 4, 2),
+    ('last start above the length', [0, 1, 2], [2], 2),
+    ('last start below the length', [0, 1, 2], [2, 1, 1], 2),
+    ('32,769 neighbours', [0, 32769], [2] * 32769, 2),
+    ('40,000 neighbours, last start 32,768', [0, 32768], [2] * 40000, 2),
+    ('70,000 neighbours', [0, 65535], [2] * 70000, 2),
+    ('32,768 neighbours that do not rise', [0, 32768], [2] * 32768, 3),
+    ('neighbour 0', [0, 1, 1], [0], 3),
+    ('neighbour above n', [0, 1, 1], [3], 3),
+    ('neighbours all 65,535', [0, 1, 2], [65535, 65535], 3),
+    ('row holds itself', [0, 1, 1], [1], 3),
+    ('equal neighbours', [0, 2, 4], [2, 2, 1, 1], 3),
+    ('row falls', [0, 2, 3, 4], [3, 2, 1, 1], 3),
+    # 3 is tested over all rows before 4 over any.
+    ('no partner in row 1, row 3 falls', [0, 1, 1, 3], [2, 2, 1], 3),
+    ('no partner', [0, 1, 1], [2], 4),
+    ('no partner in the last row', [0, 1, 2, 3], [2, 1, 1], 4),
+]
+
+PATH = ([0, 1, 3, 4], [2, 1, 3, 2])
+
+
+def words(count):
+    return [OLD] * count
+
+
+def answer_and_buffers(checks, name, call, given, lent, wanted, after):
+    """Call it with copies and compare the answer, the given lists and the lent buffers."""
+    before = [list(x) if isinstance(x, list) else x for x in given]
+    checks.equal(name + ': answer', call(*given, *lent), wanted)
+    checks.equal(name + ': given lists', given, before)
+    checks.equal(name + ': buffers', list(lent), list(after))
+
+
+def untouched(checks, name, call, given, lent, number):
+    after = [list(buffer) for buffer in lent]
+    answer_and_buffers(checks, name, call, given, lent, ('refused', number), after)
+
+
+# Calls that take an adjacency: name, call, given besides it, sizes of the lent words in n.
+
+ADJACENCY_CALLS = [
+    ('adjacency test', calls.adjacency_test, [], []),
+    ('rooted levels', calls.rooted_levels, [1], [1]),
+    ('ends', calls.ends, [1], [8]),
+    ('combined levels', calls.combined_levels, [1], [1, 8]),
+    ('part report', calls.part_report, [1], [8]),
+    ('whole run', calls.whole_run, [], [1, 1, 8]),
+    ('measures', calls.measures, [[1, 2, 3]], [1]),
+    ('elimination', calls.elimination, [[1, 2, 3]], [1]),
+    ('run and eliminate', calls.run_and_eliminate, [], [1, 1, 8]),
+]
+
+
+def mark_bytes_of(name, count):
+    return [[OLD_BYTE] * count] if 'eliminat' in name else []
+
+
+def broken_lists(checks):
+    for name, call, more, sizes in ADJACENCY_CALLS:
+        for fault, starts, neighbours, number in BROKEN_LISTS:
+            # Empty buffers and a wrong node must not hide the lists' own refusal.
+            for length in (0, 40):
+                lent = [words(length * size) for size in sizes] + mark_bytes_of(name, length)
+                given = [0 if x == 1 else x for x in more]
+                untouched(checks, name + ', ' + fault, call,
+                          [list(starts), list(neighbours)] + given, lent, number)
+
+
+def short_buffers(checks):
+    for name, call, more, sizes in ADJACENCY_CALLS:
+        for t in range(len(sizes)):
+            lent = [words(3 * size) for size in sizes]
+            lent[t].pop()
+            # 5 comes before 6 and 7.
+            given = [0 if x == 1 else [] for x in more]
+            untouched(checks, '%s, buffer %d short' % (name, t), call,
+                      [*PATH] + given, lent + mark_bytes_of(name, 0), 5)
+
+
+def wrong_nodes(checks):
+    for name, call, more, sizes in ADJACENCY_CALLS:
+        if more == [1]:
+            for node in (0, 4, 65535):
+                lent = [words(3 * size + 2) for size in sizes]
+                untouched(checks, '%s, node %d' % (name, node), call, [*PATH, node], lent, 6)
+
+
+def wrong_numberings(checks):
+    scratch = words(5)
+    zeroed = [0, 0, 0, OLD, OLD]
+    for numbering in ([], [1, 2], [1, 2, 3, 4], [1, 2, 2], [0, 1, 2], [1, 2, 4],
+                      [65535] * 3, [65535] * 70000):
+        name = 'numbering of %d words' % len(numbering)
+        answer_and_buffers(checks, 'measures, ' + name, calls.measures, [*PATH, numbering],
+                           [list(scratch)], ('refused', 7), [zeroed])
+        # 7 comes before 8.
+        answer_and_buffers(checks, 'elimination, ' + name, calls.elimination, [*PATH, numbering],
+                           [list(scratch), []], ('refused', 7), [zeroed, []])
+
+
+def short_mark_bytes(checks):
+    # Profile 2 needs one byte.
+    zeroed = [0, 0, 0, OLD]
+    answer_and_buffers(checks, 'elimination, no mark bytes', calls.elimination, [*PATH, [1, 2, 3]],
+                       [words(4), []], ('refused', 8), [zeroed, []])
+    # A star whose centre is number 1 fills up: every row reaches back to 1, profile 45.
+    star = calls.from_edges(10, [(1, p) for p in range(2, 11)])
+    numbering = list(range(1, 11))
+    answer_and_buffers(checks, 'elimination, 5 bytes for profile 45', calls.elimination,
+                       [*star, numbering], [words(10), [OLD_BYTE] * 5], ('refused', 8),
+                       [[0] * 10, [OLD_BYTE] * 5])
+    answer_and_buffers(checks, 'elimination, 6 bytes for profile 45', calls.elimination,
+                       [*star, numbering], [words(10), [OLD_BYTE] * 7], ('accepted', (45, 36)),
+                       [[0] * 10, [255] * 5 + [31, OLD_BYTE]])
+    figures = (3, 1, 1, 2, 2, 3, 1, 1)
+    answer_and_buffers(checks, 'run and eliminate, no mark bytes', calls.run_and_eliminate, [*PATH],
+                       [words(4), words(4), words(25), []], ('accepted', (figures, ('refused', 8))),
+                       [[1, 2, 3, OLD], [1, 2, 3, OLD], [0] * 24 + [OLD], []])
+
+
+def accepted_buffers(checks):
+    """Two parts: path 1-2-3 and node 4; excess stays, the scratch asked for is 0."""
+    graph = [[0, 1, 3, 4, 4], [2, 1, 3, 2]]
+    zeroed = [0] * 32 + [OLD]
+    for name, call, given, lent, value, after in [
+            ('rooted levels', calls.rooted_levels, [2], [words(5)], (2, 2, 3), [[2, 1, 2, 0, OLD]]),
+            ('ends', calls.ends, [2], [words(33)], (1, 3, 3, 1, 1, 1), [zeroed]),
+            ('ends of an isolated node', calls.ends, [4], [words(33)], (4, 4, 1, 1, 1, 1), [zeroed]),
+            ('combined levels', calls.combined_levels, [2], [words(5), words(33)], (3, 1),
+             [[1, 2, 3, 0, OLD], zeroed]),
+            ('part report', calls.part_report, [3], [words(33)], (1, 3, 3, 1, 1, 'Forward'), [zeroed]),
+            ('whole run', calls.whole_run, [], [words(5), words(5), words(33)],
+             (4, 2, 1, 2, 2, 4, 1, 2), [[1, 2, 3, 4, OLD], [1, 2, 3, 1, OLD], zeroed]),
+            ('measures', calls.measures, [[4, 1, 2, 3]], [words(5)], (3, 4, 3), [[0] * 4 + [OLD]]),
+            ('elimination', calls.elimination, [[4, 1, 2, 3]], [words(5), [OLD_BYTE] * 2], (3, 1),
+             [[0] * 4 + [OLD], [0b111, OLD_BYTE]]),
+            ('run and eliminate', calls.run_and_eliminate, [],
+             [words(5), words(5), words(33), [OLD_BYTE] * 2],
+             ((4, 2, 1, 2, 2, 4, 1, 2), ('accepted', (2, 0))),
+             [[1, 2, 3, 4, OLD], [1, 2, 3, 1, OLD], zeroed, [3, OLD_BYTE]])]:
+        answer_and_buffers(checks, name, call, graph + given, lent, ('accepted', value), after)
+
+
+# Mesh.
+
+BROKEN_ELEMENTS = [
+    ([0], 9), ([11], 9), ([65535], 9), ([1], 9), ([1, 2], 9), ([1, 0], 9), ([7] * 8, 9),
+    ([1, 1, 1], 10), ([1, 0, 1], 10), ([1, 1, 4], 10), ([2, 1, 2, 1], 10), ([65535] * 70000, 9),
+    # One by one: the first element at fault gives the number.
+    ([1, 1, 1, 11], 10), ([11, 1, 1, 1], 9), ([1, 1, 2, 1, 1], 9), ([1, 1, 2, 1, 3, 3], 10),
+]
+
+
+def mesh_refusals(checks):
+    for element, number in BROKEN_ELEMENTS:
+        untouched(checks, 'mesh, elements %r' % element[:6], calls.mesh, [3, element],
+                  [words(4), words(32768), words(3)], number)
+    for n in (0, 4097, 65535):
+        untouched(checks, 'mesh, %d nodes' % n, calls.mesh, [n, [0]], [[], [], []], 1)
+    # A short start list, an empty one too, is 5, before the elements.
+    for lent in ([], words(32768), words(3)), (words(3), words(32768), words(3)), \
+            (words(4), words(32767), words(3)), (words(4), words(32768), words(2)):
+        untouched(checks, 'mesh, short buffer', calls.mesh, [3, [0]], list(lent), 5)
+    answer_and_buffers(checks, 'mesh, 32,770 entries', calls.mesh, [3650, element_words(5)],
+                       [words(3651), words(32768), words(3651)], ('refused', 11),
+                       [words(3651), words(32768), [0] * 3650 + [OLD]])
+    answer_and_buffers(checks, 'mesh, bar twice and a triangle', calls.mesh,
+                       [4, [1, 2, 1, 1, 1, 2, 2, 3, 1, 2]], [words(6), words(32768), words(5)],
+                       ('accepted', (6,)),
+                       [[0, 2, 4, 6, 6, OLD], [2, 3, 1, 3, 1, 2] + words(32762), [0] * 4 + [OLD]])
+
+
+# Listing and program.
+
+def lent_to_listing(n):
+    """words, starts, neighbours, scratch, numbers, levels, output"""
+    return [words(32763), words(n + 1), words(32768), words(8 * n), words(n), words(n),
+            [OLD_BYTE] * (99 + 15 * n)]
+
+
+def with_line(output, number):
+    line = list(b'refused %d\n' % number)
+    return line + output[len(line):] if len(line) <= len(output) else output
+
+
+def listing_refused(checks, name, file, lent, number, words_written=(), zeroed=0):
+    after = [list(buffer) for buffer in lent]
+    after[0][:len(words_written)] = words_written
+    after[3][:zeroed] = [0] * zeroed
+    after[6] = with_line(after[6], number)
+    answer_and_buffers(checks, 'listing, ' + name, calls.listing, [list(file)], lent,
+                       ('refused', number), after)
+    if number != 5:
+        checks.equal('program, ' + name, text_for(file), b'refused %d\n' % number)
+
+
+WRONG_HEADERS = [
+    ('no byte', b'', 12), ('8 bytes', b'GRD\x01\x00\x03\x00\x00', 12),
+    ('wrong mark', b'GRE\x01\x00\x03\x00\x00\x00', 12),
+    ('version 2', b'GRD\x02\x00\x03\x00\x00\x00', 12),
+    ('version high byte', b'GRD\x01\x01\x03\x00\x00\x00', 12),
+    ('wrong mark and no node', b'grd\x01\x00\x00\x00\x00\x00', 12),
+    ('65,536 bytes', grd_file(3, 0, [0] * 32763) + b'\x00', 12),
+    ('65,536 bytes, no node', grd_file(0, 0, [0] * 32763) + b'\x00', 12),
+    ('70,000 bytes of 255', b'\xff' * 70000, 12),
+    ('no node', grd_file(0, 0, []), 1), ('4,097 nodes', grd_file(4097, 0, []), 1),
+    ('65,535 nodes and bytes left over', grd_file(65535, 0, [1]), 1),
+]
+
+WRONG_ELEMENTS = [
+    ('element missing', 1, [], b'', 12), ('half a kind word', 1, [], b'\x01', 12),
+    ('record past the end', 1, [1, 2], b'', 12), ('half a node', 1, [1, 2], b'\x03', 12),
+    ('record past the end before its nodes', 1, [1, 0], b'', 12),
+    ('unknown kind', 1, [11, 1, 2], b'', 9), ('unknown kind as last word', 1, [0], b'', 9),
+    ('node 0', 1, [1, 0, 1], b'', 10), ('node repeated', 1, [1, 3, 3], b'', 10),
+    ('node above n, bytes left over', 1, [1, 3, 4, 9], b'', 10),
+    ('unknown kind in the second', 2, [1, 1, 2, 99], b'\x01', 9),
+    ('word left over', 1, [1, 1, 2, 1], b'', 12), ('byte left over', 1, [1, 1, 2], b'\x00', 12),
+    ('65,535 bytes', 0, [1] * 32763, b'', 12), ('65,535 elements', 65535, [1, 1, 2], b'', 12),
+]
+
+
+def listing_refusals(checks):
+    for name, file, number in WRONG_HEADERS:
+        listing_refused(checks, name, file, lent_to_listing(3), number)
+        for room in (0, 9, 10, 11):
+            listing_refused(checks, '%s, output of %d' % (name, room), file,
+                            [[], [], [], [], [], [], [OLD_BYTE] * room], number)
+    for name, count, element, last, number in WRONG_ELEMENTS:
+        listing_refused(checks, name, grd_file(3, count, element) + last, lent_to_listing(3),
+                        number, element)
+    listing_refused(checks, '32,770 entries', grd_file(3650, 369, element_words(5)),
+                    lent_to_listing(3650), 11, element_words(5), 3650)
+    # Bytes left over come before 11.
+    listing_refused(checks, '32,770 entries and a byte', grd_file(3650, 369, element_words(5)) + b'\x00',
+                    lent_to_listing(3650), 12, element_words(5))
+    for t in range(7):
+        lent = lent_to_listing(3)
+        lent[t].pop()
+        listing_refused(checks, 'buffer %d short' % t, grd_file(3, 1, [0]), lent, 5)
+
+
+def listing_accepted(checks):
+    lent = [buffer + [OLD_BYTE] for buffer in lent_to_listing(3)]
+    text = (b'nodes 3 parts 2 bandwidth 1 profile 1 front 2 levels 3 width 1 passes 2\n'
+            b'1 1 1\n2 3 1\n3 2 2\n')
+    after = [[1, 3, 1] + words(32760), [0, 1, 1, 2], [3, 1] + words(32766), [0] * 24,
+             [1, 3, 2], [1, 1, 2], list(text) + [OLD_BYTE] * (144 - len(text))]
+    answer_and_buffers(checks, 'listing', calls.listing, [list(grd_file(3, 1, [1, 3, 1]))], lent,
+                       ('accepted', (len(text),)), [buffer + [OLD_BYTE] for buffer in after])
+
+
+# Any words at all.
+
+def any_words(rng):
+    """Small lists of small words, now and then a word of 65,535."""
+    return [rng.choice([0, 1, 1, 2, 2, 3, 4, 65535]) for _ in range(rng.randint(0, 6))]
+
+
+def random_input(checks):
+    """No call may fault; refusals 1 to 6 leave all lent words, whatever is handed in."""
+    rng = random.Random(1976)
+    for _ in range(3000):
+        starts = rng.choice([any_words(rng), [0] + sorted(any_words(rng))])
+        neighbours = any_words(rng)
+        for name, call, more, sizes in ADJACENCY_CALLS:
+            given = [rng.choice([0, 1, 2, 65535]) if x == 1 else any_words(rng) for x in more]
+            lent = [words(rng.randint(0, 40)) for _ in sizes] + mark_bytes_of(name, rng.randint(0, 2))
+            before = [list(buffer) for buffer in lent]
+            state, value = call(starts, neighbours, *given, *lent)
+            if state == 'refused' and value <= 6:
+                checks.equal(name + ', any words', lent, before)
+            else:
+                checks.holds(name + ', any words', state == 'accepted' or value in (7, 8))
+
+
+def random_files(checks):
+    """The program answers every file with rows or with one of its refusals."""
+    rng = random.Random(1976)
+    for _ in range(300):
+        element = [rng.randint(0, 4) for _ in range(rng.randint(0, 12))]
+        file = grd_file(rng.choice([0, 4, 4, 4, 4]), rng.randint(0, 3), element) + b'\x00' * rng.randint(0, 1)
+        text = text_for(file)
+        refusals = [b'refused %d\n' % number for number in (1, 9, 10, 12)]
+        checks.holds('program, any file', text in refusals or text.startswith(b'nodes 4 parts '))
+
+
+def main():
+    checks = Checks('table of refusals')
+    for subject in (broken_lists, short_buffers, wrong_nodes, wrong_numberings, short_mark_bytes,
+                    accepted_buffers, mesh_refusals, listing_refusals, listing_accepted,
+                    random_input, random_files):
+        subject(checks)
+    return checks.report()
+
+
+if __name__ == '__main__':
+    sys.exit(main())

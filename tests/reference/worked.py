@@ -1,0 +1,114 @@
+"""Graphs worked with pencil from document 01's steps: its slips, ties, names, passes; and each kind."""
+
+import sys
+
+import calls
+from checking import Checks
+
+# name, edges, ends (v, u, k, width_v, width_u, passes), combined levels,
+# part report, levels of the run, numbers
+WORKED = [
+    # Pieces {4} and {5}: 4 goes to level 3 by the tie, then h = 3, l = 2 for 5.
+    ('pieces placed against the counts before the first one',
+     [(1, 2), (2, 3), (2, 4), (2, 5)],
+     (1, 3, 3, 3, 3, 1), [1, 2, 3, 3, 1], (1, 3, 3, 2, 1, 'Forward'),
+     [1, 2, 3, 3, 1], [1, 3, 4, 5, 2]),
+    # Piece {4, 5} first (h = 3, l = 2), then {3} (h = 2, l = 3).
+    ('pieces by size falling',
+     [(1, 6), (2, 5), (2, 6), (3, 6), (4, 5), (4, 6), (5, 6)],
+     (1, 2, 3, 4, 3, 1), [1, 3, 3, 1, 2, 2], (1, 2, 3, 2, 1, 'Forward'),
+     [1, 3, 3, 1, 2, 2], [1, 6, 5, 2, 4, 3]),
+    # h = l = 2 for {3} and for {4}; u's width 2 is less than v's 3.
+    ('equal h and l by second numbers',
+     [(1, 4), (1, 5), (2, 5), (3, 5), (4, 5)],
+     (2, 1, 3, 3, 2, 1), [3, 1, 1, 2, 2], (2, 1, 3, 2, 1, 'Forward'),
+     [3, 1, 1, 2, 2], [5, 1, 2, 4, 3]),
+    # Level 1 holds 3 when {3} comes: h = 2 and l = 3 count touched levels only.
+    ('h over levels the piece does not touch',
+     [(1, 5), (1, 6), (2, 5), (3, 5), (3, 6), (4, 5), (4, 7), (5, 6), (5, 7)],
+     (2, 6, 3, 5, 3, 1), [2, 1, 3, 1, 2, 3, 1], (2, 6, 3, 3, 1, 'Forward'),
+     [2, 1, 3, 1, 2, 3, 1], [5, 1, 6, 2, 4, 7, 3]),
+    # 6 and 1 follow 2: degrees 1 and 2, though both have none unnumbered left.
+    ('degree in what is left of the graph',
+     [(1, 2), (1, 4), (2, 3), (2, 4), (2, 5), (2, 6)],
+     (3, 1, 3, 4, 3, 1), [3, 2, 1, 2, 1, 3], (3, 1, 3, 2, 1, 'Forward'),
+     [3, 2, 1, 2, 1, 3], [6, 3, 1, 4, 2, 5]),
+    # u = 3 has degree 2, v = 1 has 3: the combined levels turn over with the names.
+    ('change of names',
+     [(1, 4), (1, 5), (1, 6), (2, 3), (2, 4), (3, 7), (4, 5), (4, 6), (4, 7), (5, 6)],
+     (1, 3, 4, 3, 3, 2), [1, 3, 4, 2, 2, 2, 3], (3, 1, 4, 3, 2, 'Forward'),
+     [4, 2, 1, 3, 3, 3, 2], [7, 2, 1, 4, 5, 6, 3]),
+    # Names change and the profile falls from 11 to 10; the levels do not turn.
+    ('change of names and turning',
+     [(1, 2), (1, 7), (2, 3), (2, 7), (3, 6), (4, 6), (4, 8), (4, 9), (5, 6), (6, 8)],
+     (1, 9, 6, 3, 2, 2), [1, 2, 3, 5, 3, 4, 1, 4, 6], (9, 1, 6, 2, 2, 'Reversed'),
+     [6, 5, 4, 2, 4, 3, 6, 3, 1], [2, 3, 4, 8, 5, 6, 1, 7, 9]),
+    # v is 4, then 5, then 6, with depths 4, 5, 6.
+    ('three passes',
+     [(1, 2), (1, 6), (1, 8), (2, 4), (2, 9), (2, 10), (3, 4), (3, 7), (3, 9), (5, 7),
+      (5, 10), (6, 8)],
+     (6, 7, 6, 3, 3, 3), [2, 3, 5, 4, 5, 1, 6, 2, 4, 4], (6, 7, 6, 3, 3, 'Forward'),
+     [2, 3, 5, 4, 5, 1, 6, 2, 4, 4], [3, 4, 8, 5, 9, 1, 10, 2, 6, 7]),
+    # From v = 1, S is 2 and 4 with depths 5 and 6: 2 is taken, so 3 passes.
+    ('the first deeper s, not the deepest',
+     [(1, 5), (1, 6), (2, 3), (2, 7), (3, 6), (4, 8), (4, 9), (5, 7), (6, 8), (6, 9)],
+     (4, 7, 6, 2, 2, 3), [4, 5, 4, 1, 5, 3, 6, 2, 2], (4, 7, 6, 2, 3, 'Forward'),
+     [4, 5, 4, 1, 5, 3, 6, 2, 2], [5, 8, 6, 1, 7, 4, 9, 2, 3]),
+    # After 6, level 1 has 3 and 5 left: 5 has the lower degree, and brings 3.
+    ('nodes left in a level, the first in E',
+     [(1, 2), (1, 3), (1, 4), (1, 5), (1, 6), (2, 4), (3, 4), (3, 5)],
+     (6, 2, 3, 4, 3, 1), [2, 3, 1, 2, 1, 1], (6, 2, 3, 3, 1, 'Forward'),
+     [2, 3, 1, 2, 1, 1], [4, 6, 3, 5, 2, 1]),
+    # Level 2 begins with 8 and 6: 8 has the lower new number, so 7 comes before 9.
+    ('lowest-numbered by new numbers',
+     [(1, 3), (1, 4), (1, 8), (2, 4), (2, 6), (2, 7), (2, 9), (3, 4), (3, 6), (5, 6),
+      (5, 8), (6, 9), (7, 8)],
+     (5, 4, 4, 5, 4, 1), [3, 3, 3, 4, 1, 2, 2, 2, 2], (5, 4, 4, 4, 1, 'Forward'),
+     [3, 3, 3, 4, 1, 2, 2, 2, 2], [6, 8, 7, 9, 1, 3, 4, 2, 5]),
+]
+
+
+def worked_graph(checks, name, edges, ends, combined, report, levels, numbers):
+    n = len(numbers)
+    graph = calls.from_edges(n, edges)
+    scratch = [0] * (8 * n)
+    got_combined, got_numbers, got_levels = [0] * n, [0] * n, [0] * n
+    checks.equal(name + ': ends', calls.ends(*graph, n, scratch)[1], ends)
+    checks.equal(name + ': combined', calls.combined_levels(*graph, 1, got_combined, scratch)[1],
+                 (report[2], report[3]))
+    checks.equal(name + ': combined levels', got_combined, combined)
+    checks.equal(name + ': report', calls.part_report(*graph, n, scratch)[1], report)
+    calls.whole_run(*graph, got_numbers, got_levels, scratch)
+    checks.equal(name + ': levels', got_levels, levels)
+    checks.equal(name + ': numbers', got_numbers, numbers)
+
+
+def both_directions(checks):
+    """Path 1-3-5, star of centre 2 and leaves 4, 6, 7, node 8: only the star turns."""
+    graph = calls.from_edges(8, [(1, 3), (3, 5), (2, 4), (2, 6), (2, 7)])
+    numbers, levels = [0] * 8, [0] * 8
+    checks.equal('both directions: figures', calls.whole_run(*graph, numbers, levels, [0] * 64)[1],
+                 (8, 3, 2, 5, 2, 7, 2, 3))
+    checks.equal('both directions: numbers', numbers, [1, 6, 2, 7, 3, 5, 4, 8])
+    checks.equal('both directions: levels', levels, [1, 2, 2, 1, 3, 3, 3, 1])
+
+
+def kinds(checks):
+    """All nodes of one element adjoin one another."""
+    for kind, count in ((1, 2), (2, 3), (3, 4), (4, 4), (5, 5), (6, 6), (7, 8), (8, 6), (9, 8), (10, 10)):
+        nodes = list(range(1, count + 1))
+        answer = calls.mesh(count, [kind] + nodes[::-1], [0] * (count + 1), [0] * 32768, [0] * count)
+        checks.equal('kind %d' % kind, answer, ('accepted', (count * (count - 1),)))
+
+
+def main():
+    checks = Checks('worked graphs')
+    for case in WORKED:
+        worked_graph(checks, *case)
+    both_directions(checks)
+    kinds(checks)
+    return checks.report()
+
+
+if __name__ == '__main__':
+    sys.exit(main())
