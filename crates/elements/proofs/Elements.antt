@@ -1,0 +1,110 @@
+-- What elements are refused by: one element by the tests that led there, and a list of elements one by one. Assumes nothing.
+use mathlib.Core.Path.{_≡_, refl, sym, ap, _∙_}
+use mathlib.Core.Bool.{true, false, _||_}
+use mathlib.Core.Logic.{⊎-elim}
+use mathlib.Core.List.{List, [], _∷_}
+use Prim.Native.Nat.{ℕ, zero, suc, _+_, _≤_, _<_, min}
+use native.Mathlib.Numerals.{add-one}
+use native.Mathlib.Omega.{arith}
+use lib.ListN.{length, getD, take, drop, length-drop, drop-of-length-le}
+use lib.Seq.{take-all, take-length, drop-drop}
+use lib.Dec.{eqb, ltb}
+use borrow.Author.Tests.{ltb-false}
+use Rattle.basis.specs.Lists.{anyb}
+use Rattle.basis.proofs.Logic.{or-none, lt-or-le}
+use Rattle.spec.specs.Refusal.{refuse, _orElse_}
+use Rattle.spec.specs.Graph.{outside}
+use Rattle.spec.specs.Mesh.{nodeCount, repeats, badNodes, elementRefusal, elementsRefusal}
+use Rattle.laws.proofs.Refused.{or-else-zero, refuse-zero}
+use Rattle.elements.proofs.Remains.{drop-next}
+
+-- ---- one element
+
+-- tests in order, grouped the other way
+in-order : (a b c : ℕ) → (a orElse b) orElse c ≡ a orElse b orElse c
+in-order zero b c = refl
+in-order (suc a) b c = refl
+
+-- the first words of a list that may be shorter
+take-least : (k : ℕ) (ws : List ℕ) → take (min k (length ws)) ws ≡ take k ws
+take-least k ws =
+    ⊎-elim (λ (h : k < length ws). let e : min k (length ws) ≡ k = omega arith in ap (λ (j : ℕ). take j ws) e)
+    (λ (h : length ws ≤ k). let e : min k (length ws) ≡ length ws = omega arith in ap (λ (j : ℕ). take j ws) e ∙ take-length ws ∙ sym (take-all k ws h))
+    (lt-or-le k (length ws))
+
+-- the record's refusal, then that of the nodes that are there
+pub by-record : (short n kind : ℕ) (ws : List ℕ)
+    → (refuse (eqb (nodeCount kind) 0) 9 orElse refuse (ltb (length ws) (nodeCount kind)) short) orElse refuse (badNodes n (take (min (nodeCount kind) (length ws)) ws)) 10
+    ≡ elementRefusal short n kind ws
+unfolding elementRefusal
+by-record short n kind ws =
+    in-order (refuse (eqb (nodeCount kind) 0) 9) (refuse (ltb (length ws) (nodeCount kind)) short) _
+    ∙ ap (λ (l : List ℕ). refuse (eqb (nodeCount kind) 0) 9 orElse refuse (ltb (length ws) (nodeCount kind)) short orElse refuse (badNodes n l) 10) (take-least (nodeCount kind) ws)
+
+-- of an element that is not refused the record ends within the words, and its nodes are inside
+good-parts : (n kind : ℕ) (ws : List ℕ) → elementRefusal 9 n kind ws ≡ 0
+    → (nodeCount kind ≤ length ws) × (anyb (outside n) (take (nodeCount kind) ws) ≡ false)
+unfolding elementRefusal badNodes
+good-parts n kind ws e =
+    let a = or-else-zero (refuse (eqb (nodeCount kind) 0) 9) _ e in
+    let b = or-else-zero (refuse (ltb (length ws) (nodeCount kind)) 9) _ (a .1) in
+    let t = refuse-zero (anyb (outside n) (take (nodeCount kind) ws) || repeats (take (nodeCount kind) ws)) 10 (omega arith) (b .1) in
+    (ltb-false (length ws) (nodeCount kind) (refuse-zero (ltb (length ws) (nodeCount kind)) 9 (omega arith) (b .0)), or-none (anyb (outside n) (take (nodeCount kind) ws)) _ t .0)
+
+pub good-fits : (n kind : ℕ) (ws : List ℕ) → elementRefusal 9 n kind ws ≡ 0 → nodeCount kind ≤ length ws
+good-fits n kind ws e = good-parts n kind ws e .0
+
+pub good-inside : (n kind : ℕ) (ws : List ℕ) → elementRefusal 9 n kind ws ≡ 0 → anyb (outside n) (take (nodeCount kind) ws) ≡ false
+good-inside n kind ws e = good-parts n kind ws e .1
+
+-- ---- the elements one by one
+
+-- any bound from the list's length on bounds nothing
+pub enough : (f g n : ℕ) (ws : List ℕ) → length ws ≤ f → length ws ≤ g → elementsRefusal f n ws ≡ elementsRefusal g n ws
+unfolding elementsRefusal
+enough zero zero n ws a b = refl
+enough zero (suc g) n [] a b = refl
+enough zero (suc g) n (k ∷ ws) a b = absurd (omega arith)
+enough (suc f) zero n [] a b = refl
+enough (suc f) zero n (k ∷ ws) a b = absurd (omega arith)
+enough (suc f) (suc g) n [] a b = refl
+enough (suc f) (suc g) n (k ∷ ws) a b =
+    ap (λ (r : ℕ). elementRefusal 9 n k ws orElse r)
+    (enough f g n (drop (nodeCount k) ws) (omega (arith, length-drop (nodeCount k) ws)) (omega (arith, length-drop (nodeCount k) ws)))
+
+-- what a list of elements is refused by
+abbrev pub refusalFrom : ℕ → List ℕ → ℕ
+refusalFrom n ws = elementsRefusal (length ws) n ws
+
+module _ (n : ℕ) (ws : List ℕ) (at : ℕ) (h : at < length ws) where
+  -- the element at `at`, then those after it
+  pub refusal-next : refusalFrom n (drop at ws)
+      ≡ elementRefusal 9 n (getD ws at 0) (drop (at + 1) ws) orElse refusalFrom n (drop (at + 1 + nodeCount (getD ws at 0)) ws)
+  unfolding elementsRefusal
+  refusal-next =
+      ap (refusalFrom n) (drop-next ws at h)
+      ∙ ap (λ (r : ℕ). elementRefusal 9 n k tail orElse r)
+      (enough (length tail) (length (drop (nodeCount k) tail)) n (drop (nodeCount k) tail) (omega (arith, length-drop (nodeCount k) tail)) (omega arith)
+      ∙ ap (refusalFrom n) (drop-drop (nodeCount k) (at + 1) ws))
+    where
+      k : ℕ
+      k = getD ws at 0
+
+      tail : List ℕ
+      tail = drop (at + 1) ws
+
+  module _ (rest : refusalFrom n ws ≡ refusalFrom n (drop at ws)) where
+    -- it is refused
+    pub refusal-met : (r : ℕ) → r ≡ elementRefusal 9 n (getD ws at 0) (drop (at + 1) ws) → (r ≡ 0 → ⊥) → r ≡ refusalFrom n ws
+    refusal-met zero e some = absurd (some refl)
+    refusal-met (suc r) e some = sym (rest ∙ refusal-next ∙ ap (λ (x : ℕ). x orElse refusalFrom n (drop (at + 1 + nodeCount (getD ws at 0)) ws)) (sym e))
+
+    -- it isn't: go on
+    pub refusal-passed : (r : ℕ) → r ≡ elementRefusal 9 n (getD ws at 0) (drop (at + 1) ws) → r ≡ 0
+        → refusalFrom n ws ≡ refusalFrom n (drop (at + 1 + nodeCount (getD ws at 0)) ws)
+    refusal-passed r e z = rest ∙ refusal-next ∙ ap (λ (x : ℕ). x orElse refusalFrom n (drop (at + 1 + nodeCount (getD ws at 0)) ws)) (sym e ∙ z)
+
+-- no element is left
+pub refusal-over : (n : ℕ) (ws : List ℕ) (at : ℕ) → refusalFrom n ws ≡ refusalFrom n (drop at ws) → length ws ≤ at → 0 ≡ refusalFrom n ws
+unfolding elementsRefusal
+refusal-over n ws at rest h = sym (rest ∙ ap (refusalFrom n) (drop-of-length-le ws h))

@@ -1,0 +1,60 @@
+-- The envelope of a numbering, walked by old number: f, the spans and their sum. Assumes nothing.
+use mathlib.Core.Path.{_≡_, sym, ap, _∙_}
+use mathlib.Core.Bool.{true}
+use mathlib.Core.List.{List, map}
+use Prim.Native.Nat.{ℕ, _+_, _-_, _≤_}
+use native.Mathlib.Numerals.{add-one}
+use native.Mathlib.Omega.{arith}
+use lib.ListN.{getD}
+use Rattle.basis.specs.Lists.{least, sum, upFrom}
+use Rattle.basis.proofs.Index.{memb-getD, least-le}
+use Rattle.basis.proofs.Lists.{sum-cong, sum-step}
+use Rattle.spec.specs.Graph.{Graph, nodes, adjoins, ofNode}
+use Rattle.spec.specs.Measures.{isNumbering, renumbered, firstIn, rowSpan, profile}
+use Rattle.laws.specs.Legal.{Node, LegalGraph}
+use Rattle.laws.proofs.Legal.{node-in}
+use Rattle.laws.proofs.Renumber.{firstOld, number-node, first-old, profile-old}
+use Rattle.envelope.specs.Numbers.{Words}
+
+-- a row holds nodes only
+pub row-words : {g : Graph} → LegalGraph g → (p n : ℕ) → g .size ≡ n → Words n (g .row p)
+unfolding adjoins
+row-words {g} G p n e = record {
+  low = λ j h. G .inside p (getD (g .row p) j 0) (memb-getD (g .row p) j h) .low;
+  high = λ j h. let N = G .inside p (getD (g .row p) j 0) (memb-getD (g .row p) j h) in omega (arith, N .high);
+}
+
+-- the sum of the spans of the nodes 1 .. p
+abbrev pub spans : Graph → List ℕ → ℕ → ℕ
+spans g x p = sum (map (λ a. rowSpan (renumbered g x) (ofNode x a)) (upFrom 1 p))
+
+pub spans-more : (g : Graph) (x : List ℕ) (p : ℕ) → spans g x (p + 1) ≡ spans g x p + rowSpan (renumbered g x) (ofNode x (p + 1))
+spans-more g x p =
+    let e : 1 + p ≡ p + 1 = omega arith in
+    ap (spans g x) (add-one p)
+    ∙ sum-step (λ a. rowSpan (renumbered g x) (ofNode x a)) 1 p
+    ∙ ap (λ (a : ℕ). spans g x p + rowSpan (renumbered g x) (ofNode x a)) e
+
+module _ {g : Graph} (G : LegalGraph g) (x : List ℕ) (ok : isNumbering (g .size) x ≡ true) where
+  -- f is the least over the row
+  pub first-row : (p : ℕ) → Node g p → least (ofNode x p) (map (ofNode x) (g .row p)) ≡ firstIn (renumbered g x) (ofNode x p)
+  first-row p P = sym (first-old G x ok p P)
+
+  -- at most the number itself, which is at most n
+  pub first-most : (p : ℕ) → Node g p → firstIn (renumbered g x) (ofNode x p) ≤ ofNode x p
+  first-most p P = omega (arith, first-row p P, least-le (ofNode x p) (map (ofNode x) (g .row p)))
+
+  pub number-most : (p : ℕ) → Node g p → ofNode x p ≤ g .size
+  number-most p P = number-node G x ok p P .high
+
+  pub span-most : (p : ℕ) → Node g p → rowSpan (renumbered g x) (ofNode x p) ≤ g .size
+  unfolding rowSpan
+  span-most p P = omega (arith, number-most p P)
+
+  -- all spans
+  pub spans-all : spans g x (g .size) ≡ profile (renumbered g x)
+  unfolding rowSpan nodes
+  spans-all =
+      sum-cong (λ a. ofNode x a - firstIn (renumbered g x) (ofNode x a)) (λ a. ofNode x a - firstOld G x ok a) (nodes g)
+      (λ a m. ap (λ (v : ℕ). ofNode x a - v) (first-old G x ok a (node-in g a m)))
+      ∙ sym (profile-old G x ok)

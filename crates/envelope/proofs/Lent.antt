@@ -1,0 +1,36 @@
+-- The scratch words of test 7: zeros, or the nodes in the order of their numbers. Assumes nothing.
+use mathlib.Core.Path.{_≡_, sym, ap, _∙_}
+use mathlib.Core.Bool.{Bool, true, false, cond}
+use mathlib.Core.List.{List, _++_, append-nil}
+use Prim.Native.Nat.{ℕ, suc}
+use native.Mathlib.Omega.{arith}
+use lib.ListN.{length, drop, replicate, length-map, drop-of-length-le}
+use Rattle.basis.specs.Lists.{overwrite, upFrom, position}
+use Rattle.basis.proofs.Lists.{length-upFrom}
+use Rattle.basis.proofs.Logic.{fails}
+use Rattle.spec.specs.Lent.{zeroed}
+use Rattle.spec.specs.Measures.{isNumbering, orderOf}
+use Rattle.laws.proofs.Lent.{zeroed-is, zeroed-behind}
+use Rattle.laws.proofs.Numberings.{numbering-length}
+
+-- words all set to 0
+pub zeroed-all : (n : ℕ) (l : List ℕ) → length l ≡ n → zeroed n l ≡ replicate n 0
+zeroed-all n l e =
+    zeroed-is n l ∙ ap (λ (r : List ℕ). replicate n 0 ++ r) (drop-of-length-le l {i = n} (omega arith)) ∙ append-nil (replicate n 0)
+
+-- a numbering of another length is none
+pub misfit : (n : ℕ) (x : List ℕ) → (length x ≡ n → ⊥) → isNumbering n x ≡ false
+misfit n x ne = fails _ (λ ok. ne (numbering-length n x ok))
+
+pub length-orderOf : (x : List ℕ) → length (orderOf x) ≡ length x
+unfolding orderOf
+length-orderOf x = length-map (upFrom 1 (length x)) (λ i. suc (position i x)) ∙ length-upFrom 1 (length x)
+
+-- the front that was cleared and lent comes back, with the words behind it
+pub lent-back : (n : ℕ) (x old w c : List ℕ) (r : Bool) → length x ≡ n → c ≡ zeroed n old → w ≡ cond r (orderOf x) (replicate n 0)
+    → w ++ drop n c ≡ cond r (overwrite (orderOf x) old) (zeroed n old)
+lent-back n x old w c r len clean new = ap (λ (d : List ℕ). w ++ drop n d) clean ∙ ap (λ (d : List ℕ). w ++ d) (zeroed-behind n old) ∙ go r new
+  where
+    go : (r : Bool) → w ≡ cond r (orderOf x) (replicate n 0) → w ++ drop n old ≡ cond r (overwrite (orderOf x) old) (zeroed n old)
+    go true e = ap (λ (d : List ℕ). d ++ drop n old) e ∙ ap (λ (k : ℕ). orderOf x ++ drop k old) (sym (length-orderOf x ∙ len))
+    go false e = ap (λ (d : List ℕ). d ++ drop n old) e ∙ sym (zeroed-is n old)

@@ -1,0 +1,4 @@
+pub mod Settle
+pub mod Folds
+pub mod Lent
+pub mod Envelope
