@@ -14,7 +14,7 @@ use Rattle.basis.specs.Lists.{anyb}
 use Rattle.basis.proofs.Logic.{or-none, lt-or-le}
 use Rattle.spec.specs.Refusal.{refuse, _orElse_}
 use Rattle.spec.specs.Graph.{outside}
-use Rattle.spec.specs.Mesh.{nodeCount, repeats, badNodes, elementRefusal, elementsRefusal}
+use Rattle.spec.specs.Mesh.{nodeCount, repeats, badNodes, elementRefusal, elementsRefusal, elementsIn, elements}
 use Rattle.laws.proofs.Refused.{or-else-zero, refuse-zero}
 use Rattle.elements.proofs.Remains.{drop-next}
 
@@ -108,3 +108,42 @@ module _ (n : ℕ) (ws : List ℕ) (at : ℕ) (h : at < length ws) where
 pub refusal-over : (n : ℕ) (ws : List ℕ) (at : ℕ) → refusalFrom n ws ≡ refusalFrom n (drop at ws) → length ws ≤ at → 0 ≡ refusalFrom n ws
 unfolding elementsRefusal
 refusal-over n ws at rest h = sym (rest ∙ ap (refusalFrom n) (drop-of-length-le ws h))
+
+-- of elements that are not refused, the one at `at` isn't, nor are those after it
+pub refusal-none : (n : ℕ) (ws : List ℕ) (at : ℕ) → at < length ws → refusalFrom n (drop at ws) ≡ 0
+    → (elementRefusal 9 n (getD ws at 0) (drop (at + 1) ws) ≡ 0) × (refusalFrom n (drop (at + 1 + nodeCount (getD ws at 0)) ws) ≡ 0)
+refusal-none n ws at h z = or-else-zero (elementRefusal 9 n (getD ws at 0) (drop (at + 1) ws)) _ (sym (refusal-next n ws at h) ∙ z)
+
+-- ---- the nodes of the elements one by one
+
+pub enough-in : (f g : ℕ) (ws : List ℕ) → length ws ≤ f → length ws ≤ g → elementsIn f ws ≡ elementsIn g ws
+unfolding elementsIn
+enough-in zero zero ws a b = refl
+enough-in zero (suc g) [] a b = refl
+enough-in zero (suc g) (k ∷ ws) a b = absurd (omega arith)
+enough-in (suc f) zero [] a b = refl
+enough-in (suc f) zero (k ∷ ws) a b = absurd (omega arith)
+enough-in (suc f) (suc g) [] a b = refl
+enough-in (suc f) (suc g) (k ∷ ws) a b =
+    ap (λ (r : List (List ℕ)). take (nodeCount k) ws ∷ r)
+    (enough-in f g (drop (nodeCount k) ws) (omega (arith, length-drop (nodeCount k) ws)) (omega (arith, length-drop (nodeCount k) ws)))
+
+-- the nodes of the element at `at`, then those of the elements after it
+pub elements-next : (ws : List ℕ) (at : ℕ) → at < length ws
+    → elements (drop at ws) ≡ take (nodeCount (getD ws at 0)) (drop (at + 1) ws) ∷ elements (drop (at + 1 + nodeCount (getD ws at 0)) ws)
+unfolding elements elementsIn
+elements-next ws at h =
+    ap (λ (l : List ℕ). elementsIn (length l) l) (drop-next ws at h)
+    ∙ ap (λ (r : List (List ℕ)). take (nodeCount k) tail ∷ r)
+    (enough-in (length tail) (length (drop (nodeCount k) tail)) (drop (nodeCount k) tail) (omega (arith, length-drop (nodeCount k) tail)) (omega arith)
+    ∙ ap (λ (l : List ℕ). elementsIn (length l) l) (drop-drop (nodeCount k) (at + 1) ws))
+  where
+    k : ℕ
+    k = getD ws at 0
+
+    tail : List ℕ
+    tail = drop (at + 1) ws
+
+pub elements-over : (ws : List ℕ) (at : ℕ) → length ws ≤ at → elements (drop at ws) ≡ []
+unfolding elements elementsIn
+elements-over ws at h = ap (λ (l : List ℕ). elementsIn (length l) l) (drop-of-length-le ws h)

@@ -1,5 +1,6 @@
 -- The envelope of a numbering, walked by old number: f, the spans and their sum. Assumes nothing.
-use mathlib.Core.Path.{_≡_, sym, ap, _∙_}
+use mathlib.Core.Path.{_≡_, sym, ap, ap₂, _∙_, subst}
+use mathlib.Core.Logic.{⊎-elim}
 use mathlib.Core.Bool.{true}
 use mathlib.Core.List.{List, map}
 use Prim.Native.Nat.{ℕ, _+_, _-_, _≤_}
@@ -7,8 +8,8 @@ use native.Mathlib.Numerals.{add-one}
 use native.Mathlib.Omega.{arith}
 use lib.ListN.{getD}
 use Rattle.basis.specs.Lists.{least, sum, upFrom}
-use Rattle.basis.proofs.Index.{memb-getD, least-le}
-use Rattle.basis.proofs.Lists.{sum-cong, sum-step}
+use Rattle.basis.proofs.Index.{memb-getD, least-le, least-is}
+use Rattle.basis.proofs.Lists.{map-memb, sum-cong, sum-step}
 use Rattle.spec.specs.Graph.{Graph, nodes, adjoins, ofNode}
 use Rattle.spec.specs.Measures.{isNumbering, renumbered, firstIn, rowSpan, profile}
 use Rattle.laws.specs.Legal.{Node, LegalGraph}
@@ -28,12 +29,13 @@ row-words {g} G p n e = record {
 abbrev pub spans : Graph → List ℕ → ℕ → ℕ
 spans g x p = sum (map (λ a. rowSpan (renumbered g x) (ofNode x a)) (upFrom 1 p))
 
-pub spans-more : (g : Graph) (x : List ℕ) (p : ℕ) → spans g x (p + 1) ≡ spans g x p + rowSpan (renumbered g x) (ofNode x (p + 1))
-spans-more g x p =
+-- one node more
+pub spans-more : (g : Graph) (x : List ℕ) (p : ℕ) {t r : ℕ} → t ≡ spans g x p → r ≡ rowSpan (renumbered g x) (ofNode x (p + 1)) → t + r ≡ spans g x (p + 1)
+spans-more g x p {t} {r} et er =
     let e : 1 + p ≡ p + 1 = omega arith in
-    ap (spans g x) (add-one p)
-    ∙ sum-step (λ a. rowSpan (renumbered g x) (ofNode x a)) 1 p
-    ∙ ap (λ (a : ℕ). spans g x p + rowSpan (renumbered g x) (ofNode x a)) e
+    ap₂ _+_ et er
+    ∙ ap (λ (a : ℕ). spans g x p + rowSpan (renumbered g x) (ofNode x a)) (sym e)
+    ∙ sym (ap (spans g x) (add-one p) ∙ sum-step (λ a. rowSpan (renumbered g x) (ofNode x a)) 1 p)
 
 module _ {g : Graph} (G : LegalGraph g) (x : List ℕ) (ok : isNumbering (g .size) x ≡ true) where
   -- f is the least over the row
@@ -43,6 +45,18 @@ module _ {g : Graph} (G : LegalGraph g) (x : List ℕ) (ok : isNumbering (g .siz
   -- at most the number itself, which is at most n
   pub first-most : (p : ℕ) → Node g p → firstIn (renumbered g x) (ofNode x p) ≤ ofNode x p
   first-most p P = omega (arith, first-row p P, least-le (ofNode x p) (map (ofNode x) (g .row p)))
+
+  -- and at least 1
+  pub first-low : (p : ℕ) → Node g p → 1 ≤ firstIn (renumbered g x) (ofNode x p)
+  unfolding adjoins
+  first-low p P =
+      subst (λ (v : ℕ). 1 ≤ v) (first-row p P)
+      (⊎-elim
+      (λ (e : least (ofNode x p) (map (ofNode x) (g .row p)) ≡ ofNode x p). omega (arith, number-node G x ok p P .low))
+      (λ m.
+      let w = map-memb (ofNode x) (g .row p) (least (ofNode x p) (map (ofNode x) (g .row p))) m in
+      omega (arith, w .2, number-node G x ok (w .0) (G .inside p (w .0) (w .1)) .low))
+      (least-is (ofNode x p) (map (ofNode x) (g .row p))))
 
   pub number-most : (p : ℕ) → Node g p → ofNode x p ≤ g .size
   number-most p P = number-node G x ok p P .high

@@ -8,7 +8,7 @@ use Rattle.spec.specs.Refusal.{_orElse_}
 use Rattle.spec.specs.Lent.{accepted, refused, outcome}
 use Rattle.spec.specs.Graph.{graphOf, refuses1, refuses2, refuses3, refuses4, graphRefusal}
 use Rattle.spec.specs.CallsLevels.{adjacencyAnswer}
-use Rattle.laws.proofs.Lent.{outcome-accepted}
+use Rattle.laws.proofs.Lent.{outcome-accepted, outcome-refused}
 use Rattle.laws.proofs.Refused.{passed, starts-of, not-refused}
 use Rattle.graph.specs.Answer.{meaning}
 use Rattle.graph.specs.Facts.{LegalLists, RefusedLists}
@@ -43,12 +43,6 @@ module _ (S N : List ℕ) where
   none a b c d = rw (a, b, c, d)
 
 -- ---- what a caller learns from the answer
-
--- an outcome that is refused has the number asked for, which is not 0
-pub outcome-refused : {A : Type 0} (c d : ℕ) (a : A) → outcome c a ≡ refused d → (c ≡ d) × (1 ≤ d)
-unfolding outcome
-outcome-refused zero d a e = let z : _≡_ {A = ℕ} 0 1 = cc in absurd (omega arith)
-outcome-refused (suc c) d a e = let q : suc c ≡ d = cc in (q, omega arith)
 
 -- Legal: the two lists are a legal graph
 pub legal-lists : (S N : List ℕ) {r : Adjacency} → meaning r ≡ adjacencyAnswer S N → r ≡ Legal → LegalLists S N

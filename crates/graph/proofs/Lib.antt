@@ -1,3 +1,2 @@
-pub mod Walks
 pub mod Rows
 pub mod Answers

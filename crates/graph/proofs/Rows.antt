@@ -1,4 +1,4 @@
--- What the tests say, as the code meets them: the starts after tests 1 and 2, a row word by word, the rows after test 3, and degrees by the starts.
+-- What the tests say, as the code meets them: the first two by the starts, the third word by word, and the partners of a row.
 -- Assumes nothing.
 use mathlib.Core.Path.{_≡_, sym, ap, _∙_}
 use mathlib.Core.Logic.{⊎-elim}
@@ -15,11 +15,11 @@ use Rattle.basis.proofs.Index.{last-at, memb-getD}
 use Rattle.basis.proofs.Lists.{any-none}
 use Rattle.basis.proofs.Logic.{by-test, or-none, or-left, or-right, or-neither, same, lt-or-le}
 use Rattle.basis.proofs.Rise.{chain-rise}
+use Rattle.basis.proofs.Walk.{any-at, any-walked, chain-broken, chain-walked, head-at, chain-weaker}
 use Rattle.spec.specs.Graph.{Graph, nodes, adjoins, degree, beforeE, sizeOf, rowOf, graphOf, maxNodes, maxEntries, badSize, outside, refuses1, refuses2, badRow, refuses3}
 use Rattle.laws.specs.Legal.{Node, Starts}
-use Rattle.laws.proofs.Legal.{in-nodes}
+use Rattle.laws.proofs.Refused.{row-rises, row-inside}
 use Rattle.graph.specs.Facts.{Rows}
-use Rattle.graph.proofs.Walks.{any-at, any-walked, chain-broken, chain-walked, head-at, chain-weaker}
 
 -- ---- the starts
 
@@ -72,48 +72,6 @@ module _ (S N : List ℕ) (l : 1 ≤ length S) where
       let h : ltb maxEntries (lastOr 0 S) ≡ false = le-ltb maxEntries (lastOr 0 S) (rw (last-at 0 0 S l) c) in
       by-test (chainb leb S) (λ u. rw (e, f, h, u)) (λ u. rw (e, f, h, u))
 
--- tests 1 and 2 passed: the starts are as they should be
-pub starts-from : (S N : List ℕ) → refuses1 S ≡ false → refuses2 S N ≡ false → Starts S N
-unfolding refuses1 refuses2
-starts-from S N one two =
-    let a = or-none (eqb (length S) 0) (badSize (sizeOf S)) one .1 in
-    let b = or-none (eqb (sizeOf S) 0) (ltb maxNodes (sizeOf S)) a in
-    let some : length S - 1 ≡ 0 → ⊥ = eqb-false (sizeOf S) 0 (b .0) in
-    let few : length S - 1 ≤ 4096 = ltb-false maxNodes (sizeOf S) (b .1) in
-    let l : 1 ≤ length S = omega arith in
-    let b1 : Bool = not (eqb (headOr 1 S) 0) in
-    let b2 : Bool = not (chainb leb S) in
-    let b3 : Bool = not (eqb (lastOr 0 S) (length N)) in
-    let u = or-none (b1 || b2 || b3) (ltb maxEntries (lastOr 0 S)) two in
-    let v = or-none (b1 || b2) b3 (u .0) in
-    let w = or-none b1 b2 (v .0) in
-    let e1 = eqb-true (headOr 1 S) 0 (not-false (eqb (headOr 1 S) 0) (w .0)) in
-    let e3 = eqb-true (lastOr 0 S) (length N) (not-false (eqb (lastOr 0 S) (length N)) (v .1)) in
-    let e4 : lastOr 0 S ≤ 32768 = ltb-false maxEntries (lastOr 0 S) (u .1) in
-    record {
-      count = omega arith;
-      some = omega arith;
-      few = few;
-      first = sym (head-at 0 1 S l) ∙ e1;
-      rise = chain-rise S (not-false (chainb leb S) (w .1));
-      last = sym (last-at 0 0 S l) ∙ e3;
-      small = omega arith;
-    }
-
--- where row p begins and ends
-pub row-ends : {S N : List ℕ} → Starts S N → (p : ℕ) → 1 ≤ p → p ≤ sizeOf S
-    → (getD S (p - 1) 0 ≤ getD S p 0) × (getD S p 0 ≤ length N) × (length N ≤ 32768)
-row-ends {S} {N} h p low high =
-    let n : length S ≡ suc (length S - 1) = h .count in
-    let m : getD S (length S - 1) 0 ≡ length N = h .last in
-    let up : getD S p 0 ≤ getD S (length S - 1) 0 = h .rise p (length S - 1) high (omega arith) in
-    (h .rise (p - 1) p (omega arith) (omega arith), omega arith, h .small)
-
--- a degree is the difference of two starts
-pub degree-starts : (S N : List ℕ) → Starts S N → (p : ℕ) → 1 ≤ p → p ≤ sizeOf S → degree (graphOf S N) p ≡ getD S p 0 - getD S (p - 1) 0
-unfolding degree rowOf
-degree-starts S N h p low high = length-slice (getD S (p - 1) 0) (getD S p 0) N (row-ends h p low high .1)
-
 -- ---- one row, word by word; the word before word j is word j of 0 ∷ r
 
 module _ (n p : ℕ) (r : List ℕ) where
@@ -163,26 +121,8 @@ module _ (n p : ℕ) (r : List ℕ) where
 
 -- ---- the rows, after test 3
 
-good-row : (S N : List ℕ) → refuses3 (graphOf S N) ≡ false → (p : ℕ) → Node (graphOf S N) p → badRow (sizeOf S) p (rowOf S N p) ≡ false
-unfolding refuses3
-good-row S N three p m =
-    any-none (λ p. badRow (sizeOf S) p (rowOf S N p)) (nodes (graphOf S N)) p three (in-nodes (graphOf S N) p m)
-
 pub rows-from : {S N : List ℕ} → Starts S N → refuses3 (graphOf S N) ≡ false → Rows S N
-unfolding badRow
-rows-from {S} {N} h three = record {
-  begin = h;
-  rises = λ p m.
-      let r = rowOf S N p in
-      not-false (chainb ltb r) (or-none (anyb (outside (sizeOf S)) r || memb p r) (not (chainb ltb r)) (good-row S N three p m) .1);
-  inside = λ p q m i.
-      let r = rowOf S N p in
-      let a = or-none (anyb (outside (sizeOf S)) r || memb p r) (not (chainb ltb r)) (good-row S N three p m) .0 in
-      let o = any-none (outside (sizeOf S)) r q (or-none (anyb (outside (sizeOf S)) r) (memb p r) a .0) i in
-      let b = or-none (eqb q 0) (ltb (sizeOf S) q) o in
-      let z : q ≡ 0 → ⊥ = eqb-false q 0 (b .0) in
-      record { low = omega arith; high = ltb-false (sizeOf S) q (b .1) };
-}
+rows-from {S} {N} h three = record { begin = h; rises = row-rises S N three; inside = row-inside S N three }
 
 -- the words of a row that rises never fall
 pub row-sorted : (r : List ℕ) → chainb ltb r ≡ true → (i j : ℕ) → i ≤ j → j < length r → getD r i 0 ≤ getD r j 0
@@ -201,21 +141,6 @@ row-parted p r lo under over =
 -- the entries of row p are nodes
 pub row-node : {S N : List ℕ} → Rows S N → {p : ℕ} → Node (graphOf S N) p → (r : List ℕ) → r ≡ rowOf S N p → (j : ℕ) → j < length r → Node (graphOf S N) (getD r j 0)
 row-node {S} {N} h {p} m r e j b = h .inside p (getD r j 0) m (ap (memb (getD r j 0)) (sym e) ∙ memb-getD r j b)
-
--- ---- order E, by the two degrees
-
-module _ (g : Graph) (p q : ℕ) where
-  pub E-lower : degree g p < degree g q → beforeE g p q ≡ true
-  unfolding beforeE
-  E-lower h = rw (lt-ltb (degree g p) (degree g q) h)
-
-  pub E-higher : degree g q < degree g p → beforeE g p q ≡ false
-  unfolding beforeE
-  E-higher h = rw (le-ltb (degree g p) (degree g q) (omega arith), ne-eqb (degree g p) (degree g q) (λ e. omega arith))
-
-  pub E-tie : degree g p ≡ degree g q → beforeE g p q ≡ ltb p q
-  unfolding beforeE
-  E-tie h = rw (le-ltb (degree g p) (degree g q) (omega arith), eq-eqb (degree g p) (degree g q) h)
 
 -- ---- the partners of the entries of row p, which is r
 

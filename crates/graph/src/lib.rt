@@ -1,6 +1,6 @@
 // The adjacency test: whether a start list of n + 1 words and a neighbour list are a legal graph. Nothing is lent, nothing is written.
 ghost use mathlib.Core.Path.{_≡_};
-ghost use mathlib.Core.Bool.{true, false, not};
+ghost use mathlib.Core.Bool.{true, not};
 ghost use Prim.Native.Nat.{_≤_};
 ghost use lib.ListN.{length};
 ghost use lib.Dec.{leb, ltb};

@@ -19,42 +19,59 @@ fn say(name: &[u8], starts: &[u16], neighbours: &[u16]) {
 }
 
 // n is counted from the start list: no word and one word give no node, 4,098 words one node too many.
-fn counts() {
+fn few_starts() {
     say(b"no starts", &[0u16; 0], &[0u16; 0]);
     say(b"one start", &[0u16; 1], &[0u16; 0]);
     say(b"one node", &[0u16; 2], &[0u16; 0]);
+}
+
+fn many_starts() {
     say(b"4,096 nodes", &[0u16; 4097], &[0u16; 0]);
     say(b"4,097 nodes", &[0u16; 4098], &[0u16; 0]);
     say(b"70,000 starts", &[0u16; 70000], &[0u16; 0]);
-    say(b"no starts, 70,000 neighbours", &[0u16; 0], &[0u16; 70000]);
-    say(b"one node, 70,000 neighbours", &[0u16; 2], &[0u16; 70000]);
 }
 
-fn starts() {
-    let pair = [2u16, 1];
-    say(b"two nodes that adjoin", &[0u16, 1, 2], &pair);
-    say(b"first start 1", &[1u16, 1, 2], &pair);
-    say(b"starts fall", &[0u16, 2, 1, 2], &pair);
-    say(b"last start low", &[0u16, 1, 1], &pair);
-    say(b"last start high", &[0u16, 1, 3], &pair);
-    say(b"all words 65,535", &[65535u16; 3], &[65535u16; 2]);
+fn many_neighbours() {
+    say(b"no starts, 70,000 neighbours", &[0u16; 0], &[0u16; 70000]);
+    say(b"one node, 70,000 neighbours", &[0u16; 2], &[0u16; 70000]);
     say(b"32,769 neighbours", &[0u16, 32769], &[1u16; 32769]);
 }
 
-fn rows() {
+fn wrong_ends() {
+    say(b"first start 1", &[1u16, 1, 2], &[2u16, 1]);
+    say(b"last start low", &[0u16, 1, 1], &[2u16, 1]);
+    say(b"last start high", &[0u16, 1, 3], &[2u16, 1]);
+}
+
+fn wrong_starts() {
+    say(b"starts fall", &[0u16, 2, 1, 2], &[2u16, 1]);
+    say(b"all words 65,535", &[65535u16; 3], &[65535u16; 2]);
+}
+
+fn words_outside() {
     say(b"a word 0", &[0u16, 1, 2], &[0u16, 1]);
     say(b"a word above n", &[0u16, 1, 2], &[2u16, 3]);
     say(b"words 65,535", &[0u16, 1, 2], &[65535u16; 2]);
+}
+
+fn wrong_rows() {
     say(b"a row holds itself", &[0u16, 1], &[1u16]);
     say(b"a word twice", &[0u16, 2, 4], &[2u16, 2, 1, 1]);
     say(b"a row falls", &[0u16, 2, 3, 4], &[3u16, 2, 1, 1]);
 }
 
-fn partners() {
+fn no_partners() {
     say(b"rows {2}, {}", &[0u16, 1, 1], &[2u16]);
     say(b"rows {}, {1}", &[0u16, 0, 1], &[1u16]);
-    say(b"triangle", &[0u16, 2, 4, 6], &[2u16, 3, 1, 3, 1, 2]);
     say(b"a ring one way", &[0u16, 1, 2, 3], &[2u16, 3, 1]);
+}
+
+fn partners() {
+    say(b"two that adjoin", &[0u16, 1, 2], &[2u16, 1]);
+    say(b"triangle", &[0u16, 2, 4, 6], &[2u16, 3, 1, 3, 1, 2]);
+}
+
+fn stars() {
     say(b"star", &[0u16, 3, 4, 5, 6], &[2u16, 3, 4, 1, 1, 1]);
     say(
         b"star, a leaf astray",
@@ -109,9 +126,15 @@ fn full() {
 }
 
 fn main() {
-    counts();
-    starts();
-    rows();
+    few_starts();
+    many_starts();
+    many_neighbours();
+    wrong_ends();
+    wrong_starts();
+    words_outside();
+    wrong_rows();
+    no_partners();
     partners();
+    stars();
     full();
 }

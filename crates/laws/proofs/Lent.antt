@@ -1,7 +1,7 @@
 -- Answers and lent buffers: what an accepted call says, and the words that it leaves. Assumes nothing.
 use mathlib.Core.Path.{_≡_, refl, sym, ap, _∙_}
 use mathlib.Core.List.{List, _++_}
-use Prim.Native.Nat.{ℕ, zero, suc}
+use Prim.Native.Nat.{ℕ, zero, suc, _≤_}
 use native.Mathlib.Omega.{arith}
 use lib.ListN.{length, take, drop, replicate, length-replicate}
 use lib.Seq.{take-at, drop-at}
@@ -12,6 +12,12 @@ pub outcome-accepted : {A : Type 0} (c : ℕ) (a b : A) → outcome c a ≡ acce
 unfolding outcome
 outcome-accepted zero a b e = (refl, (cc))
 outcome-accepted (suc c) a b e = let z : _≡_ {A = ℕ} 0 1 = cc in absurd (omega arith)
+
+-- an outcome that is refused has the number asked for, which is not 0
+pub outcome-refused : {A : Type 0} (c d : ℕ) (a : A) → outcome c a ≡ refused d → (c ≡ d) × (1 ≤ d)
+unfolding outcome
+outcome-refused zero d a e = let z : _≡_ {A = ℕ} 0 1 = cc in absurd (omega arith)
+outcome-refused (suc c) d a e = let q : suc c ≡ d = cc in (q, omega arith)
 
 -- no refusal: the buffer's front is new, its excess as before
 pub filled-none : (c : ℕ) (new old : List ℕ) → c ≡ 0 → filled c new old ≡ new ++ drop (length new) old

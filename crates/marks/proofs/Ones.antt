@@ -1,11 +1,11 @@
 -- The marks of all bytes, counted byte by byte. Assumes nothing.
-use mathlib.Core.Path.{_≡_, refl, sym, ap, ap₂, _∙_}
+use mathlib.Core.Path.{_≡_, sym, ap, ap₂, _∙_}
 use mathlib.Core.List.{List, map}
 use Prim.Native.Nat.{ℕ, zero, suc, _+_, _*_, _/_, _%_, _^_, _≤_, _<_}
 use native.Mathlib.Nat.{add-zero}
 use native.Mathlib.Omega.{arith}
 use lib.Count as machine
-use lib.ListN.{length, getD}
+use lib.ListN.{getD}
 use Rattle.basis.specs.Lists.{upFrom, sum}
 use Rattle.basis.proofs.Lists.{sum-step}
 use Rattle.spec.specs.Store.{markAt}

@@ -9,7 +9,7 @@ use borrow.Author.Count.{below-more}
 use borrow.Author.Needs.{needs}
 use denote.Ref.{now}
 use Rattle.spec.specs.Graph.{sizeOf, rowOf, graphOf, badRow, refuses3}
-use Rattle.graph.proofs.Walks.{nodes-at, nodes-walked}
+use Rattle.laws.proofs.Legal.{nodes-at, nodes-walked}
 use Rattle.graph.proofs.bad_rows.Statement.{statement}
 use Rattle.graph.proofs.bad_rows.Tie as tie
 

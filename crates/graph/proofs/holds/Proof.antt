@@ -7,7 +7,7 @@ use borrow.Author.Tests.{eq-eqb}
 use denote.Ref.{now}
 use lib.Dec.{eqb}
 use lib.ListN.{length, getD}
-use Rattle.graph.proofs.Walks.{any-at}
+use Rattle.basis.proofs.Walk.{any-at}
 use Rattle.graph.proofs.Rows.{row-sorted, row-parted}
 use Rattle.graph.proofs.holds.Statement.{statement}
 use Rattle.graph.proofs.holds.Tie as tie

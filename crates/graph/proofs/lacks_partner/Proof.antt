@@ -38,7 +38,7 @@ R l = now (l .before .row .result)
 abbrev word : tie.At-loop Inv-loop μ-loop → ℕ
 word l = getD (R l) (l .loop .j) 0
 
--- that word is a node
+-- that word is a node, as p is; the needs cite bounds of both, so that an edit that names the other row meets the fact that fails
 named : (l : tie.At-loop Inv-loop μ-loop) → l .loop .j < length (R l) → Node (graphOf (S l) (N l)) (word l)
 named l h = row-node (entry l .pre .0) (entry l .pre .1) (R l) (l .before .row .ensures) (l .loop .j) h
 
@@ -52,12 +52,18 @@ row-requires : tie.Need-row-requires Inv-loop μ-loop
 row-requires c κs = let s = c .before .before in (s .pre .0 .begin, s .pre .1)
 
 row-requires-2 : tie.Need-row-requires-2 Inv-loop μ-loop
-row-requires-2 c κs = let l = c .before .before in (entry l .pre .0 .begin, named l (omega arith))
+row-requires-2 c κs =
+    let l = c .before .before in
+    let m = entry l .pre .1 in
+    let w = named l (omega arith) in
+    (entry l .pre .0 .begin, record { low = omega (arith, m .low, w .low); high = omega (arith, m .high, w .high) })
 
 holds-requires : tie.Need-holds-requires Inv-loop μ-loop
 holds-requires c κs =
     let l = c .before .before .before in
-    ap (chainb ltb) (c .row2 .ensures) ∙ entry l .pre .0 .rises (word l) (named l (omega arith))
+    let m = entry l .pre .1 in
+    let w = named l (omega arith) in
+    ap (chainb ltb) (c .row2 .ensures) ∙ entry l .pre .0 .rises _ (record { low = omega (arith, m .low, w .low); high = omega (arith, m .high, w .high) })
 
 returns : tie.Need-returns Inv-loop μ-loop
 returns c =

@@ -9,7 +9,7 @@ use borrow.Author.Count.{below-more}
 use denote.Ref.{now}
 use Rattle.basis.specs.Lists.{anyb}
 use Rattle.spec.specs.Graph.{adjoins, sizeOf, rowOf, graphOf, refuses4}
-use Rattle.graph.proofs.Walks.{nodes-at, nodes-walked}
+use Rattle.laws.proofs.Legal.{nodes-at, nodes-walked}
 use Rattle.graph.proofs.lacks_partners.Statement.{statement}
 use Rattle.graph.proofs.lacks_partners.Tie as tie
 

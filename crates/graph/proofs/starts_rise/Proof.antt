@@ -9,7 +9,7 @@ use borrow.Author.Tests.{le-leb, lt-leb}
 use denote.Ref.{now}
 use lib.Dec.{leb}
 use lib.ListN.{length, getD}
-use Rattle.graph.proofs.Walks.{chain-broken, chain-walked}
+use Rattle.basis.proofs.Walk.{chain-broken, chain-walked}
 use Rattle.graph.proofs.starts_rise.Statement.{statement}
 use Rattle.graph.proofs.starts_rise.Tie as tie
 

@@ -8,7 +8,8 @@ use borrow.Author.Needs.{needs}
 use denote.Ref.{now}
 use Rattle.spec.specs.Graph.{graphOf, refuses1, refuses2, refuses3}
 use Rattle.graph.proofs.Answers.{first, second, third, fourth, none}
-use Rattle.graph.proofs.Rows.{some-start, starts-from, rows-from}
+use Rattle.laws.proofs.Refused.{starts-from}
+use Rattle.graph.proofs.Rows.{some-start, rows-from}
 use Rattle.graph.proofs.test_adjacency.Statement.{statement}
 use Rattle.graph.proofs.test_adjacency.Tie as tie
 

@@ -1,6 +1,6 @@
 -- `envelope::legal::profile` meets its contract: the spans of the nodes passed are summed. Assumes nothing.
 use Prim.Native.Nat.{_+_, _-_, _*_, _≤_}
-use mathlib.Core.Path.{_≡_, refl, sym, ap, ap₂, _∙_}
+use mathlib.Core.Path.{_≡_, refl, ap, _∙_}
 use native.Mathlib.Omega.{arith}
 use denote.Ref.{now}
 use lib.ListN.{length}
@@ -52,7 +52,7 @@ loop-again c =
       omega arith,
       l .loop .inv .1,
       omega (arith, short c),
-      ap₂ _+_ (l .loop .inv .3) (c .span .ensures) ∙ sym (spans-more (graph l) (now (entry l .args .numbering)) (l .loop .p)),
+      spans-more (graph l) (now (entry l .args .numbering)) (l .loop .p) (l .loop .inv .3) (c .span .ensures),
     )
 
 returns : tie.Need-returns Inv-loop μ-loop

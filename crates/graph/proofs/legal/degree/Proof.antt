@@ -6,7 +6,7 @@ use native.Mathlib.Omega.{arith}
 use borrow.Author.Needs.{needs}
 use denote.Ref.{now}
 use lib.ListN.{getD}
-use Rattle.graph.proofs.Rows.{row-ends, degree-starts}
+use Rattle.laws.proofs.Refused.{row-ends, degree-starts}
 use Rattle.graph.proofs.legal.degree.Statement.{statement}
 use Rattle.graph.proofs.legal.degree.Tie as tie
 

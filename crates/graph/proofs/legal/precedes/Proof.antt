@@ -5,7 +5,7 @@ use native.Mathlib.Omega.{arith}
 use borrow.Author.Needs.{needs}
 use denote.Ref.{now}
 use Rattle.spec.specs.Graph.{graphOf}
-use Rattle.graph.proofs.Rows.{E-lower, E-higher, E-tie}
+use Rattle.laws.proofs.Orders.{E-lower, E-higher, E-tie}
 use Rattle.graph.proofs.legal.precedes.Statement.{statement}
 use Rattle.graph.proofs.legal.precedes.Tie as tie
 

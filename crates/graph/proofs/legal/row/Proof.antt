@@ -6,8 +6,8 @@ use borrow.Author.Needs.{needs}
 use denote.Ref.{now}
 use lib.ListN.{length, getD}
 use Rattle.spec.specs.Graph.{rowOf}
-use Rattle.graph.proofs.Walks.{part-slice}
-use Rattle.graph.proofs.Rows.{row-ends}
+use Rattle.basis.proofs.Walk.{part-slice}
+use Rattle.laws.proofs.Refused.{row-ends}
 use Rattle.graph.proofs.legal.row.Statement.{statement}
 use Rattle.graph.proofs.legal.row.Tie as tie
 

@@ -7,12 +7,8 @@ use native.Mathlib.Nat.{not-suc-le-zero}
 use native.Mathlib.Omega.{arith}
 use lib.ListN.{length, getD, take, drop}
 use lib.Seq.{take-nil, drop-nil, slice}
 use Rattle.basis.specs.Lists.{anyb, chainb, headOr}
-use Rattle.basis.proofs.Lists.{any-find, any-make}
 use Rattle.basis.proofs.Logic.{clash, fails, and-split, and-make, or-left, or-right, or-neither}
-use Rattle.spec.specs.Graph.{Graph, nodes}
-use Rattle.laws.specs.Legal.{Node}
-use Rattle.laws.proofs.Legal.{node-in, in-nodes}
 
 module _ {A : Type 0} (d : A) where
   -- an element that passes
@@ -61,17 +57,6 @@ chain-weaker s t h (x ∷ []) e = refl
 chain-weaker s t h (x ∷ y ∷ l) e =
     let w = and-split (s x y) (chainb s (y ∷ l)) e in
     and-make (h x y (w .0)) (chain-weaker s t h (y ∷ l) (w .1))
-
--- over the nodes, which a loop counts from 0: one that passes, and none
-module _ (g : Graph) (t : ℕ → Bool) where
-  pub nodes-at : (k : ℕ) → k < g .size → t (k + 1) ≡ true → anyb t (nodes g) ≡ true
-  nodes-at k h e = any-make t (nodes g) (k + 1) (in-nodes g (k + 1) (record { low = omega arith; high = omega arith })) e
-
-  pub nodes-walked : ((k : ℕ) → k < g .size → t (k + 1) ≡ false) → anyb t (nodes g) ≡ false
-  nodes-walked h = fails (anyb t (nodes g)) (λ e. let w = any-find t (nodes g) e in clash (w .2) (each (w .0) (node-in g (w .0) (w .1))))
-    where
-      each : (p : ℕ) → Node g p → t p ≡ false
-      each p m = let q : (p - 1) + 1 ≡ p = omega (arith, m .low) in rw q at (h (p - 1) (omega (arith, m .low, m .high)))
 
 -- the part of a list that the code reads is the slice of the definitions
 pub part-slice : {A : Type 0} (f t : ℕ) (l : List A) → take (t - f) (drop f l) ≡ slice f t l

@@ -1,0 +1,1 @@
+// Models of the functions that combine levels, and their laws: no code.

@@ -1,0 +1,5 @@
+pub mod Pass
+pub mod Words
+pub mod Walk
+pub mod Edges
+pub mod Rows

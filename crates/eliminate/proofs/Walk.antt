@@ -1,0 +1,194 @@
+-- A turn of the pass on the lent words and bytes keeps what holds of them. Assumes nothing.
+use mathlib.Core.Path.{_≡_, refl, sym, ap, ap₂, _∙_}
+use mathlib.Core.Logic.{_⊎_, inl, inr, ⊎-elim}
+use mathlib.Core.Bool.{true, false}
+use mathlib.Core.List.{List}
+use Prim.Native.Nat.{ℕ, zero, suc, _+_, _-_, _*_, _/_, _≤_, _<_}
+use native.Mathlib.Nat.{pos-of-ne-zero}
+use native.Mathlib.Omega.{arith}
+use lib.Dec.{eqb}
+use lib.ListN.{length, getD, set, length-set}
+use borrow.Author.Tests.{eqb-true, eq-eqb, lt-ltb}
+use Rattle.basis.proofs.Index.{least-is}
+use Rattle.basis.proofs.Logic.{and-split, or-split, or-left, or-right}
+use Rattle.spec.specs.Graph.{Graph, adjoins}
+use Rattle.spec.specs.Measures.{firstIn, rowSpan, profile}
+use Rattle.spec.specs.Store.{startOf, hasPlace, place, markByteCount}
+use Rattle.laws.specs.Legal.{LegalGraph}
+use Rattle.laws.proofs.Marks.{profile-fits}
+use Rattle.laws.proofs.Places.{first-le, start-next, start-profile, place-make, place-below, place-inj}
+use Rattle.marks.specs.Marks.{marked, withMark}
+use Rattle.marks.proofs.Marks.{mark-length, mark-other, mark-set}
+use Rattle.eliminate.specs.Walk.{pair, stored, parentIn, placeIn, Room, IsRow, Walk, InRow}
+use Rattle.eliminate.specs.declared.legal.Row.{Row}
+use Rattle.eliminate.proofs.Pass.{met-skip, met-adopt, met-join, met-below}
+use Rattle.eliminate.proofs.Words.{word-at, word-set, word-other}
+
+-- ---- sizes
+
+-- f_q is at least 1
+pub first-low : {h : Graph} → LegalGraph h → (q : ℕ) → 1 ≤ q → 1 ≤ firstIn h q
+unfolding firstIn adjoins
+first-low {h} H q a = ⊎-elim (λ e. omega arith) (λ m. H .inside q _ m .low) (least-is q (h .row q))
+
+-- a row starts below 4096 * 4096, and so does every place
+pub start-small : (h : Graph) (q : ℕ) → q ≤ 4096 → startOf h (suc q) ≤ q * 4096
+unfolding startOf rowSpan
+start-small h zero a = omega arith
+start-small h (suc q) a = omega (arith, start-next h (suc q) (omega arith), start-small h q (omega arith))
+
+pub profile-small : (h : Graph) → h .size ≤ 4096 → profile h ≤ 16777216
+profile-small h a = omega (arith, start-profile h, start-small h (h .size) a)
+
+-- ---- marks as pairs
+
+module _ (h : Graph) (bytes : List ℕ) where
+  pub stored-at : (p q : ℕ) → p < q → firstIn h q ≤ p → stored h bytes p q ≡ marked bytes (place h (pair p q))
+  unfolding stored
+  stored-at p q l f = rw (place-make h (pair p q) l f)
+
+  pub stored-split : (p q : ℕ) → stored h bytes p q ≡ true → (hasPlace h (pair p q) ≡ true) × (marked bytes (place h (pair p q)) ≡ true)
+  unfolding stored
+  stored-split p q e = and-split (hasPlace h (pair p q)) _ e
+
+  stored-make : (p q : ℕ) → hasPlace h (pair p q) ≡ true → marked bytes (place h (pair p q)) ≡ true → stored h bytes p q ≡ true
+  unfolding stored
+  stored-make p q e m = rw e m
+
+-- a mark set at the place of a pair is one pair more
+module _ (h : Graph) (bytes : List ℕ) (r q : ℕ) (has : hasPlace h (pair r q) ≡ true) (fits : place h (pair r q) / 8 < length bytes) where
+  after : List ℕ
+  after = withMark bytes (place h (pair r q))
+
+  pub stored-new : stored h (withMark bytes (place h (pair r q))) r q ≡ true
+  stored-new =
+      stored-make h (withMark bytes (place h (pair r q))) r q has
+      (mark-set bytes (place h (pair r q)) fits (place h (pair r q)) ∙ or-left _ (eq-eqb (place h (pair r q)) _ refl))
+
+  pub stored-grow : (x y : ℕ) → stored h bytes x y ≡ true → stored h (withMark bytes (place h (pair r q))) x y ≡ true
+  stored-grow x y e =
+      let s = stored-split h bytes x y e in
+      stored-make h (withMark bytes (place h (pair r q))) x y (s .0)
+      (mark-set bytes (place h (pair r q)) fits (place h (pair x y)) ∙ or-right (eqb (place h (pair x y)) (place h (pair r q))) (s .1))
+
+  pub stored-only : (x y : ℕ) → stored h (withMark bytes (place h (pair r q))) x y ≡ true → (stored h bytes x y ≡ true) ⊎ ((x ≡ r) × (y ≡ q))
+  stored-only x y e =
+      let s = stored-split h (withMark bytes (place h (pair r q))) x y e in
+      ⊎-elim
+      (λ (z : eqb (place h (pair x y)) (place h (pair r q)) ≡ true).
+      let i = place-inj h (pair x y) (pair r q) (s .0) has (eqb-true (place h (pair x y)) (place h (pair r q)) z) in
+      inr (ap (λ w. w .low) i, ap (λ w. w .high) i))
+      (λ (z : marked bytes (place h (pair x y)) ≡ true). inl (stored-make h bytes x y (s .0) z))
+      (or-split (eqb (place h (pair x y)) (place h (pair r q))) _ (sym (mark-set bytes (place h (pair r q)) fits (place h (pair x y))) ∙ s .1))
+
+-- ---- one turn
+
+module _ {h : Graph} {row : Row} (R : IsRow h row) where
+  -- the place that the code computes
+  pub place-in : (p : ℕ) → placeIn row p ≡ place h (pair p (row .q))
+  unfolding place
+  place-in p = ap₂ (λ (s f : ℕ). s + (p - f)) (R .start) (R .first)
+
+  pub row-has : (p : ℕ) → InRow row p → hasPlace h (pair p (row .q)) ≡ true
+  row-has p I = place-make h (pair p (row .q)) (I .less) (omega (arith, R .first, I .low))
+
+  -- the room that a pair of the row needs
+  pub row-room : h .size ≤ 4096 → (bytes : ℕ) → bytes ≡ markByteCount h → (p : ℕ) → InRow row p → Room row bytes p
+  row-room few bytes e p I =
+      let b : placeIn row p < profile h = rw (place-in p) (place-below h (pair p (row .q)) (row-has p I) (R .high)) in
+      record {
+        low = I .low;
+        small = omega (arith, profile-small h few);
+        fits = omega (arith, profile-fits h);
+      }
+
+module _ {h : Graph} {o words bytes : List ℕ} {row : Row} {p : ℕ} (R : IsRow h row) (w : Walk h o words bytes (row .q) (row .q) p) where
+  pub room : (x : ℕ) → InRow row x → Room row (length bytes) x
+  room x I = row-room R (w .few) (length bytes) (w .room) x I
+
+  -- q is a number of 16 bits
+  pub number-fits : row .q ≤ 4096
+  number-fits = omega (arith, R .high, w .few)
+
+  module _ (I : InRow row p) where
+    pub low : 1 ≤ p
+    low = omega (arith, first-low (w .legal) (row .q) (R .low), R .first, I .low)
+
+    pub index : p - 1 < length words
+    index = omega (arith, w .size, I .less, R .high, low)
+
+    here : stored h bytes p (row .q) ≡ marked bytes (placeIn row p)
+    here = stored-at h bytes p (row .q) (I .less) (omega (arith, R .first, I .low)) ∙ ap (marked bytes) (sym (place-in R p))
+
+    parent-at : parentIn (row .q) words p ≡ getD words (p - 1) 0
+    unfolding parentIn
+    parent-at = rw (lt-ltb p (row .q) (I .less)) (word-at words p low)
+
+    pub turned-skip : marked bytes (placeIn row p) ≡ false → Walk h o words bytes (row .q) (row .q) (suc p)
+    turned-skip e = record {
+      legal = w .legal;
+      few = w .few;
+      size = w .size;
+      room = w .room;
+      spare = w .spare;
+      ahead = w .ahead;
+      met = met-skip (w .legal) (w .met) (here ∙ e);
+    }
+
+    module _ (e : marked bytes (placeIn row p) ≡ true) where
+      pub turned-adopt : getD words (p - 1) 0 ≡ 0 → Walk h o (set words (p - 1) (row .q)) bytes (row .q) (row .q) (suc p)
+      unfolding parentIn
+      turned-adopt z = record {
+        legal = w .legal;
+        few = w .few;
+        size = simp length-set (w .size);
+        room = w .room;
+        spare = w .spare;
+        ahead = λ j l. word-other words p (row .q) low j (omega (arith, I .less)) ∙ w .ahead j l;
+        met = met-adopt (w .legal) (w .met) low (I .less) (here ∙ e) (parent-at ∙ z) (parentIn (row .q) (set words (p - 1) (row .q)))
+            (rw (lt-ltb p (row .q) (I .less)) (word-set words p (row .q) low (omega (arith, index))))
+            (λ i d. rw (word-other words p (row .q) low i d));
+      }
+
+      parent-some : (getD words (p - 1) 0 ≡ 0 → ⊥) → 1 ≤ parentIn (row .q) words p
+      parent-some z = omega (arith, parent-at, pos-of-ne-zero z)
+
+      -- the parent of p is a number of the row
+      pub parent-in : (getD words (p - 1) 0 ≡ 0 → ⊥) → InRow row (getD words (p - 1) 0)
+      parent-in z =
+          let a = parent-some z in
+          record {
+            low = omega (arith, parent-at, w .met .parent p a .0, I .low);
+            less = omega (arith, parent-at, met-below (w .legal) (w .met) a);
+          }
+
+      pub turned-join : (getD words (p - 1) 0 ≡ 0 → ⊥) → Walk h o words (withMark bytes (placeIn row (getD words (p - 1) 0))) (row .q) (row .q) (suc p)
+      turned-join z = rw (place-in R r) (record {
+        legal = w .legal;
+        few = w .few;
+        size = w .size;
+        room = mark-length bytes (place h (pair r (row .q))) ∙ w .room;
+        spare = λ t l. mark-other bytes (place h (pair r (row .q))) fits t (omega (arith, below)) ∙ w .spare t l;
+        ahead = w .ahead;
+        met = met-join (w .legal) (w .met) low (I .less) (here ∙ e) r parent-at (pos-of-ne-zero z) (stored h (withMark bytes (place h (pair r (row .q)))))
+            (stored-new h bytes r (row .q) has fits) (stored-grow h bytes r (row .q) has fits) (stored-only h bytes r (row .q) has fits);
+      })
+        where
+          r : ℕ
+          r = getD words (p - 1) 0
+
+          I′ : InRow row r
+          I′ = parent-in z
+
+          has : hasPlace h (pair r (row .q)) ≡ true
+          has = row-has R r I′
+
+          below : place h (pair r (row .q)) < profile h
+          below = place-below h (pair r (row .q)) has (R .high)
+
+          fits : place h (pair r (row .q)) / 8 < length bytes
+          fits = rw (place-in R r) at (room r I′ .fits)
+
+-- f_q is at most q
+pub first-high : {h : Graph} {row : Row} → IsRow h row → row .first ≤ row .q
+first-high {h} {row} R = omega (arith, R .first, first-le h (row .q))

@@ -1,0 +1,12 @@
+-- What the answers of this library mean in document 01's numbers and values. Assumes nothing.
+use Rattle.spec.specs.Lent.{Outcome, accepted, refused}
+use Rattle.spec.specs.CallsLevels.{LevelFigures}
+use Rattle.levels.specs.declared.answer.RootedAnswer.{RootedAnswer}
+use Rattle.levels.specs.declared.answer.RootedAnswer.the-variants.{Refused, Levels}
+
+-- rooted levels
+abbrev pub rootedMeaning : RootedAnswer → Outcome LevelFigures
+-- 1 to 6 of the table, by its number
+rootedMeaning (Refused c) = refused c
+-- "Depth, width and the count reached are returned"
+rootedMeaning (Levels d w r) = accepted (record { depth = d; width = w; reached = r })

@@ -1,0 +1,51 @@
+// Document 01's first library: rooted levels, the ends of a part and its combined levels. Each call tests what it is handed, in the order of
+// the table: 1 to 4, then 5, then 6.
+pub mod answer;
+
+ghost use mathlib.Core.Path.{_≡_};
+ghost use Rattle.spec.specs.Graph.{outside};
+ghost use Rattle.spec.specs.CallsLevels.{rootedAnswer, rootedLevels};
+ghost use Rattle.levels.specs.Answers.{rootedMeaning};
+use answer::RootedAnswer;
+use graph::Adjacency;
+use words::wide;
+
+// 6: a given node is 0 or above n.
+fn no_node(n: usize, p: u16) -> bool
+    ensures { λ r. ⌜ r ≡ outside n p ⌝ }
+{
+    if p == 0 {
+        return true;
+    }
+    n < wide(p)
+}
+
+// Rooted levels: depth, width and the count reached; the levels by old number in the n words lent.
+pub fn rooted_levels(
+    starts: &[u16],
+    neighbours: &[u16],
+    root: u16,
+    levels: &mut [u16],
+) -> RootedAnswer
+    ensures { λ r. ⌜ rootedMeaning r ≡ rootedAnswer (now (starts .entry)) (now (neighbours .entry)) root (now (levels .entry)) ⌝ }
+    ensures { λ _. ⌜ now (levels .exit) ≡ rootedLevels (now (starts .entry)) (now (neighbours .entry)) root (now (levels .entry)) ⌝ }
+{
+    match graph::test_adjacency(starts, neighbours) {
+        Adjacency::Refused(c) => RootedAnswer::Refused(c),
+        Adjacency::Legal => {
+            let n = starts.len() - 1;
+            if levels.len() < n {
+                return RootedAnswer::Refused(5);
+            }
+            if no_node(n, root) {
+                return RootedAnswer::Refused(6);
+            }
+            let f = scan::legal::scan(starts, neighbours, root, &mut levels[0..n]);
+            RootedAnswer::Levels {
+                depth: f.depth,
+                width: f.width,
+                reached: f.reached,
+            }
+        }
+    }
+}

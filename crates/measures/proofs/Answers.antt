@@ -1,0 +1,97 @@
+-- The answer of the measures call, and the scratch afterwards, by the tests in turn. Assumes nothing.
+use mathlib.Core.Path.{_≡_, refl, sym, ap, ap₂, _∙_}
+use mathlib.Core.Bool.{Bool, true, false, not, _||_}
+use mathlib.Core.List.{List, _++_}
+use Prim.Native.Nat.{ℕ, zero, suc, _≤_, _<_}
+use native.Mathlib.Omega.{arith}
+use lib.ListN.{length, drop, replicate}
+use lib.Seq.{drop-at}
+use lib.Dec.{eqb}
+use borrow.Author.Tests.{lt-ltb, le-ltb, ne-eqb}
+use Rattle.basis.specs.Lists.{overwrite}
+use Rattle.basis.proofs.Logic.{or-neither}
+use Rattle.spec.specs.Refusal.{refuse, _orElse_}
+use Rattle.spec.specs.Lent.{accepted, refused, outcome, zeroed, scratchAfter, short}
+use Rattle.spec.specs.Graph.{graphOf, graphRefusal, sizeOf, refuses1, refuses2, refuses3, refuses4}
+use Rattle.spec.specs.Measures.{isNumbering, renumbered, bandwidth, profile, front}
+use Rattle.spec.specs.CallsNumbering.{MeasureFigures, measureFigures, measuresRefusal, measuresAnswer, measuresScratch}
+use Rattle.laws.proofs.Lent.{zeroed-is}
+use Rattle.graph.specs.Facts.{LegalLists, RefusedLists}
+use Rattle.graph.proofs.Answers.{refused-first, legal-next}
+
+-- ---- refusals in general
+
+pub outcome-refused : {A : Type 0} (c : ℕ) (a : A) → 1 ≤ c → refused c ≡ outcome c a
+unfolding outcome
+outcome-refused zero a h = absurd (omega arith)
+outcome-refused (suc c) a h = refl
+
+-- the two lists are refused by 4 at most
+pub graph-refusal-most : (S N : List ℕ) → graphRefusal S N ≤ 4
+unfolding graphRefusal
+graph-refusal-most S N = go (refuses1 S) (refuses2 S N) (refuses3 (graphOf S N)) (refuses4 (graphOf S N))
+  where
+    go : (a b c d : Bool) → (refuse a 1 orElse refuse b 2 orElse refuse c 3 orElse refuse d 4) ≤ 4
+    go true b c d = omega arith
+    go false true c d = omega arith
+    go false false true d = omega arith
+    go false false false true = omega arith
+    go false false false false = omega arith
+
+-- ---- the call
+
+module _ (S N X W : List ℕ) where
+  abbrev h : MeasureFigures
+  h = measureFigures (renumbered (graphOf S N) X)
+
+  -- refused by c: but for 7, the scratch is untouched
+  by-refusal : (c : ℕ) → 1 ≤ c → (c ≡ 7 → ⊥) → measuresRefusal S N X W ≡ c → (refused c ≡ measuresAnswer S N X W) × (W ≡ measuresScratch S N X W)
+  unfolding measuresAnswer measuresScratch scratchAfter
+  by-refusal c some other e = (
+    outcome-refused c h some ∙ ap (λ (d : ℕ). outcome d h) (sym e),
+    ap (λ (b : Bool). scratchAfter b (sizeOf S) W) (sym (ap (λ (d : ℕ). eqb d 0 || eqb d 7) e ∙ or-neither (ne-eqb c 0 (λ z. omega arith)) (ne-eqb c 7 other))),
+  )
+
+  -- 1 to 4
+  pub lists-refused : {c : ℕ} → RefusedLists S N c → (refused c ≡ measuresAnswer S N X W) × (W ≡ measuresScratch S N X W)
+  unfolding measuresRefusal
+  lists-refused {c} r =
+      by-refusal c (r .some) (λ (e : c ≡ 7). omega (arith, r .refusal, graph-refusal-most S N))
+      (refused-first r (refuse (short W (sizeOf S)) 5 orElse refuse (not (isNumbering (sizeOf S) X)) 7))
+
+  module _ (L : LegalLists S N) where
+    refusal : {s n : Bool} → short W (sizeOf S) ≡ s → isNumbering (sizeOf S) X ≡ n → measuresRefusal S N X W ≡ refuse s 5 orElse refuse (not n) 7
+    unfolding measuresRefusal
+    refusal p q =
+        legal-next L (refuse (short W (sizeOf S)) 5 orElse refuse (not (isNumbering (sizeOf S) X)) 7)
+        ∙ ap₂ (λ (s n : Bool). refuse s 5 orElse refuse (not n) 7) p q
+
+    -- 5
+    pub scratch-short : length W < sizeOf S → (refused 5 ≡ measuresAnswer S N X W) × (W ≡ measuresScratch S N X W)
+    scratch-short l = by-refusal 5 (omega arith) (λ e. omega arith) (refusal (lt-ltb (length W) (sizeOf S) l) refl)
+
+    -- 7, and none: the scratch words are 0
+    pub misnumbered : sizeOf S ≤ length W → isNumbering (sizeOf S) X ≡ false → (refused 7 ≡ measuresAnswer S N X W) × (zeroed (sizeOf S) W ≡ measuresScratch S N X W)
+    unfolding measuresAnswer measuresScratch scratchAfter outcome
+    misnumbered l q =
+        let e : measuresRefusal S N X W ≡ 7 = refusal (le-ltb (length W) (sizeOf S) l) q in (
+          ap (λ (d : ℕ). outcome d h) (sym e),
+          ap (λ (d : ℕ). scratchAfter (eqb d 0 || eqb d 7) (sizeOf S) W) (sym e),
+        )
+
+    pub measured : sizeOf S ≤ length W → isNumbering (sizeOf S) X ≡ true → (b p f : ℕ)
+        → b ≡ bandwidth (renumbered (graphOf S N) X) → p ≡ profile (renumbered (graphOf S N) X) → f ≡ front (renumbered (graphOf S N) X)
+        → (accepted (record { bandwidth = b; profile = p; front = f }) ≡ measuresAnswer S N X W) × (zeroed (sizeOf S) W ≡ measuresScratch S N X W)
+    unfolding measuresAnswer measuresScratch measureFigures scratchAfter outcome
+    measured l q b p f eb ep ef =
+        let e : measuresRefusal S N X W ≡ 0 = refusal (le-ltb (length W) (sizeOf S) l) q in (
+          rw (eb, ep, ef) (ap (λ (d : ℕ). outcome d h) (sym e)),
+          ap (λ (d : ℕ). scratchAfter (eqb d 0 || eqb d 7) (sizeOf S) W) (sym e),
+        )
+
+-- the words that were lent come back as zeros, before the excess
+pub zeros-back : (n : ℕ) (o W w v : List ℕ) → length o ≡ n → w ≡ replicate n 0 → v ≡ overwrite o W → w ++ drop n v ≡ zeroed n W
+zeros-back n o W w v len ew ev =
+    ap₂ (λ (a b : List ℕ). a ++ drop n b) ew ev
+    ∙ ap (λ (l : List ℕ). replicate n 0 ++ l) (drop-at o (drop (length o) W) n len ∙ ap (λ (k : ℕ). drop k W) len)
+    ∙ sym (zeroed-is n W)

@@ -1,0 +1,5 @@
+pub mod Folds
+pub mod Widths
+pub mod Opened
+pub mod Swept
+pub mod Answers

@@ -1,0 +1,44 @@
+// Bandwidth, profile and front of a legal graph under a numbering. Linear in nodes and entries.
+ghost use mathlib.Core.Path.{_≡_};
+ghost use Rattle.spec.specs.CallsNumbering.{measuresAnswer, measuresScratch};
+ghost use Rattle.measures.specs.Answer.{meaning};
+
+pub mod answer;
+mod band;
+mod fronts;
+
+use answer::Measures;
+use answer::MeasuresAnswer;
+use graph::answer::Adjacency;
+
+// The entry point: a numbering by old number, and a scratch word for each node.
+pub fn measures(
+    starts: &[u16],
+    neighbours: &[u16],
+    numbering: &[u16],
+    scratch: &mut [u16],
+) -> MeasuresAnswer
+    ensures { λ r. ⌜ meaning r ≡ measuresAnswer (now (starts .entry)) (now (neighbours .entry)) (now (numbering .entry)) (now (scratch .entry)) ⌝ }
+    ensures { λ _. ⌜ now (scratch .exit) ≡ measuresScratch (now (starts .entry)) (now (neighbours .entry)) (now (numbering .entry)) (now (scratch .entry)) ⌝ }
+{
+    let tested = graph::test_adjacency(starts, neighbours);
+    if let Adjacency::Refused(c) = tested {
+        return MeasuresAnswer::Refused(c);
+    }
+    let n = starts.len() - 1;
+    if scratch.len() < n {
+        return MeasuresAnswer::Refused(5);
+    }
+    if envelope::legal::numbered(numbering, n, scratch) {
+        let widest = band::bandwidth(starts, neighbours, numbering);
+        let sum = envelope::legal::profile(starts, neighbours, numbering);
+        let most = fronts::front(starts, neighbours, numbering, &mut scratch[..n]);
+        MeasuresAnswer::Accepted(Measures {
+            bandwidth: widest,
+            profile: sum,
+            front: most,
+        })
+    } else {
+        MeasuresAnswer::Refused(7)
+    }
+}

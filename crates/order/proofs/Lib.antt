@@ -1,0 +1,6 @@
+pub mod Settle
+pub mod Sift
+pub mod Stand
+pub mod Free
+pub mod Walk
+pub mod Left

@@ -1,0 +1,124 @@
+-- What the functions that build the order of a part do, as functions on lists: the contracts cite these, laws take them to `spec`.
+-- Assumes nothing.
+use mathlib.Core.Path.{_≡_}
+use mathlib.Core.Bool.{Bool, true, false, not, _&&_, cond}
+use mathlib.Core.List.{List, [], _∷_, _++_, map}
+use Prim.Native.Nat.{ℕ, suc, _+_, _-_, _≤_, _<_}
+use lib.ListN.{length, take, drop, getD}
+use lib.Dec.{eqb}
+use Rattle.basis.specs.Lists.{bit, filterb, memb, upFrom}
+use Rattle.basis.specs.Perm.{times, Once}
+use Rattle.spec.specs.Graph.{Graph, nodes, beforeE, sortE, ofNode}
+use Rattle.spec.specs.Numbering.{levelNodes}
+use Rattle.laws.specs.Legal.{Closed}
+
+-- ---- the working words
+
+-- a mark for each of the nodes 1..n: 1 exactly if it is numbered
+unfoldable pub marksOf : ℕ → List ℕ → List ℕ
+marksOf n o = map (λ z. bit (memb z o)) (upFrom 1 n)
+
+-- the working words with the order o: n marks, the order, and behind it what R has there
+unfoldable pub stand : ℕ → List ℕ → List ℕ → List ℕ
+stand n o R = marksOf n o ++ (o ++ drop (length o) R)
+
+-- the order of t nodes that stands in the working words
+abbrev pub orderIn : ℕ → ℕ → List ℕ → List ℕ
+orderIn n t W = take t (drop n W)
+
+-- nodes of 1..n
+abbrev pub Nodes : ℕ → List ℕ → Type 0
+Nodes n l = (z : ℕ) → memb z l ≡ true → (1 ≤ z) × (z ≤ n)
+
+-- some of the nodes 1..n, none twice
+pub record Listed (n : ℕ) (o : List ℕ) : Type 0 where
+  pub once : Once o
+  pub inside : Nodes n o
+
+-- what a function asks that goes on with an order of t nodes: the marks are its marks, and there is room for n nodes
+pub record Open (n t : ℕ) (W : List ℕ) : Type 0 where
+  pub marked : take n W ≡ marksOf n (orderIn n t W)
+  pub listed : Listed n (orderIn n t W)
+  pub fits : t ≤ n
+  pub room : n + n ≤ length W
+
+-- a list by old number from `at` on lies behind the order, whatever its length
+pub record Far (n at : ℕ) (W : List ℕ) : Type 0 where
+  pub behind : n + n ≤ at
+  pub held : at + n ≤ length W
+
+-- what it leaves: the order o, and all else as it was
+pub record Became (n : ℕ) (W o : List ℕ) (r : ℕ) (W′ : List ℕ) : Type 0 where
+  pub count : r ≡ length o
+  pub is : W′ ≡ stand n o (drop n W)
+
+-- ---- what is numbered
+
+-- q is an unnumbered node of level i, where L has the levels
+abbrev pub free : List ℕ → ℕ → List ℕ → ℕ → Bool
+free L i o q = not (memb q o) && eqb (ofNode L q) i
+
+-- the same, as the working words W say it, with the levels from `at` on
+abbrev pub isFree : List ℕ → ℕ → ℕ → ℕ → Bool
+isFree W at i q = eqb (getD W (q - 1) 0) 0 && eqb (getD W (at + (q - 1)) 0) i
+
+-- the first of p and q in E, where p may be 0 for no node
+abbrev pub firstOf : Graph → ℕ → ℕ → ℕ
+firstOf g p q = cond (eqb p 0) q (cond (beforeE g q p) q p)
+
+-- w's unnumbered neighbours in level i, in E
+unfoldable pub foundBy : Graph → List ℕ → ℕ → List ℕ → ℕ → List ℕ
+foundBy g L i o w = sortE g (filterb (free L i o) (g .row w))
+
+-- the order with what w finds added
+abbrev pub addBy : (List ℕ → ℕ → List ℕ) → List ℕ → ℕ → List ℕ
+addBy by o w = o ++ by o w
+
+-- from the order o, with a cursor at c, node after node adds what it finds, until the cursor is at the end: the order is then o′
+pub data Spread (by : List ℕ → ℕ → List ℕ) : ℕ → List ℕ → List ℕ → Type 0 where
+  at-end : {c : ℕ} {o : List ℕ} → length o ≤ c → Spread by c o o
+  on : {c : ℕ} {o o′ : List ℕ} → c < length o → Spread by (suc c) (o ++ by o (getD o c 0)) o′ → Spread by c o o′
+
+-- the words W, with the order o, have become W′, with r nodes: a cursor has gone from c to the end
+pub record Spreads (n : ℕ) (by : List ℕ → ℕ → List ℕ) (c : ℕ) (o W : List ℕ) (r : ℕ) (W′ : List ℕ) : Type 0 where
+  pub spread : Spread by c o (orderIn n r W′)
+  pub became : Became n W (orderIn n r W′) r W′
+
+-- ---- the part
+
+-- the part's m nodes, which stand from `from` on
+abbrev pub membersIn : ℕ → ℕ → List ℕ → List ℕ
+membersIn from m W = take m (drop from W)
+
+-- the levels of the part P's nodes by old number, as L has them, and 0 for all other nodes
+unfoldable pub ownLevels : Graph → List ℕ → List ℕ → List ℕ
+ownLevels g P L = map (λ z. cond (memb z P) (ofNode L z) 0) (nodes g)
+
+-- P is the nodes of a part in rising order, or of several, with levels 1..k in L
+pub record PartOf (g : Graph) (P L : List ℕ) (k : ℕ) : Type 0 where
+  pub rising : P ≡ filterb (λ q. memb q P) (nodes g)
+  pub closed : Closed g P
+  pub low : (q : ℕ) → memb q P ≡ true → 1 ≤ ofNode L q
+  pub high : (q : ℕ) → memb q P ≡ true → ofNode L q ≤ k
+
+-- the part's nodes and their levels stand behind the order: the levels from `at` on, the m nodes from `from` on
+pub record Behind (g : Graph) (n at from m k : ℕ) (W : List ℕ) : Type 0 where
+  pub levels : Far n at W
+  pub start : n + n ≤ from
+  pub held : from + m ≤ length W
+  pub part : PartOf g (membersIn from m W) (drop at W) k
+
+-- before level i is numbered: o has the levels below i, and the level just before i from a on
+pub record Levelled (g : Graph) (ls : List ℕ) (i a : ℕ) (o : List ℕ) : Type 0 where
+  pub some : 1 ≤ i
+  pub inside : a ≤ length o
+  pub low : (x : ℕ) → memb x o ≡ true → 1 ≤ ofNode ls x
+  pub below : (x : ℕ) → memb x o ≡ true → ofNode ls x < i
+  pub last : filterb (λ w. memb w (levelNodes g ls (i - 1))) o ≡ drop a o
+
+-- within level i: the nodes of lower levels up to b, then some of level i
+pub record Begun (g : Graph) (ls : List ℕ) (i b : ℕ) (o : List ℕ) : Type 0 where
+  pub some : 1 ≤ i
+  pub inside : b ≤ length o
+  pub below : (x : ℕ) → memb x (take b o) ≡ true → ofNode ls x < i
+  pub here : (x : ℕ) → times x (drop b o) ≤ times x (levelNodes g ls i)

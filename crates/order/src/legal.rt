@@ -1,0 +1,198 @@
+// The order of one part of a legal graph, level by level (document 01, "Numbering"), in lent words: n marks by old number, then the order
+// as it grows. The levels of the part's nodes stand by old number from `at` on, its m nodes in rising order from `from` on.
+ghost use mathlib.Core.Path.{_≡_};
+ghost use mathlib.Core.Bool.{true, false, cond};
+ghost use mathlib.Core.List.{List, [], _∷_, _++_, foldl};
+ghost use Prim.Native.Nat.{ℕ, _+_, _-_, _≤_, _<_};
+ghost use lib.ListN.{length, take, drop, getD, replicate};
+ghost use lib.Seq.{slice};
+ghost use lib.Dec.{eqb, ltb};
+ghost use Rattle.basis.specs.Lists.{filterb, chainb, memb};
+ghost use Rattle.spec.specs.Graph.{sizeOf, graphOf, graphRefusal, sortE, firstInE};
+ghost use Rattle.laws.specs.Legal.{Starts};
+ghost use Rattle.order.specs.Model.{stand, orderIn, Nodes, Open, Became, Far, free, isFree, firstOf, foundBy, addBy, Spreads, membersIn};
+use crate::sort;
+use words::wide;
+
+// Whether the node q has no number yet and stands in level i.
+fn is_free(work: &[u16], at: usize, q: usize, i: u16) -> bool
+    requires { ⌜ (1 ≤ q) × (at + q ≤ length (now work)) ⌝ }
+    ensures { λ r. ⌜ r ≡ isFree (now (work .entry)) at i q ⌝ }
+{
+    let p = q - 1;
+    if work[p] != 0 {
+        return false;
+    }
+    work[at + p] == i
+}
+
+// The node z gets the next number.
+fn push(work: &mut [u16], n: usize, t: usize, z: u16)
+    requires { ⌜ Open n t (now work) ⌝ }
+    requires { ⌜ (1 ≤ z) × (z ≤ n) ⌝ }
+    requires { ⌜ memb z (orderIn n t (now work)) ≡ false ⌝ }
+    ensures { λ _. ⌜ now (work .exit) ≡ stand n (orderIn n t (now (work .entry)) ++ (z ∷ [])) (drop n (now (work .entry))) ⌝ }
+{
+    let p = wide(z) - 1;
+    work[p] = 1;
+    work[n + t] = z;
+}
+
+// The node q gets the next number if it has none and stands in level i. Returns how many nodes are numbered then.
+fn offer(work: &mut [u16], n: usize, at: usize, t: usize, q: u16, i: u16) -> usize
+    requires { ⌜ Open n t (now work) ⌝ }
+    requires { ⌜ Far n at (now work) ⌝ }
+    requires { ⌜ (1 ≤ q) × (q ≤ n) ⌝ }
+    ensures { λ r. ⌜ Became n (now (work .entry)) (orderIn n t (now (work .entry)) ++ filterb (free (drop at (now (work .entry))) i (orderIn n t (now (work .entry)))) (q ∷ [])) r (now (work .exit)) ⌝ }
+{
+    if is_free(work, at, wide(q), i) {
+        push(work, n, t, q);
+        return t + 1;
+    }
+    t
+}
+
+// So do the nodes of a row, in its order.
+fn append(row: &[u16], work: &mut [u16], n: usize, at: usize, t: usize, i: u16) -> usize
+    requires { ⌜ Open n t (now work) ⌝ }
+    requires { ⌜ Far n at (now work) ⌝ }
+    requires { ⌜ Nodes n (now row) ⌝ }
+    requires { ⌜ chainb ltb (now row) ≡ true ⌝ }
+    ensures { λ r. ⌜ Became n (now (work .entry)) (orderIn n t (now (work .entry)) ++ filterb (free (drop at (now (work .entry))) i (orderIn n t (now (work .entry)))) (now (row .entry))) r (now (work .exit)) ⌝ }
+{
+    let mut e = t;
+    let mut j = 0;
+    while j < row.len() {
+        let q = row[j];
+        e = offer(work, n, at, e, q, i);
+        j += 1;
+    }
+    e
+}
+
+// Sorts the nodes that have the numbers after t, up to e, by E.
+fn sort_tail(starts: &[u16], work: &mut [u16], n: usize, t: usize, e: usize)
+    requires { ⌜ ((neighbours : List ℕ) × Starts (now starts) neighbours) ⌝ }
+    requires { ⌜ n ≡ sizeOf (now starts) ⌝ }
+    requires { ⌜ Open n e (now work) ⌝ }
+    requires { ⌜ t ≤ e ⌝ }
+    ensures { λ _. ⌜ ((neighbours : List ℕ) → Starts (now (starts .entry)) neighbours → now (work .exit) ≡ stand n (take t (orderIn n e (now (work .entry))) ++ sortE (graphOf (now (starts .entry)) neighbours) (drop t (orderIn n e (now (work .entry))))) (drop n (now (work .entry)))) ⌝ }
+{
+    sort::by_e(starts, &mut work[n + t..n + e]);
+}
+
+// "their unnumbered neighbours in this level, in E": those of w.
+fn extend(
+    starts: &[u16],
+    neighbours: &[u16],
+    work: &mut [u16],
+    n: usize,
+    at: usize,
+    t: usize,
+    w: u16,
+    i: u16,
+) -> usize
+    requires { ⌜ graphRefusal (now starts) (now neighbours) ≡ 0 ⌝ }
+    requires { ⌜ n ≡ sizeOf (now starts) ⌝ }
+    requires { ⌜ Open n t (now work) ⌝ }
+    requires { ⌜ Far n at (now work) ⌝ }
+    requires { ⌜ (1 ≤ w) × (w ≤ n) ⌝ }
+    ensures { λ r. ⌜ Became n (now (work .entry)) (addBy (foundBy (graphOf (now (starts .entry)) (now (neighbours .entry))) (drop at (now (work .entry))) i) (orderIn n t (now (work .entry))) w) r (now (work .exit)) ⌝ }
+{
+    let row = graph::legal::row(starts, neighbours, wide(w));
+    let e = append(row, work, n, at, t, i);
+    sort_tail(starts, work, n, t, e);
+    e
+}
+
+// "for the nodes of the level before, by number": those that stand in the order from a up to b, not including b, where it ends.
+fn from_before(
+    starts: &[u16],
+    neighbours: &[u16],
+    work: &mut [u16],
+    n: usize,
+    at: usize,
+    a: usize,
+    b: usize,
+    i: u16,
+) -> usize
+    requires { ⌜ graphRefusal (now starts) (now neighbours) ≡ 0 ⌝ }
+    requires { ⌜ n ≡ sizeOf (now starts) ⌝ }
+    requires { ⌜ Open n b (now work) ⌝ }
+    requires { ⌜ Far n at (now work) ⌝ }
+    requires { ⌜ a ≤ b ⌝ }
+    ensures { λ r. ⌜ Became n (now (work .entry)) (foldl (addBy (foundBy (graphOf (now (starts .entry)) (now (neighbours .entry))) (drop at (now (work .entry))) i)) (orderIn n b (now (work .entry))) (drop a (orderIn n b (now (work .entry))))) r (now (work .exit)) ⌝ }
+{
+    let mut e = b;
+    let mut h = a;
+    while h < b {
+        let w = work[n + h];
+        e = extend(starts, neighbours, work, n, at, e, w, i);
+        h += 1;
+    }
+    e
+}
+
+// "Then the lowest-numbered node of the level with unnumbered neighbours in it: those neighbours in E, and again until none": a cursor goes
+// from c to the end of the order; nodes that it has passed have no more of them.
+fn spread(
+    starts: &[u16],
+    neighbours: &[u16],
+    work: &mut [u16],
+    n: usize,
+    at: usize,
+    c: usize,
+    t: usize,
+    i: u16,
+) -> usize
+    requires { ⌜ graphRefusal (now starts) (now neighbours) ≡ 0 ⌝ }
+    requires { ⌜ n ≡ sizeOf (now starts) ⌝ }
+    requires { ⌜ Open n t (now work) ⌝ }
+    requires { ⌜ Far n at (now work) ⌝ }
+    ensures { λ r. ⌜ Spreads n (foundBy (graphOf (now (starts .entry)) (now (neighbours .entry))) (drop at (now (work .entry))) i) c (orderIn n t (now (work .entry))) (now (work .entry)) r (now (work .exit)) ⌝ }
+{
+    let mut e = t;
+    let mut h = c;
+    while h < e {
+        let w = work[n + h];
+        e = extend(starts, neighbours, work, n, at, e, w, i);
+        h += 1;
+    }
+    e
+}
+
+// The first in E of `best`, 0 for none, and q, if q has no number yet and stands in level i.
+fn consider(starts: &[u16], work: &[u16], at: usize, best: u16, q: u16, i: u16) -> u16
+    requires { ⌜ ((neighbours : List ℕ) × Starts (now starts) neighbours) ⌝ }
+    requires { ⌜ (best ≤ sizeOf (now starts)) × (1 ≤ q) × (q ≤ sizeOf (now starts)) ⌝ }
+    requires { ⌜ at + q ≤ length (now work) ⌝ }
+    ensures { λ r. ⌜ ((neighbours : List ℕ) → Starts (now (starts .entry)) neighbours → r ≡ cond (isFree (now (work .entry)) at i q) (firstOf (graphOf (now (starts .entry)) neighbours) best q) best) ⌝ }
+{
+    if is_free(work, at, wide(q), i) {
+        if best == 0 {
+            return q;
+        }
+        if graph::legal::precedes(starts, wide(q), wide(best)) {
+            return q;
+        }
+    }
+    best
+}
+
+// The first in E of the part's nodes in level i that are left, 0 where none is.
+fn first_left(starts: &[u16], work: &[u16], at: usize, from: usize, m: usize, i: u16) -> u16
+    requires { ⌜ ((neighbours : List ℕ) × Starts (now starts) neighbours) ⌝ }
+    requires { ⌜ at + sizeOf (now starts) ≤ length (now work) ⌝ }
+    requires { ⌜ from + m ≤ length (now work) ⌝ }
+    requires { ⌜ Nodes (sizeOf (now starts)) (membersIn from m (now work)) ⌝ }
+    ensures { λ r. ⌜ ((neighbours : List ℕ) → Starts (now (starts .entry)) neighbours → r ≡ firstInE (graphOf (now (starts .entry)) neighbours) (filterb (isFree (now (work .entry)) at i) (membersIn from m (now (work .entry))))) ⌝ }
+{
+    let mut best: u16 = 0;
+    let mut j = 0;
+    while j < m {
+        let q = work[from + j];
+        best = consider(starts, work, at, best, q, i);
+        j += 1;
+    }
+    best
+}

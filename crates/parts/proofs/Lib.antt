@@ -1,0 +1,11 @@
+pub mod Lent
+pub mod Joins
+pub mod Labels
+pub mod Queue
+pub mod Mark
+pub mod Classes
+pub mod Place
+pub mod Leads
+pub mod Words
+pub mod Members
+pub mod Walk

@@ -1,0 +1,72 @@
+-- `placing::legal::slot` meets its contract. Assumes nothing.
+use mathlib.Core.Path.{_≡_, ap, _∙_}
+use Prim.Native.Nat.{ℕ, _+_, _-_, _*_}
+use native.Mathlib.Omega.{arith}
+use borrow.Author.Needs.{needs}
+use Rattle.combining.specs.Model.{numberAt}
+use Rattle.combining.proofs.Counting.{Located, located}
+use borrow.Author.Needs.{needs}
+use Rattle.placing.proofs.legal.slot.Statement.{statement}
+use Rattle.placing.proofs.legal.slot.Tie as tie
+
+at-node : (c : tie.After-wide) → let s = c .before .before .before in Located (s .args .n) (s .args .base) (s .args .scratch .now) (c .wide .result)
+at-node c = let s = c .before .before .before in located (s .pre .0) (s .pre .1 .0) (s .pre .1 .1) (c .wide .ensures)
+
+add-wide : tie.Need-add-wide
+add-wide c = search needs
+
+mul-wide : tie.Need-mul-wide
+mul-wide c = search needs
+
+shared-slice-read-wide : tie.Need-shared-slice-read-wide
+shared-slice-read-wide c = search needs
+
+wide-requires : tie.Need-wide-requires
+wide-requires c κs = search needs
+
+add-wide-2 : tie.Need-add-wide-2
+add-wide-2 c = let F = at-node c in omega arith
+
+sub-wide : tie.Need-sub-wide
+sub-wide c = let F = at-node c in omega arith
+
+mul-wide-2 : tie.Need-mul-wide-2
+mul-wide-2 c = let F = at-node c in omega arith
+
+shared-slice-read-wide-2 : tie.Need-shared-slice-read-wide-2
+shared-slice-read-wide-2 c = at-node (c .before) .fits
+
+wide-requires-2 : tie.Need-wide-requires-2
+wide-requires-2 c κs = search needs
+
+mul-result : tie.Need-mul-result
+mul-result c = let F = at-node (c .before .before) in omega arith
+
+add-result : tie.Need-add-result
+add-result c = let F = at-node (c .before .before) in omega (arith, c .wide2 .ensures)
+
+sub-result : tie.Need-sub-result
+sub-result c = let F = at-node (c .before .before) in omega (arith, c .wide2 .ensures)
+
+returns : tie.Need-returns
+returns c =
+    let s = c .before .before .before .before .before in
+    ap (λ (i : ℕ). 4 * s .args .n + i - 1) (c .wide2 .ensures ∙ ap (λ (z : ℕ). numberAt (s .args .base) (s .args .scratch .now) z) (c .before .before .wide .ensures))
+
+pub slot-spec : {M : Type 1} → statement M
+slot-spec =
+    tie.close
+    (tie.spec
+    add-wide
+    mul-wide
+    shared-slice-read-wide
+    wide-requires
+    add-wide-2
+    sub-wide
+    mul-wide-2
+    shared-slice-read-wide-2
+    wide-requires-2
+    mul-result
+    add-result
+    sub-result
+    returns)

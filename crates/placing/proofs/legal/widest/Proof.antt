@@ -1,0 +1,68 @@
+-- `placing::legal::widest` meets its contract. Assumes nothing.
+use mathlib.Core.Path.{ap, _∙_}
+use Prim.Native.Nat.{ℕ, _-_, _*_, _≤_, max}
+use native.Mathlib.Omega.{arith}
+use borrow.Author.Needs.{needs}
+use Rattle.combining.proofs.Counting.{Topping, top-begin, top-step, top-done}
+use Rattle.placing.proofs.legal.widest.Statement.{statement}
+use Rattle.placing.proofs.legal.widest.Tie as tie
+
+abbrev Inv-loop : tie.InvT-loop
+Inv-loop scratch n k top₀ i₀ top i = (n ≤ 4096) × Topping (4 * n) k scratch top i
+
+abbrev μ-loop : tie.MeasureT-loop
+μ-loop scratch n k top₀ i₀ top i = k - i
+
+loop-holds : tie.Need-loop-holds Inv-loop μ-loop
+loop-holds c = let s = c .before in (s .pre .1, top-begin (4 * s .args .n) (s .args .k) (s .args .scratch .now) (s .pre .0))
+
+mul-wide : tie.Need-mul-wide Inv-loop μ-loop
+mul-wide c = omega arith
+
+add-wide : tie.Need-add-wide Inv-loop μ-loop
+add-wide c = omega arith
+
+mul-wide-2 : tie.Need-mul-wide-2 Inv-loop μ-loop
+mul-wide-2 c = omega arith
+
+shared-slice-read-wide : tie.Need-shared-slice-read-wide Inv-loop μ-loop
+shared-slice-read-wide c = omega arith
+
+wide-requires : tie.Need-wide-requires Inv-loop μ-loop
+wide-requires c κs = search needs
+
+larger-requires : tie.Need-larger-requires Inv-loop μ-loop
+larger-requires c κs = search needs
+
+add-i : tie.Need-add-i Inv-loop μ-loop
+add-i c = omega arith
+
+loop-less : tie.Need-loop-less Inv-loop μ-loop
+loop-less c = omega arith
+
+loop-again : tie.Need-loop-again Inv-loop μ-loop
+loop-again c =
+    let w = c .before in
+    let l = w .before .before .before in
+    (l .loop .inv .0, top-step (l .loop .inv .1) (w .before .before .loop-test .taken) (c .larger .ensures ∙ ap (max (l .loop .top)) (w .wide .ensures)))
+
+returns : tie.Need-returns Inv-loop μ-loop
+returns c = top-done (c .before .loop .inv .1) (c .loop-test .left)
+
+pub widest-spec : {M : Type 1} → statement M
+widest-spec =
+    tie.close
+    (tie.spec
+    Inv-loop
+    μ-loop
+    loop-holds
+    mul-wide
+    add-wide
+    mul-wide-2
+    shared-slice-read-wide
+    wide-requires
+    larger-requires
+    add-i
+    loop-less
+    loop-again
+    returns)

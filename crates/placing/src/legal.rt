@@ -1,0 +1,133 @@
+// The words of a part: first numbers, a queue of nodes, second numbers, n words that are not used here, and the counts of the levels,
+// n words each. Level i has the count word 4n + i - 1. The callers have seen to the room and the ranges.
+ghost use mathlib.Core.Path.{_≡_};
+ghost use mathlib.Core.Bool.{_&&_, _||_, cond};
+ghost use Prim.Native.Nat.{_+_, _*_, _≤_, _<_};
+ghost use lib.ListN.{length};
+ghost use lib.Seq.{slice};
+ghost use Rattle.basis.specs.Lists.{greatest};
+ghost use Rattle.combining.specs.Tally.{tally, untally};
+ghost use Rattle.combining.specs.Model.{slotAt, queued, slots, peakOf, written, numberAt, goesSecond, chosen, Readable, Countable, Full, Placeable};
+use words::larger;
+use words::wide;
+
+// The count word of the p-th node of the queue, by the numbers that start at base.
+fn slot(scratch: &[u16], n: usize, base: usize, s: usize, t: usize, p: usize) -> usize
+    requires { ⌜ Readable n base s t (now scratch) ⌝ }
+    requires { ⌜ (s ≤ p) × (p < t) ⌝ }
+    ensures { λ r. ⌜ r ≡ slotAt n base (now (scratch .entry)) p ⌝ }
+{
+    let z = wide(scratch[n + p]);
+    let i = wide(scratch[base + z - 1]);
+    4 * n + i - 1
+}
+
+// Adds the nodes s..t of the queue to the counts. Returns the greatest count that it writes: counts only grow, so it is the
+// greatest of the levels that the nodes touch.
+fn raise(scratch: &mut [u16], n: usize, base: usize, s: usize, t: usize) -> usize
+    requires { ⌜ Countable n base s t (now scratch) ⌝ }
+    ensures { λ r. ⌜ r ≡ peakOf n base s t (now (scratch .entry)) ⌝ }
+    ensures { λ _. ⌜ now (scratch .exit) ≡ tally (now (scratch .entry)) (slots n base s t (now (scratch .entry))) ⌝ }
+{
+    let mut top = 0;
+    let mut p = s;
+    while p < t {
+        let at = slot(scratch, n, base, s, t, p);
+        let c = scratch[at] + 1;
+        scratch[at] = c;
+        top = larger(top, wide(c));
+        p += 1;
+    }
+    top
+}
+
+// Takes the nodes s..t of the queue from the counts, which hold them.
+fn lower(scratch: &mut [u16], n: usize, base: usize, s: usize, t: usize)
+    requires { ⌜ Full n base s t (now scratch) ⌝ }
+    ensures { λ _. ⌜ now (scratch .exit) ≡ untally (now (scratch .entry)) (slots n base s t (now (scratch .entry))) ⌝ }
+{
+    let mut p = s;
+    while p < t {
+        let at = slot(scratch, n, base, s, t, p);
+        let c = scratch[at] - 1;
+        scratch[at] = c;
+        p += 1;
+    }
+}
+
+// h, or l: the greatest count among the levels that the piece touches. The counts are as before.
+fn peak(scratch: &mut [u16], n: usize, base: usize, s: usize, t: usize) -> usize
+    requires { ⌜ Countable n base s t (now scratch) ⌝ }
+    ensures { λ r. ⌜ r ≡ peakOf n base s t (now (scratch .entry)) ⌝ }
+    ensures { λ _. ⌜ now (scratch .exit) ≡ now (scratch .entry) ⌝ }
+{
+    let h = raise(scratch, n, base, s, t);
+    lower(scratch, n, base, s, t);
+    h
+}
+
+// Gives the nodes s..t of the queue their numbers as levels.
+fn put(scratch: &[u16], levels: &mut [u16], n: usize, base: usize, s: usize, t: usize)
+    requires { ⌜ Readable n base s t (now scratch) ⌝ }
+    requires { ⌜ n ≤ length (now levels) ⌝ }
+    ensures { λ _. ⌜ now (levels .exit) ≡ written (numberAt base (now (scratch .entry))) (now (levels .entry)) (queued n s t (now (scratch .entry))) ⌝ }
+{
+    let mut p = s;
+    while p < t {
+        let z = wide(scratch[n + p]);
+        levels[z - 1] = scratch[base + z - 1];
+        p += 1;
+    }
+}
+
+// Places the nodes s..t of the queue by the numbers that start at base.
+pub fn settle(scratch: &mut [u16], levels: &mut [u16], n: usize, base: usize, s: usize, t: usize)
+    requires { ⌜ Countable n base s t (now scratch) ⌝ }
+    requires { ⌜ n ≤ length (now levels) ⌝ }
+    ensures { λ _. ⌜ now (scratch .exit) ≡ tally (now (scratch .entry)) (slots n base s t (now (scratch .entry))) ⌝ }
+    ensures { λ _. ⌜ now (levels .exit) ≡ written (numberAt base (now (scratch .entry))) (now (levels .entry)) (queued n s t (now (scratch .entry))) ⌝ }
+{
+    put(scratch, levels, n, base, s, t);
+    raise(scratch, n, base, s, t);
+}
+
+// Where the numbers start that a piece goes by: "by first numbers if h < l, by second if l < h. If equal, by first unless u's
+// width is less than v's", which narrow says.
+fn choose(n: usize, h: usize, l: usize, narrow: bool) -> usize
+    requires { ⌜ n ≤ 4096 ⌝ }
+    ensures { λ r. ⌜ r ≡ cond (goesSecond h l narrow) (2 * n) 0 ⌝ }
+{
+    if l < h {
+        return 2 * n;
+    }
+    if h < l {
+        return 0;
+    }
+    if narrow { 2 * n } else { 0 }
+}
+
+// Places the piece s..t of the queue against the counts as they now are.
+pub fn place(scratch: &mut [u16], levels: &mut [u16], n: usize, s: usize, t: usize, narrow: bool)
+    requires { ⌜ Placeable n s t (now scratch) (now levels) ⌝ }
+    ensures { λ _. ⌜ now (scratch .exit) ≡ tally (now (scratch .entry)) (slots n (chosen n s t narrow (now (scratch .entry))) s t (now (scratch .entry))) ⌝ }
+    ensures { λ _. ⌜ now (levels .exit) ≡ written (numberAt (chosen n s t narrow (now (scratch .entry))) (now (scratch .entry))) (now (levels .entry)) (queued n s t (now (scratch .entry))) ⌝ }
+{
+    let h = peak(scratch, n, 0, s, t);
+    let l = peak(scratch, n, 2 * n, s, t);
+    let base = choose(n, h, l, narrow);
+    settle(scratch, levels, n, base, s, t);
+}
+
+// The greatest count of the levels 1..k.
+pub fn widest(scratch: &[u16], n: usize, k: usize) -> usize
+    requires { ⌜ (4 * n + k ≤ length (now scratch)) × (n ≤ 4096) ⌝ }
+    ensures { λ r. ⌜ r ≡ greatest (slice (4 * n) (4 * n + k) (now (scratch .entry))) ⌝ }
+{
+    let mut top = 0;
+    let mut i = 0;
+    while i < k {
+        top = larger(top, wide(scratch[4 * n + i]));
+        i += 1;
+    }
+    top
+}

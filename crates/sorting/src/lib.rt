@@ -1,0 +1,2 @@
+// Nodes sorted by E.
+pub mod legal;
