@@ -1,14 +1,14 @@
 -- Bits of words as tests. Assumes nothing.
 use mathlib.Core.Path.{_≡_, refl, sym, ap, _∙_}
-use mathlib.Core.Bool.{true, false, _||_}
+use mathlib.Core.Bool.{false, _||_}
 use Prim.Native.Nat.{ℕ, zero, suc, _*_, _/_, _%_, _^_, _<_, max}
 use native.Mathlib.Nat.{one-mul, div-eq-of-lt}
 use native.Mathlib.Omega.{arith}
 use lib.Bits.{bitOr}
 use lib.Dec.{eqb, lit<}
 use lib.Pow.{pow-pos, shl-exact}
-use borrow.Author.Tests.{eq-eqb, ne-eqb, eqb-true, eqb-false}
-use Rattle.basis.proofs.Logic.{by-test, eqb-sym}
+use borrow.Author.Tests.{eqb-true, eqb-false}
+use Rattle.basis.proofs.Logic.{by-test}
 use Rattle.marks.proofs.Bits.{or-bit, pow-bit, pow-other}
 use Rattle.blocks.specs.Block.{bitAt}
 

@@ -78,7 +78,7 @@ pub fn numbered(numbering: &[u16], n: usize, scratch: &mut [u16]) -> bool
 }
 
 // The least of a node's own number and those of its row.
-fn row_first(row: &[u16], numbering: &[u16], own: usize) -> usize
+pub fn row_first(row: &[u16], numbering: &[u16], own: usize) -> usize
     requires { ⌜ Words (length (now numbering)) (now row) ⌝ }
     ensures { λ r. ⌜ r ≡ least own (map (ofNode (now (numbering .entry))) (now (row .entry))) ⌝ }
 {

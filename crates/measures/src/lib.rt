@@ -3,13 +3,13 @@ ghost use mathlib.Core.Path.{_≡_};
 ghost use Rattle.spec.specs.CallsNumbering.{measuresAnswer, measuresScratch};
 ghost use Rattle.measures.specs.Answer.{meaning};
 
-pub mod answer;
+mod answer;
 mod band;
 mod fronts;
 
-use answer::Measures;
-use answer::MeasuresAnswer;
-use graph::answer::Adjacency;
+pub use answer::Measures;
+pub use answer::MeasuresAnswer;
+use graph::Adjacency;
 
 // The entry point: a numbering by old number, and a scratch word for each node.
 pub fn measures(

@@ -3,12 +3,12 @@
 use mathlib.Core.Path.{_≡_, refl, sym, ap, _∙_}
 use mathlib.Core.Logic.{⊎-elim}
 use mathlib.Core.Bool.{true, false≢true}
-use mathlib.Core.List.{List, [], _∷_, _++_}
+use mathlib.Core.List.{List, [], _∷_, _++_, append-assoc}
 use Prim.Native.Nat.{ℕ, suc, _+_, _≤_, _<_}
 use native.Mathlib.Numerals.{add-one}
 use native.Mathlib.Omega.{arith}
-use lib.ListN.{length, getD, take, drop, length-map}
-use lib.Seq.{take-all, take-at, getD-drop}
+use lib.ListN.{length, getD, take, drop, length-map, List·getD-append}
+use lib.Seq.{take-all, take-at, getD-drop, getD-append-add, drop-append-add, drop-append-le}
 use Rattle.basis.specs.Lists.{joinAll, headOr, memb}
 use Rattle.basis.proofs.Index.{getD-map, memb-getD}
 use Rattle.basis.proofs.Logic.{lt-or-le}
@@ -18,13 +18,9 @@ use Rattle.laws.specs.Legal.{Node, LegalGraph}
 use Rattle.laws.proofs.Figures.{reached-part}
 use Rattle.laws.proofs.Levels.{part-self}
 use Rattle.laws.proofs.Parts.{leaders-in}
+use Rattle.parts.specs.Walked.{Walked, leaderAt}
 use Rattle.parts.proofs.Joins.{offset, drop-join, join-at, offset-suc, offset-most}
 use Rattle.parts.proofs.Leads.{parts-length}
-
--- the walk has passed j parts, with a nodes
-pub record Walked (g : Graph) (j a : ℕ) : Type 0 where
-  pub some : j ≤ length (parts g)
-  pub nodes : a ≡ offset (parts g) j
 
 pub walk-begin : (g : Graph) → Walked g 0 0
 walk-begin g = record { some = omega arith; nodes = refl }
@@ -32,10 +28,6 @@ walk-begin g = record { some = omega arith; nodes = refl }
 -- the members from there on are those of the other parts
 pub walk-rest : {g : Graph} {j a : ℕ} → Walked g j a → drop a (joinAll (parts g)) ≡ joinAll (drop j (parts g))
 walk-rest {g} {j} {a} P = ap (λ (k : ℕ). drop k (joinAll (parts g))) (P .nodes) ∙ drop-join (parts g) j
-
--- the lowest node of part j + 1
-abbrev pub leaderAt : Graph → ℕ → ℕ
-leaderAt g j = getD (leaders g) j 0
 
 module _ {g : Graph} (G : LegalGraph g) {j a : ℕ} (P : Walked g j a) where
   count : length (parts g) ≡ length (leaders g)
@@ -45,12 +37,13 @@ module _ {g : Graph} (G : LegalGraph g) {j a : ℕ} (P : Walked g j a) where
   pub walk-most : a ≤ g .size
   walk-most = omega (arith, P .nodes, offset-most (parts g) j, parts-length G)
 
-  -- where a node is left, a part is
+  -- after the last part no node is left, and so a part is where a node is
+  pub walk-end : length (parts g) ≤ j → a ≡ g .size
+  walk-end e = P .nodes ∙ ap (λ (ls : List (List ℕ)). length (joinAll ls)) (take-all j (parts g) e) ∙ parts-length G
+
   pub walk-more : a < g .size → j < length (parts g)
-  walk-more h = ⊎-elim (λ (l : j < length (parts g)). l) (λ (e : length (parts g) ≤ j). absurd (all e)) (lt-or-le j (length (parts g)))
-    where
-      all : length (parts g) ≤ j → ⊥
-      all e = omega (arith, P .nodes, ap (λ (ls : List (List ℕ)). length (joinAll ls)) (take-all j (parts g) e), parts-length G)
+  walk-more h =
+      ⊎-elim (λ (l : j < length (parts g)). l) (λ (e : length (parts g) ≤ j). absurd (omega (arith, walk-end e))) (lt-or-le j (length (parts g)))
 
   -- one part more
   module _ (h : j < length (parts g)) where
@@ -105,3 +98,34 @@ module _ {g : Graph} (G : LegalGraph g) {j a : ℕ} (P : Walked g j a) where
     -- as many as a search from it reaches
     pub next-count : reached (levels g (leaderAt g j)) ≡ length (part g (leaderAt g j))
     next-count = reached-part G next-node
+
+    -- it has a node, and all of them are nodes
+    pub next-some : 1 ≤ length (part g (leaderAt g j))
+    next-some = some (part g (leaderAt g j)) (part-self G next-node)
+      where
+        some : (l : List ℕ) → memb (leaderAt g j) l ≡ true → 1 ≤ length l
+        some [] m = absurd (false≢true m)
+        some (x ∷ l) m = omega arith
+
+    pub next-fits : a + length (part g (leaderAt g j)) ≤ g .size
+    next-fits = omega (arith, walk-next .nodes, offset-most (parts g) (j + 1), parts-length G)
+
+    -- the same in a scratch that has the members from k on
+    module _ (front excess : List ℕ) (k : ℕ) (e : length front ≡ k) where
+      pub scratch-first : getD (front ++ (joinAll (parts g) ++ excess)) (k + a) 0 ≡ leaderAt g j
+      scratch-first =
+          ap (λ (i : ℕ). getD (front ++ (joinAll (parts g) ++ excess)) (i + a) 0) (sym e)
+          ∙ getD-append-add front (joinAll (parts g) ++ excess) a 0
+          ∙ List·getD-append (joinAll (parts g)) excess 0 a (omega (arith, next-some, next-fits, parts-length G))
+          ∙ next-first
+
+      pub scratch-part : take (length (part g (leaderAt g j))) (drop (k + a) (front ++ (joinAll (parts g) ++ excess))) ≡ part g (leaderAt g j)
+      scratch-part =
+          let z : ℕ = leaderAt g j in
+          let r : List ℕ = joinAll (drop (suc j) (parts g)) in
+          ap (λ (i : ℕ). take (length (part g z)) (drop (i + a) (front ++ (joinAll (parts g) ++ excess)))) (sym e)
+          ∙ ap (take (length (part g z))) (drop-append-add front (joinAll (parts g) ++ excess) a
+          ∙ drop-append-le a (joinAll (parts g)) excess (omega (arith, walk-most, parts-length G))
+          ∙ ap (λ (l : List ℕ). l ++ excess) next-split
+          ∙ append-assoc (part g z) r excess)
+          ∙ take-at (part g z) (r ++ excess) (length (part g z)) refl

@@ -1,10 +1,9 @@
 -- `blocks::legal::spread` meets its contract. Assumes nothing.
-use Prim.Native.Nat.{ℕ, _-_, _≤_}
-use mathlib.Core.Path.{_≡_}
+use Prim.Native.Nat.{_-_, _≤_}
 use native.Mathlib.Omega.{arith}
 use denote.Ref.{now}
 use borrow.Author.Needs.{needs}
-use lib.ListN.{length, getD}
+use lib.ListN.{length}
 use Rattle.blocks.proofs.Passes.{Spreading, spreading-begin, spreading-step, spreading-done, inside-at}
 use Rattle.blocks.proofs.legal.spread.Statement.{statement}
 use Rattle.blocks.proofs.legal.spread.Tie as tie
