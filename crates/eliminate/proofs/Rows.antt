@@ -17,6 +17,7 @@ use Rattle.spec.specs.Measures.{orderOf, firstIn, rowSpan, profile}
 use Rattle.spec.specs.Store.{Pair, startOf, hasPlace, place, placedPairs, marks, markByteCount, markBytes, markAt}
 use Rattle.laws.specs.Legal.{Node, LegalGraph}
 use Rattle.laws.proofs.ByTest.{renumbered-legal}
+use Rattle.laws.proofs.Legal.{to-row, of-row}
 use Rattle.laws.proofs.Marks.{marks-at, marks-spare, bytes-are}
 use Rattle.laws.proofs.Numberings.{numbering-length, order-length, orderOf-perm}
 use Rattle.laws.proofs.Places.{first-nbr, start-next, place-split, placed-at, placed-has}
@@ -66,16 +67,6 @@ no-parent : (words : List ℕ) (i : ℕ) → parentIn 1 words i ≡ 0
 unfolding parentIn ofNode
 no-parent words zero = refl
 no-parent words (suc i) = rw (le-ltb (suc i) 1 (omega arith))
-
--- ---- rows as lists
-
-to-row : (g : Graph) (a b : ℕ) → adjoins g a b ≡ true → memb b (g .row a) ≡ true
-unfolding adjoins
-to-row g a b e = e
-
-of-row : (g : Graph) (a b : ℕ) → memb b (g .row a) ≡ true → adjoins g a b ≡ true
-unfolding adjoins
-of-row g a b e = e
 
 -- ---- what the pass leaves
 

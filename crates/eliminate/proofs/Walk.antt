@@ -15,6 +15,7 @@ use Rattle.spec.specs.Graph.{Graph, adjoins}
 use Rattle.spec.specs.Measures.{firstIn, rowSpan, profile}
 use Rattle.spec.specs.Store.{startOf, hasPlace, place, markByteCount}
 use Rattle.laws.specs.Legal.{LegalGraph}
+use Rattle.laws.proofs.Legal.{ofNode-at}
 use Rattle.laws.proofs.Marks.{profile-fits}
 use Rattle.laws.proofs.Places.{first-le, start-next, start-profile, place-make, place-below, place-inj}
 use Rattle.marks.specs.Marks.{marked, withMark}
@@ -22,7 +23,7 @@ use Rattle.marks.proofs.Marks.{mark-length, mark-other, mark-set}
 use Rattle.eliminate.specs.Walk.{pair, stored, parentIn, placeIn, Room, IsRow, Walk, InRow}
 use Rattle.eliminate.specs.declared.legal.Row.{Row}
 use Rattle.eliminate.proofs.Pass.{met-skip, met-adopt, met-join, met-below}
-use Rattle.eliminate.proofs.Words.{word-at, word-set, word-other}
+use Rattle.eliminate.proofs.Words.{word-set, word-other}
 
 -- ---- sizes
 
@@ -122,7 +123,7 @@ module _ {h : Graph} {o words bytes : List ℕ} {row : Row} {p : ℕ} (R : IsRow
 
     parent-at : parentIn (row .q) words p ≡ getD words (p - 1) 0
     unfolding parentIn
-    parent-at = rw (lt-ltb p (row .q) (I .less)) (word-at words p low)
+    parent-at = rw (lt-ltb p (row .q) (I .less)) (ofNode-at words p low)
 
     pub turned-skip : marked bytes (placeIn row p) ≡ false → Walk h o words bytes (row .q) (row .q) (suc p)
     turned-skip e = record {

@@ -1,6 +1,5 @@
 -- The nodes that get a number: read from the working words, one by one along a row, and then sorted. Assumes nothing.
 use mathlib.Core.Path.{_≡_, refl, sym, ap, ap₂, _∙_, subst}
-use mathlib.Core.Logic.{⊎-elim}
 use mathlib.Core.Bool.{Bool, true, false, not, _&&_, _||_, or-false}
 use mathlib.Core.List.{List, [], _∷_, _++_, append-assoc, append-nil}
 use Prim.Native.Nat.{ℕ, zero, suc, _+_, _-_, _≤_, _<_}
@@ -9,32 +8,34 @@ use native.Mathlib.Numerals.{add-one}
 use lib.ListN.{length, take, drop, getD, set, length-append, length-drop, drop-of-length-le, take-append-drop}
 use lib.Seq.{getD-drop, drop-drop, drop-cons, take-at, drop-at, drop-append-le, length-take-le}
 use lib.Dec.{eqb, ltb}
-use borrow.Author.Tests.{eq-eqb, ne-eqb, eqb-true, not-true}
+use borrow.Author.Tests.{ne-eqb, eqb-true, not-true}
 use borrow.Rule.Slice.PartMut.{midOf, putMid, post-is}
 use Rattle.basis.specs.Lists.{bit, filterb, chainb, memb}
 use Rattle.basis.specs.Perm.{Once, Perm}
 use Rattle.basis.proofs.Count.{filter-once}
 use Rattle.basis.proofs.Index.{memb-getD}
-use Rattle.basis.proofs.Lists.{memb-append, memb-one, memb-here, filter-in, filter-cong}
-use Rattle.basis.proofs.Logic.{by-test, clash, fails, and-split, or-split, or-left, or-right}
+use Rattle.basis.proofs.Lists.{memb-append, memb-one, filter-in, filter-cong}
+use Rattle.basis.proofs.Logic.{by-test, and-split, or-right}
 use Rattle.basis.proofs.Perm.{perm-append, perm-refl, perm-length}
 use Rattle.basis.proofs.Rise.{rise-head, rise-once}
 use Rattle.basis.proofs.Sort.{chain-tail}
 use Rattle.spec.specs.Graph.{Graph, adjoins, graphOf, graphRefusal, rowOf, sizeOf, sortE, ofNode}
-use Rattle.laws.specs.Legal.{Node, LegalGraph, Starts}
-use Rattle.laws.proofs.Refused.{passed, starts-of, not-refused}
+use Rattle.laws.proofs.Refused.{not-refused}
 use Rattle.laws.proofs.Orders.{perm-sortE}
-use Rattle.order.specs.Model.{stand, orderIn, Nodes, Listed, Open, Became, Far, free, foundBy, addBy}
-use Rattle.order.proofs.Stand.{At, open-at, at-order, at-length, at-most, at-open, at-next, at-became, mark-at, far, stand-push, stand-behind, stand-perm, stand-again, listed-append, listed-one, listed-perm, listed-most}
+use Rattle.sorting.specs.Nodes.{Nodes}
+use Rattle.order.specs.Model.{stand, orderIn, Listed, Open, Became, Far, free, foundBy, addBy}
+use Rattle.order.proofs.Stand.{At, open-at, at-order, at-length, at-open, at-next, at-became, mark-at, far, stand-push, stand-behind, stand-perm, stand-again, listed-append, listed-one, listed-perm, listed-most}
 
 -- ---- what the words say of a node
 
--- a list by old number behind the order is as it was
+-- what stands behind the order is as it was
+pub kept : (n a : ℕ) (W₀ : List ℕ) {o W : List ℕ} {t : ℕ} → n + n ≤ a → At n o (drop n W₀) W t → drop a W ≡ drop a W₀
+kept n a W₀ {o} h A =
+    let e : n + (a - n) ≡ a = omega arith in
+    ap (drop a) (A .is) ∙ far n o (drop n W₀) a (omega (arith, listed-most (A .listed))) ∙ drop-drop (a - n) n W₀ ∙ ap (λ (k : ℕ). drop k W₀) e
+
 pub far-same : {n at : ℕ} {o W₀ W : List ℕ} {t : ℕ} → Far n at W₀ → At n o (drop n W₀) W t → drop at W ≡ drop at W₀
-far-same {n} {at} {o} {W₀} F A =
-    let e : n + (at - n) ≡ at = omega (arith, F .behind) in
-    ap (drop at) (A .is) ∙ far n o (drop n W₀) at (omega (arith, F .behind, listed-most (A .listed)))
-    ∙ drop-drop (at - n) n W₀ ∙ ap (λ (k : ℕ). drop k W₀) e
+far-same {n} {at} {W₀ = W₀} F A = kept n at W₀ (F .behind) A
 
 pub far-on : {n at : ℕ} {o W₀ W : List ℕ} {t : ℕ} → n ≤ length W₀ → Far n at W₀ → At n o (drop n W₀) W t → Far n at W
 far-on {n} {at} {o} {W₀} h F A = record { behind = F .behind; held = omega (arith, F .held, at-length A, length-drop n W₀) }

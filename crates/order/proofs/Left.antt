@@ -1,8 +1,8 @@
 -- The first in E of a list, found by going over it once. Assumes nothing.
-use mathlib.Core.Path.{_≡_, refl, sym, ap, _∙_, subst}
+use mathlib.Core.Path.{_≡_, refl, sym, ap, _∙_}
 use mathlib.Core.Bool.{Bool, true, false, cond}
 use mathlib.Core.List.{List, [], _∷_, _++_, append-nil}
-use Prim.Native.Nat.{ℕ, suc, _+_, _≤_, _<_}
+use Prim.Native.Nat.{ℕ, _+_, _≤_, _<_}
 use native.Mathlib.Omega.{arith}
 use native.Mathlib.Numerals.{add-one}
 use lib.ListN.{length, take, drop, getD, length-drop, take-append-drop}
@@ -18,7 +18,8 @@ use Rattle.basis.proofs.Sort.{sort-middle}
 use Rattle.spec.specs.Graph.{Graph, sizeOf, graphOf, beforeE, sortE, firstInE}
 use Rattle.laws.specs.Legal.{Starts}
 use Rattle.laws.proofs.Orders.{E-order, perm-sortE}
-use Rattle.order.specs.Model.{Nodes, isFree, firstOf, membersIn}
+use Rattle.sorting.specs.Nodes.{Nodes}
+use Rattle.order.specs.Model.{isFree, firstOf, membersIn}
 use Rattle.order.proofs.Settle.{filter-append}
 
 -- the first of a list with one more

@@ -1,6 +1,9 @@
 pub mod Settle
-pub mod Sift
 pub mod Stand
 pub mod Free
 pub mod Walk
 pub mod Left
+pub mod Part
+pub mod Level
+pub mod Wipe
+pub mod Forward

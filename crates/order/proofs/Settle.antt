@@ -1,26 +1,24 @@
 -- The numbering within a level by a cursor: nodes behind it have no unnumbered neighbours in the level, so the lowest-numbered node that
 -- has some is at the cursor or after it. Of any level. Assumes nothing.
 use mathlib.Core.Path.{_≡_, refl, sym, ap, _∙_, subst}
-use mathlib.Core.Logic.{_⊎_, inl, inr, ⊎-elim}
+use mathlib.Core.Logic.{_⊎_, ⊎-elim}
 use mathlib.Core.Bool.{Bool, true, false, not, _&&_}
 use mathlib.Core.List.{List, [], _∷_, _++_, map, append-assoc, append-nil}
 use Prim.Native.Nat.{ℕ, zero, suc, _+_, _-_, _≤_, _<_}
 use native.Mathlib.Omega.{arith}
 use lib.ListN.{length, take, drop, getD, length-append, List·getD-append}
 use lib.Seq.{split-at, length-take-le, getD-take}
-use lib.Dec.{eqb}
-use borrow.Author.Tests.{eqb-true, not-true}
-use Rattle.basis.specs.Lists.{bit, filterb, countb, headOr, memb, All}
-use Rattle.basis.specs.Perm.{Once}
+use borrow.Author.Tests.{not-true}
+use Rattle.basis.specs.Lists.{filterb, headOr, memb, All}
 use Rattle.basis.proofs.Count.{length-filter, memb-times, times-memb}
 use Rattle.basis.proofs.Index.{memb-getD, getD-right}
 use Rattle.basis.proofs.Lists.{memb-append, memb-here, map-append, filter-in, filter-make, filter-none}
-use Rattle.basis.proofs.Logic.{by-test, which, clash, fails, and-split, and-make, or-split, or-left, or-right, lt-or-le}
+use Rattle.basis.proofs.Logic.{by-test, clash, fails, and-split, or-left, or-right, lt-or-le}
 use Rattle.basis.proofs.Perm.{perm-memb, perm-length}
 use Rattle.spec.specs.Graph.{Graph, adjoins, sortE, firstInE}
 use Rattle.spec.specs.Numbering.{unnumberedBy, firstFilled, nextWithin, within}
 use Rattle.laws.specs.Order.{Fresh, Grown, leftIn}
-use Rattle.laws.proofs.LevelOrder.{grow, left-le, left-less, left-length, fresh-by, fresh-next, some-next, Some}
+use Rattle.laws.proofs.LevelOrder.{grow, left-le, left-less, left-length, fresh-by, fresh-next, some-next}
 use Rattle.laws.proofs.Orders.{perm-sortE}
 use Rattle.order.specs.Model.{Spread, at-end, on}
 

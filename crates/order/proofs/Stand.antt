@@ -1,21 +1,21 @@
 -- The working words with an order in them: what is read, what a store does, and how a function's words go on from another's.
 -- Assumes nothing.
-use mathlib.Core.Path.{_≡_, refl, sym, ap, ap₂, _∙_, subst}
+use mathlib.Core.Path.{_≡_, refl, sym, ap, ap₂, _∙_}
 use mathlib.Core.Logic.{⊎-elim}
 use mathlib.Core.Bool.{Bool, true, false, _||_, or-false}
-use mathlib.Core.List.{List, [], _∷_, _++_, map, append-assoc, append-nil}
-use Prim.Native.Nat.{ℕ, zero, suc, _+_, _-_, _≤_, _<_}
+use mathlib.Core.List.{List, [], _∷_, _++_, append-assoc}
+use Prim.Native.Nat.{ℕ, suc, _+_, _-_, _≤_, _<_}
 use native.Mathlib.Omega.{arith}
-use lib.ListN.{length, take, drop, getD, set, length-append, length-take, length-drop, length-map, length-set, take-append-drop, List·getD-append}
-use lib.Seq.{ext-getD, drop-append-add, drop-drop, take-at, drop-at, drop-cons, set-append-left, set-at, getD-append-add, getD-drop, getD-set-same, getD-set-other, length-take-le}
+use lib.ListN.{length, take, drop, getD, set, length-append, length-drop, length-map, length-set, take-append-drop, List·getD-append}
+use lib.Seq.{ext-getD, drop-append-add, drop-drop, take-at, drop-at, drop-cons, set-append-left, set-at, getD-drop, getD-set-same, getD-set-other, length-take-le}
 use lib.Dec.{eqb}
 use borrow.Author.Tests.{eq-eqb, ne-eqb, eqb-true}
-use Rattle.basis.specs.Lists.{bit, countb, memb, upFrom}
-use Rattle.basis.specs.Perm.{Once, Perm}
-use Rattle.basis.proofs.Count.{bit-one, bit-none, count-every, count-append, count-sub, count-length, memb-times, times-none}
-use Rattle.basis.proofs.Index.{getD-map-upFrom, getD-right}
+use Rattle.basis.specs.Lists.{bit, memb, upFrom}
+use Rattle.basis.specs.Perm.{Perm}
+use Rattle.basis.proofs.Count.{bit-one, bit-none, count-every, count-append, count-sub, count-length, times-none}
+use Rattle.basis.proofs.Index.{getD-map-upFrom}
 use Rattle.basis.proofs.Lists.{length-upFrom, memb-append, memb-one, map-cong}
-use Rattle.basis.proofs.Logic.{which, clash, fails, by-test, or-split, or-left, or-right, eq-or-ne}
+use Rattle.basis.proofs.Logic.{clash, by-test, or-split, or-left, or-right, eq-or-ne}
 use Rattle.basis.proofs.Perm.{perm-memb, perm-append, perm-refl, perm-length}
 use Rattle.order.specs.Model.{marksOf, stand, orderIn, Listed, Open, Became}
 
@@ -67,7 +67,7 @@ pub marks-length : (n : ℕ) (o : List ℕ) → length (marksOf n o) ≡ n
 unfolding marksOf
 marks-length n o = length-map (upFrom 1 n) (λ z. bit (memb z o)) ∙ length-upFrom 1 n
 
-marks-at : (n : ℕ) (o : List ℕ) (i : ℕ) → i < n → getD (marksOf n o) i 0 ≡ bit (memb (suc i) o)
+pub marks-at : (n : ℕ) (o : List ℕ) (i : ℕ) → i < n → getD (marksOf n o) i 0 ≡ bit (memb (suc i) o)
 unfolding marksOf
 marks-at n o i h = let e : 1 + i ≡ suc i = omega arith in getD-map-upFrom (λ z. bit (memb z o)) 1 n i 0 h ∙ ap (λ (z : ℕ). bit (memb z o)) e
 

@@ -1,14 +1,14 @@
 -- The loops that take one node of the order after another and add what it finds. Assumes nothing.
-use mathlib.Core.Path.{_≡_, refl, sym, ap, _∙_, subst}
-use mathlib.Core.List.{List, [], _∷_, _++_, foldl}
+use mathlib.Core.Path.{_≡_, refl, sym, ap, _∙_}
+use mathlib.Core.List.{List, [], foldl}
 use Prim.Native.Nat.{ℕ, suc, _+_, _-_, _≤_, _<_}
 use native.Mathlib.Omega.{arith}
 use native.Mathlib.Numerals.{add-one}
 use lib.ListN.{length, take, drop, getD, length-append, drop-of-length-le}
 use lib.Seq.{drop-cons, take-append-le, take-all, getD-take}
 use Rattle.basis.proofs.Index.{memb-getD}
-use Rattle.spec.specs.Graph.{graphOf, graphRefusal, rowOf, sizeOf}
-use Rattle.order.specs.Model.{orderIn, Nodes, Listed, Open, Became, Far, foundBy, addBy, Spread, at-end, on, Spreads}
+use Rattle.spec.specs.Graph.{graphOf, graphRefusal, sizeOf}
+use Rattle.order.specs.Model.{orderIn, Open, Became, Far, foundBy, addBy, Spread, at-end, on, Spreads}
 use Rattle.order.proofs.Stand.{At, open-at, at-order, at-open, at-next, at-became, order-at, listed-most}
 use Rattle.order.proofs.Free.{far-same, far-on, row-fine, found-listed}
 

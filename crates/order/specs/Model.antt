@@ -1,16 +1,17 @@
 -- What the functions that build the order of a part do, as functions on lists: the contracts cite these, laws take them to `spec`.
 -- Assumes nothing.
 use mathlib.Core.Path.{_≡_}
-use mathlib.Core.Bool.{Bool, true, false, not, _&&_, cond}
-use mathlib.Core.List.{List, [], _∷_, _++_, map}
+use mathlib.Core.Bool.{Bool, true, not, _&&_, cond}
+use mathlib.Core.List.{List, _++_, map}
 use Prim.Native.Nat.{ℕ, suc, _+_, _-_, _≤_, _<_}
 use lib.ListN.{length, take, drop, getD}
 use lib.Dec.{eqb}
 use Rattle.basis.specs.Lists.{bit, filterb, memb, upFrom}
 use Rattle.basis.specs.Perm.{times, Once}
 use Rattle.spec.specs.Graph.{Graph, nodes, beforeE, sortE, ofNode}
-use Rattle.spec.specs.Numbering.{levelNodes}
+use Rattle.spec.specs.Numbering.{levelNodes, within, laterLevel}
 use Rattle.laws.specs.Legal.{Closed}
+use Rattle.sorting.specs.Nodes.{Nodes}
 
 -- ---- the working words
 
@@ -25,10 +26,6 @@ stand n o R = marksOf n o ++ (o ++ drop (length o) R)
 -- the order of t nodes that stands in the working words
 abbrev pub orderIn : ℕ → ℕ → List ℕ → List ℕ
 orderIn n t W = take t (drop n W)
-
--- nodes of 1..n
-abbrev pub Nodes : ℕ → List ℕ → Type 0
-Nodes n l = (z : ℕ) → memb z l ≡ true → (1 ≤ z) × (z ≤ n)
 
 -- some of the nodes 1..n, none twice
 pub record Listed (n : ℕ) (o : List ℕ) : Type 0 where
@@ -94,19 +91,25 @@ membersIn from m W = take m (drop from W)
 unfoldable pub ownLevels : Graph → List ℕ → List ℕ → List ℕ
 ownLevels g P L = map (λ z. cond (memb z P) (ofNode L z) 0) (nodes g)
 
--- P is the nodes of a part in rising order, or of several, with levels 1..k in L
-pub record PartOf (g : Graph) (P L : List ℕ) (k : ℕ) : Type 0 where
-  pub rising : P ≡ filterb (λ q. memb q P) (nodes g)
-  pub closed : Closed g P
-  pub low : (q : ℕ) → memb q P ≡ true → 1 ≤ ofNode L q
-  pub high : (q : ℕ) → memb q P ≡ true → ofNode L q ≤ k
+-- the part's levels by old number, as they stand in the words W
+abbrev pub levelsIn : Graph → ℕ → ℕ → ℕ → List ℕ → List ℕ
+levelsIn g at from m W = ownLevels g (membersIn from m W) (drop at W)
 
--- the part's nodes and their levels stand behind the order: the levels from `at` on, the m nodes from `from` on
-pub record Behind (g : Graph) (n at from m k : ℕ) (W : List ℕ) : Type 0 where
+-- The part's nodes and their levels stand behind the order: the levels from `at` on, the m nodes, in rising order, from `from` on. No edge
+-- leaves the part, and all its levels are at least 1.
+pub record Behind (g : Graph) (n at from m : ℕ) (W : List ℕ) : Type 0 where
   pub levels : Far n at W
   pub start : n + n ≤ from
   pub held : from + m ≤ length W
-  pub part : PartOf g (membersIn from m W) (drop at W) k
+  pub rising : membersIn from m W ≡ filterb (λ q. memb q (membersIn from m W)) (nodes g)
+  pub closed : Closed g (membersIn from m W)
+  pub low : (q : ℕ) → memb q (membersIn from m W) ≡ true → 1 ≤ ofNode (drop at W) q
+
+-- v is a node of the part, in level 1, and there is a level
+pub record Starting (ls P : List ℕ) (k v : ℕ) : Type 0 where
+  pub some : 1 ≤ k
+  pub member : memb v P ≡ true
+  pub first : ofNode ls v ≡ 1
 
 -- before level i is numbered: o has the levels below i, and the level just before i from a on
 pub record Levelled (g : Graph) (ls : List ℕ) (i a : ℕ) (o : List ℕ) : Type 0 where
@@ -122,3 +125,11 @@ pub record Begun (g : Graph) (ls : List ℕ) (i b : ℕ) (o : List ℕ) : Type 0
   pub inside : b ≤ length o
   pub below : (x : ℕ) → memb x (take b o) ≡ true → ofNode ls x < i
   pub here : (x : ℕ) → times x (drop b o) ≤ times x (levelNodes g ls i)
+
+-- level i numbered within, after the order o
+abbrev pub filledIn : Graph → List ℕ → ℕ → List ℕ → List ℕ
+filledIn g ls i o = within (length (levelNodes g ls i)) g (levelNodes g ls i) o
+
+-- a later level i numbered after the order o
+abbrev pub laterIn : Graph → List ℕ → List ℕ → ℕ → List ℕ
+laterIn g ls o i = laterLevel g (levelNodes g ls (i - 1)) (levelNodes g ls i) o

@@ -4,14 +4,14 @@ ghost use mathlib.Core.Path.{_≡_};
 ghost use mathlib.Core.Bool.{true, false, cond};
 ghost use mathlib.Core.List.{List, [], _∷_, _++_, foldl};
 ghost use Prim.Native.Nat.{ℕ, _+_, _-_, _≤_, _<_};
-ghost use lib.ListN.{length, take, drop, getD, replicate};
-ghost use lib.Seq.{slice};
-ghost use lib.Dec.{eqb, ltb};
-ghost use Rattle.basis.specs.Lists.{filterb, chainb, memb};
+ghost use lib.ListN.{length, take, drop, replicate};
+ghost use lib.Dec.{ltb};
+ghost use Rattle.basis.specs.Lists.{filterb, chainb, memb, upFrom, overwrite};
 ghost use Rattle.spec.specs.Graph.{sizeOf, graphOf, graphRefusal, sortE, firstInE};
+ghost use Rattle.spec.specs.Numbering.{forwardOrder};
 ghost use Rattle.laws.specs.Legal.{Starts};
-ghost use Rattle.order.specs.Model.{stand, orderIn, Nodes, Open, Became, Far, free, isFree, firstOf, foundBy, addBy, Spreads, membersIn};
-use crate::sort;
+ghost use Rattle.sorting.specs.Nodes.{Nodes};
+ghost use Rattle.order.specs.Model.{stand, orderIn, Open, Became, Far, free, isFree, firstOf, foundBy, addBy, Spreads, membersIn, levelsIn, Behind, Begun, Levelled, Starting, filledIn, laterIn};
 use words::wide;
 
 // Whether the node q has no number yet and stands in level i.
@@ -78,7 +78,7 @@ fn sort_tail(starts: &[u16], work: &mut [u16], n: usize, t: usize, e: usize)
     requires { ⌜ t ≤ e ⌝ }
     ensures { λ _. ⌜ ((neighbours : List ℕ) → Starts (now (starts .entry)) neighbours → now (work .exit) ≡ stand n (take t (orderIn n e (now (work .entry))) ++ sortE (graphOf (now (starts .entry)) neighbours) (drop t (orderIn n e (now (work .entry))))) (drop n (now (work .entry)))) ⌝ }
 {
-    sort::by_e(starts, &mut work[n + t..n + e]);
+    sorting::legal::by_e(starts, &mut work[n + t..n + e]);
 }
 
 // "their unnumbered neighbours in this level, in E": those of w.
@@ -195,4 +195,150 @@ fn first_left(starts: &[u16], work: &[u16], at: usize, from: usize, m: usize, i:
         j += 1;
     }
     best
+}
+
+// "If nodes are left, number the first in E and go on": the node z, and then the cursor from it.
+fn resume(
+    starts: &[u16],
+    neighbours: &[u16],
+    work: &mut [u16],
+    n: usize,
+    at: usize,
+    t: usize,
+    z: u16,
+    i: u16,
+) -> usize
+    requires { ⌜ graphRefusal (now starts) (now neighbours) ≡ 0 ⌝ }
+    requires { ⌜ n ≡ sizeOf (now starts) ⌝ }
+    requires { ⌜ Open n t (now work) ⌝ }
+    requires { ⌜ Far n at (now work) ⌝ }
+    requires { ⌜ (1 ≤ z) × (z ≤ n) ⌝ }
+    requires { ⌜ memb z (orderIn n t (now work)) ≡ false ⌝ }
+    ensures { λ r. ⌜ Spreads n (foundBy (graphOf (now (starts .entry)) (now (neighbours .entry))) (drop at (now (work .entry))) i) t (orderIn n t (now (work .entry)) ++ (z ∷ [])) (now (work .entry)) r (now (work .exit)) ⌝ }
+{
+    push(work, n, t, z);
+    spread(starts, neighbours, work, n, at, t, t + 1, i)
+}
+
+// Numbers the rest of level i. Its nodes stand in the order from b on, up to t, where it ends.
+fn fill(
+    starts: &[u16],
+    neighbours: &[u16],
+    work: &mut [u16],
+    n: usize,
+    at: usize,
+    from: usize,
+    m: usize,
+    b: usize,
+    t: usize,
+    i: u16,
+) -> usize
+    requires { ⌜ graphRefusal (now starts) (now neighbours) ≡ 0 ⌝ }
+    requires { ⌜ n ≡ sizeOf (now starts) ⌝ }
+    requires { ⌜ Open n t (now work) ⌝ }
+    requires { ⌜ Behind (graphOf (now starts) (now neighbours)) n at from m (now work) ⌝ }
+    requires { ⌜ Begun (graphOf (now starts) (now neighbours)) (levelsIn (graphOf (now starts) (now neighbours)) at from m (now work)) i b (orderIn n t (now work)) ⌝ }
+    ensures { λ r. ⌜ Became n (now (work .entry)) (filledIn (graphOf (now (starts .entry)) (now (neighbours .entry))) (levelsIn (graphOf (now (starts .entry)) (now (neighbours .entry))) at from m (now (work .entry))) i (orderIn n t (now (work .entry)))) r (now (work .exit)) ⌝ }
+{
+    let mut e = spread(starts, neighbours, work, n, at, b, t, i);
+    let mut z = first_left(starts, work, at, from, m, i);
+    while z != 0 {
+        e = resume(starts, neighbours, work, n, at, e, z, i);
+        z = first_left(starts, work, at, from, m, i);
+    }
+    e
+}
+
+// "Each later level": level i, where the level before stands in the order from a up to b, where it ends.
+fn level(
+    starts: &[u16],
+    neighbours: &[u16],
+    work: &mut [u16],
+    n: usize,
+    at: usize,
+    from: usize,
+    m: usize,
+    a: usize,
+    b: usize,
+    i: u16,
+) -> usize
+    requires { ⌜ graphRefusal (now starts) (now neighbours) ≡ 0 ⌝ }
+    requires { ⌜ n ≡ sizeOf (now starts) ⌝ }
+    requires { ⌜ Open n b (now work) ⌝ }
+    requires { ⌜ Behind (graphOf (now starts) (now neighbours)) n at from m (now work) ⌝ }
+    requires { ⌜ Levelled (graphOf (now starts) (now neighbours)) (levelsIn (graphOf (now starts) (now neighbours)) at from m (now work)) i a (orderIn n b (now work)) ⌝ }
+    ensures { λ r. ⌜ Became n (now (work .entry)) (laterIn (graphOf (now (starts .entry)) (now (neighbours .entry))) (levelsIn (graphOf (now (starts .entry)) (now (neighbours .entry))) at from m (now (work .entry))) (orderIn n b (now (work .entry))) i) r (now (work .exit)) ⌝ }
+{
+    let e = from_before(starts, neighbours, work, n, at, a, b, i);
+    fill(starts, neighbours, work, n, at, from, m, b, e, i)
+}
+
+// Sets the marks of the t nodes of the order to 0 again.
+fn wipe(work: &mut [u16], n: usize, t: usize)
+    requires { ⌜ Open n t (now work) ⌝ }
+    ensures { λ _. ⌜ now (work .exit) ≡ replicate n 0 ++ drop n (now (work .entry)) ⌝ }
+{
+    let mut h = 0;
+    while h < t {
+        let p = wide(work[n + h]) - 1;
+        work[p] = 0;
+        h += 1;
+    }
+}
+
+// The levels 2 to k, one after the other, where the order has level 1.
+fn later_levels(
+    starts: &[u16],
+    neighbours: &[u16],
+    work: &mut [u16],
+    n: usize,
+    at: usize,
+    from: usize,
+    m: usize,
+    t: usize,
+    k: u16,
+) -> usize
+    requires { ⌜ graphRefusal (now starts) (now neighbours) ≡ 0 ⌝ }
+    requires { ⌜ n ≡ sizeOf (now starts) ⌝ }
+    requires { ⌜ Open n t (now work) ⌝ }
+    requires { ⌜ Behind (graphOf (now starts) (now neighbours)) n at from m (now work) ⌝ }
+    requires { ⌜ Levelled (graphOf (now starts) (now neighbours)) (levelsIn (graphOf (now starts) (now neighbours)) at from m (now work)) 2 0 (orderIn n t (now work)) ⌝ }
+    requires { ⌜ 1 ≤ k ⌝ }
+    ensures { λ r. ⌜ Became n (now (work .entry)) (foldl (laterIn (graphOf (now (starts .entry)) (now (neighbours .entry))) (levelsIn (graphOf (now (starts .entry)) (now (neighbours .entry))) at from m (now (work .entry)))) (orderIn n t (now (work .entry))) (upFrom 2 (k - 1))) r (now (work .exit)) ⌝ }
+{
+    let mut a = 0;
+    let mut b = t;
+    let mut i: u16 = 1;
+    while i < k {
+        i += 1;
+        let e = level(starts, neighbours, work, n, at, from, m, a, b, i);
+        a = b;
+        b = e;
+    }
+    b
+}
+
+// The order of a part: its m nodes by number, before any turn, in the n words after the marks, which are 0 before and after. The part's k
+// levels stand by old number from `at` on, its nodes in rising order from `from` on. "Level 1: v first".
+pub fn forward(
+    starts: &[u16],
+    neighbours: &[u16],
+    work: &mut [u16],
+    at: usize,
+    from: usize,
+    m: usize,
+    k: u16,
+    v: u16,
+)
+    requires { ⌜ graphRefusal (now starts) (now neighbours) ≡ 0 ⌝ }
+    requires { ⌜ take (sizeOf (now starts)) (now work) ≡ replicate (sizeOf (now starts)) 0 ⌝ }
+    requires { ⌜ Behind (graphOf (now starts) (now neighbours)) (sizeOf (now starts)) at from m (now work) ⌝ }
+    requires { ⌜ Starting (levelsIn (graphOf (now starts) (now neighbours)) at from m (now work)) (membersIn from m (now work)) k v ⌝ }
+    ensures { λ _. ⌜ now (work .exit) ≡ replicate (sizeOf (now (starts .entry))) 0 ++ overwrite (forwardOrder (graphOf (now (starts .entry)) (now (neighbours .entry))) (levelsIn (graphOf (now (starts .entry)) (now (neighbours .entry))) at from m (now (work .entry))) k v) (drop (sizeOf (now (starts .entry))) (now (work .entry))) ⌝ }
+{
+    let n = starts.len() - 1;
+    push(work, n, 0, v);
+    let b = fill(starts, neighbours, work, n, at, from, m, 0, 1, 1);
+    let t = later_levels(starts, neighbours, work, n, at, from, m, b, k);
+    wipe(work, n, t);
 }

@@ -1,5 +1,4 @@
 -- `order::legal::append` meets its contract. The invariant: what the rest of the row adds from here is what the row adds from the start. Assumes nothing.
-use mathlib.Core.Path.{_≡_, _∙_, sym}
 use Prim.Native.Nat.{_-_}
 use native.Mathlib.Omega.{arith}
 use lib.ListN.{length}
@@ -7,9 +6,6 @@ use borrow.Author.Needs.{needs}
 use Rattle.order.proofs.Free.{Appending, append-begin, append-far, append-open, row-node, append-step, append-done}
 use Rattle.order.proofs.legal.append.Statement.{statement}
 use Rattle.order.proofs.legal.append.Tie as tie
-use Rattle.order.proofs.legal.append.Reads as reads
-use Rattle.order.proofs.legal.append.Lts as lts
-use Rattle.order.proofs.legal.offer.Reads as offer-reads
 
 abbrev Inv-loop : tie.InvT-loop
 Inv-loop row work₀ n at t i e₀ j₀ work e j = Appending row n at work₀ t i work e j
@@ -17,41 +13,32 @@ Inv-loop row work₀ n at t i e₀ j₀ work e j = Appending row n at work₀ t 
 abbrev μ-loop : tie.MeasureT-loop
 μ-loop row work₀ n at t i e₀ j₀ work e j = length row - j
 
--- src/legal.rt:65:5
 loop-holds : tie.Need-loop-holds Inv-loop μ-loop
 loop-holds c = let P = c .before .before .pre in append-begin (c .before .before .args .i) (P .0) (P .1 .0) (P .1 .1 .0) (P .1 .1 .1)
 
--- src/legal.rt:66:17
 mul-q : tie.Need-mul-q Inv-loop μ-loop
 mul-q c = search needs
 
--- src/legal.rt:66:17
 shared-slice-read-q : tie.Need-shared-slice-read-q Inv-loop μ-loop
 shared-slice-read-q c = search needs
 
--- src/legal.rt:67:9
 offer-requires : tie.Need-offer-requires Inv-loop μ-loop
 offer-requires c κs =
     let I = c .before .before .before .loop .inv in
     (append-open I, (append-far I, row-node I (c .before .before .loop-test .taken)))
 
--- src/legal.rt:68:9
 add-j : tie.Need-add-j Inv-loop μ-loop
 add-j c = omega (arith, c .before .before .before .before .before .loop-test .taken)
 
--- src/legal.rt:65:5
 loop-less : tie.Need-loop-less Inv-loop μ-loop
 loop-less c = omega (arith, c .before .before .before .before .before .loop-test .taken)
 
--- src/legal.rt:65:5
 loop-again : tie.Need-loop-again Inv-loop μ-loop
 loop-again c = append-step (c .before .before .before .before .before .before .loop .inv) (c .before .before .before .before .before .loop-test .taken) (c .before .before .offer .kept .0) (c .before .before .offer .ensures)
 
--- src/legal.rt:56:1
 same-length : tie.Need-same-length Inv-loop μ-loop
 same-length c = c .before .loop .inv .size
 
--- src/legal.rt:56:1
 returns : tie.Need-returns Inv-loop μ-loop
 returns c = append-done (c .before .loop .inv) (c .loop-test .left)
 

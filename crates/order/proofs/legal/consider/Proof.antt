@@ -1,61 +1,45 @@
 -- `order::legal::consider` meets its contract. Assumes nothing.
-use mathlib.Core.Path.{_≡_, _∙_, sym}
-use native.Mathlib.Omega.{arith}
+use mathlib.Core.Path.{_∙_, sym}
 use borrow.Author.Tests.{eq-eqb, ne-eqb}
-use Rattle.basis.proofs.Logic.{eqb-self}
 use Rattle.spec.specs.Graph.{graphOf, beforeE}
 use Rattle.order.proofs.Left.{case-zero, case-before, case-after, case-none, free-at}
 use borrow.Author.Needs.{needs}
 use Rattle.order.proofs.legal.consider.Statement.{statement}
 use Rattle.order.proofs.legal.consider.Tie as tie
-use Rattle.order.proofs.legal.consider.Reads as reads
-use Rattle.order.proofs.legal.consider.Lts as lts
-use Rattle.graph.proofs.legal.precedes.Reads as precedes-reads
-use Rattle.order.proofs.legal.is_free.Reads as is-free-reads
-use Rattle.words.proofs.wide.Reads as wide-reads
 
--- src/legal.rt:171:26
 wide-requires : tie.Need-wide-requires
 wide-requires c κs = search needs
 
--- src/legal.rt:171:8
 is-free-requires : tie.Need-is-free-requires
 is-free-requires c κs = search needs
 
--- src/legal.rt:173:13
 returns : tie.Need-returns
 returns c =
     let a = c .before .before .before .before .before .before .args in
     let f = free-at (a .work .now) (a .at) (a .i) (c .before .before .before .wide .ensures) (c .before .before .is-free .ensures) (c .before .if1 .taken) in
     λ N A. case-zero (beforeE (graphOf (a .starts .now) N) (a .q) (a .best)) (a .q) (a .best) f (eq-eqb (a .best) 0 (c .if2 .taken))
 
--- src/legal.rt:175:43
 wide-requires-2 : tie.Need-wide-requires-2
 wide-requires-2 c κs = search needs
 
--- src/legal.rt:175:52
 wide-requires-3 : tie.Need-wide-requires-3
 wide-requires-3 c κs = search needs
 
--- src/legal.rt:175:12
 precedes-requires : tie.Need-precedes-requires
 precedes-requires c κs = search needs
 
--- src/legal.rt:176:13
 returns-2 : tie.Need-returns-2
 returns-2 c =
     let a = c .before .before .before .before .before .before .before .before .before .before .args in
     let f = free-at (a .work .now) (a .at) (a .i) (c .before .before .before .before .before .before .before .wide .ensures) (c .before .before .before .before .before .before .is-free .ensures) (c .before .before .before .before .before .if1 .taken) in
     λ N A. case-before (a .q) (a .best) f (ne-eqb (a .best) 0 (c .before .before .before .before .if2 .left)) (sym (rw (c .before .before .before .wide2 .ensures, c .before .before .wide3 .ensures) at (c .before .precedes .ensures N A)) ∙ c .if3 .taken)
 
--- src/legal.rt:165:1
 returns-3 : tie.Need-returns-3
 returns-3 c =
     let a = c .before .before .before .before .before .before .before .before .before .before .args in
     let f = free-at (a .work .now) (a .at) (a .i) (c .before .before .before .before .before .before .before .wide .ensures) (c .before .before .before .before .before .before .is-free .ensures) (c .before .before .before .before .before .if1 .taken) in
     λ N A. case-after (a .q) (a .best) f (ne-eqb (a .best) 0 (c .before .before .before .before .if2 .left)) (sym (rw (c .before .before .before .wide2 .ensures, c .before .before .wide3 .ensures) at (c .before .precedes .ensures N A)) ∙ c .if3 .left)
 
--- src/legal.rt:165:1
 returns-4 : tie.Need-returns-4
 returns-4 c =
     let a = c .before .before .before .before .before .args in

@@ -1,28 +1,14 @@
 -- `order::legal::extend` meets its contract. Assumes nothing.
-use mathlib.Core.Path.{_≡_, _∙_, sym, ap, subst}
-use mathlib.Core.List.{List}
-use Prim.Native.Nat.{ℕ}
-use lib.Dec.{ltb}
+use mathlib.Core.Path.{_∙_}
 use borrow.Author.Needs.{needs}
-use Rattle.basis.specs.Lists.{chainb}
-use Rattle.laws.specs.Legal.{Node, Starts}
 use Rattle.laws.proofs.Refused.{passed, starts-of}
-use Rattle.order.specs.Model.{Nodes}
 use Rattle.order.proofs.Free.{extend-open, extend-done, row-fine}
 use Rattle.order.proofs.legal.extend.Statement.{statement}
 use Rattle.order.proofs.legal.extend.Tie as tie
-use Rattle.order.proofs.legal.extend.Reads as reads
-use Rattle.order.proofs.legal.extend.Lts as lts
-use Rattle.graph.proofs.legal.row.Reads as row-reads
-use Rattle.order.proofs.legal.append.Reads as append-reads
-use Rattle.order.proofs.legal.sort_tail.Reads as sort-tail-reads
-use Rattle.words.proofs.wide.Reads as wide-reads
 
--- src/legal.rt:102:53
 wide-requires : tie.Need-wide-requires
 wide-requires c κs = search needs
 
--- src/legal.rt:102:9
 row-requires : tie.Need-row-requires
 row-requires c κs =
     let P = c .before .before .before .before .pre in
@@ -30,7 +16,6 @@ row-requires c κs =
     let N₀ = c .before .before .before .before .args .neighbours .now in
     (starts-of (passed S₀ N₀ (P .0)), record { low = rw (c .wide .ensures) (P .1 .1 .1 .1 .0); high = rw (c .wide .ensures, ← P .1 .0) (P .1 .1 .1 .1 .1) })
 
--- src/legal.rt:103:9
 append-requires : tie.Need-append-requires
 append-requires c κs =
     let P = c .before .before .before .before .before .before .pre in
@@ -39,7 +24,6 @@ append-requires c κs =
     let f = row-fine S₀ N₀ (P .0) (P .1 .0) (c .before .before .wide .result) (c .before .row .ensures) in
     (P .1 .1 .0, (P .1 .1 .1 .0, (f .0, f .1)))
 
--- src/legal.rt:104:5
 sort-tail-requires : tie.Need-sort-tail-requires
 sort-tail-requires c κs =
     let P = c .before .before .before .before .before .before .before .before .before .before .pre in
@@ -49,11 +33,9 @@ sort-tail-requires c κs =
     let g = extend-open (c .before .before .before .before .before .row .result .now) (c .before .before .before .before .before .before .before .before .before .before .args .at) (c .before .before .before .before .before .before .before .before .before .before .args .i) (P .1 .1 .0) (f .0) (f .1) (c .before .before .before .append .ensures) in
     ((N₀, starts-of (passed S₀ N₀ (P .0))), (P .1 .0, (g .0, g .1)))
 
--- src/legal.rt:85:1
 same-length : tie.Need-same-length
 same-length c = c .before .before .sort-tail .kept .1 .0 ∙ c .before .before .before .before .before .before .append .kept .1 .0
 
--- src/legal.rt:85:1
 returns : tie.Need-returns
 returns c =
     let P = c .before .before .before .before .before .before .before .before .before .before .before .before .before .pre in

@@ -1,16 +1,9 @@
 -- `order::legal::from_before` meets its contract. The invariant: what the rest of the level before adds from here is what all of it adds from the start. Assumes nothing.
-use mathlib.Core.Path.{_≡_, _∙_, sym}
 use Prim.Native.Nat.{_-_}
 use native.Mathlib.Omega.{arith}
-use lib.ListN.{length}
-use borrow.Author.Needs.{needs}
-use Rattle.order.proofs.Stand.{at-most}
 use Rattle.order.proofs.Walk.{Before, before-begin, before-in, before-step, before-done, walk-open, walk-far, walk-range, walk-index}
 use Rattle.order.proofs.legal.from_before.Statement.{statement}
 use Rattle.order.proofs.legal.from_before.Tie as tie
-use Rattle.order.proofs.legal.from_before.Reads as reads
-use Rattle.order.proofs.legal.from_before.Lts as lts
-use Rattle.order.proofs.legal.extend.Reads as extend-reads
 
 abbrev Inv-loop : tie.InvT-loop
 Inv-loop starts neighbours work₀ n at a b i e₀ h₀ work e h = Before starts neighbours n at work₀ a b i work e h
@@ -18,46 +11,36 @@ Inv-loop starts neighbours work₀ n at a b i e₀ h₀ work e h = Before starts
 abbrev μ-loop : tie.MeasureT-loop
 μ-loop starts neighbours work₀ n at a b i e₀ h₀ work e h = b - h
 
--- src/legal.rt:117:5
 loop-holds : tie.Need-loop-holds Inv-loop μ-loop
 loop-holds c = let P = c .before .before .before .pre in before-begin (c .before .before .before .args .i) (P .0) (P .1 .0) (P .1 .1 .0) (P .1 .1 .1 .0) (P .1 .1 .1 .1)
 
--- src/legal.rt:118:22
 add-w : tie.Need-add-w Inv-loop μ-loop
 add-w c = let I = c .before .loop .inv in omega (arith, walk-index (I .walk) (c .before .loop .h) (before-in I (c .loop-test .taken)))
 
--- src/legal.rt:118:17
 mul-w : tie.Need-mul-w Inv-loop μ-loop
 mul-w c = let I = c .before .loop .inv in omega (arith, walk-index (I .walk) (c .before .loop .h) (before-in I (c .loop-test .taken)))
 
--- src/legal.rt:118:17
 slice-read-w : tie.Need-slice-read-w Inv-loop μ-loop
 slice-read-w c = let I = c .before .before .loop .inv in walk-index (I .walk) (c .before .before .loop .h) (before-in I (c .before .loop-test .taken))
 
--- src/legal.rt:119:9
 extend-requires : tie.Need-extend-requires Inv-loop μ-loop
 extend-requires c κs =
     let I = c .before .before .before .loop .inv in
     let K = I .walk in
     (K .ok, (K .sized, (walk-open K, (walk-far K, walk-range K (c .before .before .before .loop .h) (before-in I (c .before .before .loop-test .taken))))))
 
--- src/legal.rt:120:9
 add-h : tie.Need-add-h Inv-loop μ-loop
 add-h c = omega (arith, c .before .before .before .before .before .loop-test .taken)
 
--- src/legal.rt:117:5
 loop-less : tie.Need-loop-less Inv-loop μ-loop
 loop-less c = omega (arith, c .before .before .before .before .before .loop-test .taken)
 
--- src/legal.rt:117:5
 loop-again : tie.Need-loop-again Inv-loop μ-loop
 loop-again c = before-step (c .before .before .before .before .before .before .loop .inv) (c .before .before .before .before .before .loop-test .taken) (c .before .before .extend .kept .1 .1 .0) (c .before .before .extend .ensures)
 
--- src/legal.rt:98:1
 same-length : tie.Need-same-length Inv-loop μ-loop
 same-length c = c .before .loop .inv .walk .size
 
--- src/legal.rt:98:1
 returns : tie.Need-returns Inv-loop μ-loop
 returns c = before-done (c .before .loop .inv) (c .loop-test .left)
 

@@ -6,46 +6,34 @@ use Rattle.order.proofs.Free.{push-room, push-is}
 use borrow.Author.Needs.{needs}
 use Rattle.order.proofs.legal.push.Statement.{statement}
 use Rattle.order.proofs.legal.push.Tie as tie
-use Rattle.order.proofs.legal.push.Reads as reads
-use Rattle.order.proofs.legal.push.Lts as lts
-use Rattle.words.proofs.wide.Reads as wide-reads
 
--- src/legal.rt:36:13
 wide-requires : tie.Need-wide-requires
 wide-requires c κs = search needs
 
--- src/legal.rt:36:13
 sub-p : tie.Need-sub-p
 sub-p c = search needs
 
--- src/legal.rt:37:5
 mul-work : tie.Need-mul-work
 mul-work c = search needs
 
--- src/legal.rt:37:5
 slice-write-work : tie.Need-slice-write-work
 slice-write-work c = search needs
 
--- src/legal.rt:38:10
 add-work : tie.Need-add-work
 add-work c = search needs
 
--- src/legal.rt:38:5
 mul-work-2 : tie.Need-mul-work-2
 mul-work-2 c = search needs
 
--- src/legal.rt:38:5
 slice-write-work-2 : tie.Need-slice-write-work-2
 slice-write-work-2 c =
     let s = c .before .before in
     let P = s .pre in
     lt-length-set (s .args .work .now) (c .wide .result - 1) 1 (omega (arith, push-room (P .0) (s .args .z) (P .1 .0 .0) (P .1 .0 .1) (P .1 .1), P .0 .room))
 
--- src/legal.rt:30:1
 same-length : tie.Need-same-length
 same-length c = search needs
 
--- src/legal.rt:30:1
 returns : tie.Need-returns
 returns c =
     let s = c .before .before in

@@ -1,0 +1,82 @@
+-- `combine::legal::place_all` meets its contract. Assumes nothing.
+use Prim.Native.Nat.{ℕ, _+_, _-_, _*_, _≤_, _<_}
+use native.Mathlib.Omega.{arith}
+use borrow.Author.Needs.{needs}
+use Rattle.piecing.proofs.PlaceLoop.{PlacingAll, place-begin, now-stands, now-placeable, end-fits, place-step, place-done}
+use Rattle.combine.proofs.legal.place_all.Statement.{statement}
+use Rattle.combine.proofs.legal.place_all.Tie as tie
+
+abbrev Inv-loop : tie.InvT-loop
+Inv-loop scratch₀ levels₀ n m narrow i₀ scratch levels i = PlacingAll n m narrow scratch₀ levels₀ scratch levels i
+
+abbrev μ-loop : tie.MeasureT-loop
+μ-loop scratch₀ levels₀ n m narrow i₀ scratch levels i = m - i
+
+loop-holds : tie.Need-loop-holds Inv-loop μ-loop
+loop-holds c = let p = c .before .before .pre in place-begin (p .0 .0) (p .0 .1) (p .0 .2) (p .1)
+
+mul-wide : tie.Need-mul-wide Inv-loop μ-loop
+mul-wide c = let I = c .before .loop .inv in omega (arith, I .few)
+
+add-wide : tie.Need-add-wide Inv-loop μ-loop
+add-wide c = let I = c .before .loop .inv in omega (arith, I .few, I .last)
+
+mul-wide-2 : tie.Need-mul-wide-2 Inv-loop μ-loop
+mul-wide-2 c = let I = c .before .loop .inv in omega (arith, I .few, I .last)
+
+slice-read-wide : tie.Need-slice-read-wide Inv-loop μ-loop
+slice-read-wide c = let I = c .before .before .loop .inv in let h = c .before .loop-test .taken in omega (arith, I .room, I .last)
+
+wide-requires : tie.Need-wide-requires Inv-loop μ-loop
+wide-requires c κs = search needs
+
+size-at-requires : tie.Need-size-at-requires Inv-loop μ-loop
+size-at-requires c κs = now-stands (c .before .before .before .before .before .loop .inv) (c .before .before .before .before .loop-test .taken) (c .before .before .wide .ensures)
+
+add-t : tie.Need-add-t Inv-loop μ-loop
+add-t c = let I = c .before .before .before .before .before .before .loop .inv in omega (arith, end-fits I (c .before .before .before .before .before .loop-test .taken) (c .before .before .before .wide .ensures) (c .size-at .ensures), I .few)
+
+place-requires : tie.Need-place-requires Inv-loop μ-loop
+place-requires c κs = now-placeable (c .before .before .before .before .before .before .before .before .loop .inv) (c .before .before .before .before .before .before .before .loop-test .taken) (c .before .before .before .before .before .wide .ensures) (c .before .before .size-at .ensures)
+
+add-i : tie.Need-add-i Inv-loop μ-loop
+add-i c = omega (arith, c .before .before .before .before .before .before .before .before .before .before .before .before .loop-test .taken)
+
+loop-less : tie.Need-loop-less Inv-loop μ-loop
+loop-less c = omega (arith, c .before .before .before .before .before .before .before .before .before .before .before .before .loop-test .taken)
+
+loop-again : tie.Need-loop-again Inv-loop μ-loop
+loop-again c =
+    let p = c .before .before .before .before .place .ensures in
+    place-step (c .before .before .before .before .before .before .before .before .before .before .before .before .before .loop .inv) (c .before .before .before .before .before .before .before .before .before .before .before .before .loop-test .taken) (c .before .before .before .before .before .before .before .before .before .before .wide .ensures) (c .before .before .before .before .before .before .before .size-at .ensures) (p .0) (p .1)
+
+same-length : tie.Need-same-length Inv-loop μ-loop
+same-length c = c .before .loop .inv .counts .size
+
+same-length-2 : tie.Need-same-length-2 Inv-loop μ-loop
+same-length-2 c = c .before .loop .inv .size
+
+returns : tie.Need-returns Inv-loop μ-loop
+returns c = place-done (c .before .loop .inv) (c .loop-test .left)
+
+pub place-all-spec : {M : Type 1} → statement M
+place-all-spec =
+    tie.close
+    (tie.spec
+    Inv-loop
+    μ-loop
+    loop-holds
+    mul-wide
+    add-wide
+    mul-wide-2
+    slice-read-wide
+    wide-requires
+    size-at-requires
+    add-t
+    place-requires
+    add-i
+    loop-less
+    loop-again
+    same-length
+    same-length-2
+    returns)

@@ -1,0 +1,125 @@
+-- The answer and the end contents of the mesh call, by the tests that led there. Assumes nothing.
+use mathlib.Core.Path.{_≡_, refl, sym, ap, _∙_}
+use mathlib.Core.Bool.{Bool, true, false, _||_}
+use mathlib.Core.List.{List, [], _∷_, _++_}
+use Prim.Native.Nat.{ℕ, zero, suc, _≤_, _<_}
+use native.Mathlib.Omega.{arith}
+use lib.ListN.{length, take, drop, replicate}
+use lib.Seq.{length-take-le}
+use lib.Dec.{eqb, ltb, eqb·suc-zero}
+use borrow.Author.Tests.{lt-ltb, le-ltb, ne-eqb}
+use Rattle.basis.specs.Lists.{overwrite}
+use Rattle.basis.proofs.Logic.{by-test}
+use Rattle.spec.specs.Refusal.{refuse, _orElse_}
+use Rattle.spec.specs.Lent.{Outcome, refused, accepted, outcome, filled, zeroed, scratchAfter, short}
+use Rattle.spec.specs.Graph.{badSize, maxEntries}
+use Rattle.spec.specs.Mesh.{nodeCount, badNodes, elementRefusal, elementsRefusal, entryCount, startList, neighbourList, refuses11}
+use Rattle.spec.specs.CallsMesh.{graphOfElements, meshRefusal, meshAnswer, meshStarts, meshNeighbours, meshScratch}
+use Rattle.laws.proofs.Lent.{zeroed-is}
+
+-- ---- the refusal, test by test
+
+module _ (n : ℕ) (ws S N L : List ℕ) where
+  -- 1
+  pub by-size : badSize n ≡ true → meshRefusal n ws S N L ≡ 1
+  unfolding meshRefusal
+  by-size e = rw e
+
+  module _ (sized : badSize n ≡ false) where
+    -- 5
+    pub by-room : short S (suc n) || short N maxEntries || short L n ≡ true → meshRefusal n ws S N L ≡ 5
+    unfolding meshRefusal
+    by-room e = rw (sized, e)
+
+    module _ (room : short S (suc n) || short N maxEntries || short L n ≡ false) where
+      -- 9 and 10
+      pub by-elements : (r : ℕ) → r ≡ elementsRefusal (length ws) n ws → (r ≡ 0 → ⊥) → meshRefusal n ws S N L ≡ r
+      unfolding meshRefusal
+      by-elements zero e some = absurd (some refl)
+      by-elements (suc r) e some = rw (sized, room, sym e)
+
+      -- 11, or none
+      pub by-entries : elementsRefusal (length ws) n ws ≡ 0 → meshRefusal n ws S N L ≡ refuse (refuses11 (graphOfElements n ws)) 11
+      unfolding meshRefusal
+      by-entries e = rw (sized, room, e)
+
+-- elements are refused by 9 or 10 alone
+least : (a b m : ℕ) → a ≤ m → b ≤ m → (a orElse b) ≤ m
+least zero b m h l = l
+least (suc a) b m h l = h
+
+refuse-most : (t : Bool) (c m : ℕ) → c ≤ m → refuse t c ≤ m
+refuse-most true c m h = h
+refuse-most false c m h = omega arith
+
+pub elements-most : (f n : ℕ) (ws : List ℕ) → elementsRefusal f n ws ≤ 10
+unfolding elementsRefusal elementRefusal
+elements-most zero n ws = omega arith
+elements-most (suc f) n [] = omega arith
+elements-most (suc f) n (k ∷ ws) =
+    least (elementRefusal 9 n k ws) (elementsRefusal f n (drop (nodeCount k) ws)) 10
+    (least (refuse (eqb (nodeCount k) 0) 9) _ 10 (refuse-most (eqb (nodeCount k) 0) 9 10 (omega arith))
+    (least (refuse (ltb (length ws) (nodeCount k)) 9) _ 10 (refuse-most (ltb (length ws) (nodeCount k)) 9 10 (omega arith)) (refuse-most (badNodes n (take (nodeCount k) ws)) 10 10 (omega arith))))
+    (elements-most f n (drop (nodeCount k) ws))
+
+-- ---- what the call answers and leaves
+
+pub record Ends (n : ℕ) (ws S N L : List ℕ) (answer : Outcome ℕ) (S′ N′ L′ : List ℕ) : Type 0 where
+  pub answers : answer ≡ meshAnswer n ws S N L
+  pub starts : S′ ≡ meshStarts n ws S N L
+  pub neighbours : N′ ≡ meshNeighbours n ws S N L
+  pub scratch : L′ ≡ meshScratch n ws S N L
+
+-- refused before the entries are counted: all is untouched
+pub untouched : (n : ℕ) (ws S N L : List ℕ) (c : ℕ) → meshRefusal n ws S N L ≡ c → 1 ≤ c → (c ≡ 11 → ⊥) → Ends n ws S N L (refused c) S N L
+unfolding meshAnswer meshStarts meshNeighbours meshScratch outcome filled scratchAfter
+untouched n ws S N L zero e h other = absurd (omega arith)
+untouched n ws S N L (suc c) e h other = record { answers = rw e; starts = rw e; neighbours = rw e; scratch = rw (e, ne-eqb (suc c) 11 other, eqb·suc-zero c) }
+
+-- the entries were counted: 11 or none, and the scratch is 0
+pub counted : (n : ℕ) (ws S N L : List ℕ) (answer : Outcome ℕ) (S′ N′ L′ : List ℕ)
+    → meshRefusal n ws S N L ≡ refuse (refuses11 (graphOfElements n ws)) 11
+    → answer ≡ outcome (refuse (refuses11 (graphOfElements n ws)) 11) (entryCount (graphOfElements n ws))
+    → S′ ≡ filled (refuse (refuses11 (graphOfElements n ws)) 11) (startList (graphOfElements n ws)) S
+    → N′ ≡ filled (refuse (refuses11 (graphOfElements n ws)) 11) (neighbourList (graphOfElements n ws)) N
+    → L′ ≡ zeroed n L → Ends n ws S N L answer S′ N′ L′
+unfolding meshAnswer meshStarts meshNeighbours meshScratch scratchAfter
+counted n ws S N L answer S′ N′ L′ e a s t l = record {
+  answers = rw e a;
+  starts = rw e s;
+  neighbours = rw e t;
+  scratch = by-test (refuses11 (graphOfElements n ws)) (λ b. rw (e, b) l) (λ b. rw (e, b) l);
+}
+
+-- ---- the entries are counted first
+
+module _ (n : ℕ) (ws : List ℕ) where
+  pub too-many : (count : ℕ) → count ≡ entryCount (graphOfElements n ws) → 32768 < count → refuses11 (graphOfElements n ws) ≡ true
+  unfolding refuses11
+  too-many count e h = lt-ltb 32768 (entryCount (graphOfElements n ws)) (omega (arith, e))
+
+  pub not-many : (count : ℕ) → count ≡ entryCount (graphOfElements n ws) → count ≤ 32768 → refuses11 (graphOfElements n ws) ≡ false
+  unfolding refuses11
+  not-many count e h = le-ltb 32768 (entryCount (graphOfElements n ws)) (omega (arith, e))
+
+-- an outcome and a buffer by the test of 11
+pub outcome-over : (b : Bool) (a : ℕ) → b ≡ true → refused 11 ≡ outcome (refuse b 11) a
+unfolding outcome
+outcome-over b a e = rw e
+
+pub outcome-within : (b : Bool) (a c : ℕ) → b ≡ false → c ≡ a → accepted c ≡ outcome (refuse b 11) a
+unfolding outcome
+outcome-within b a c e s = rw e (ap accepted s)
+
+pub filled-over : (b : Bool) (new old : List ℕ) → b ≡ true → old ≡ filled (refuse b 11) new old
+unfolding filled
+filled-over b new old e = rw e
+
+pub filled-within : (b : Bool) (new old l : List ℕ) → b ≡ false → l ≡ overwrite new old → l ≡ filled (refuse b 11) new old
+unfolding filled
+filled-within b new old l e s = rw e s
+
+-- the front of the scratch, all 0, goes back in its place
+pub front-zero : (n : ℕ) (L front : List ℕ) → n ≤ length L → front ≡ replicate (length (take n L)) 0 → front ++ drop n L ≡ zeroed n L
+front-zero n L front h e =
+    ap (λ (f : List ℕ). f ++ drop n L) (e ∙ ap (λ (k : ℕ). replicate k 0) (length-take-le n L h)) ∙ sym (zeroed-is n L)

@@ -1,0 +1,34 @@
+// The two lists of a mesh whose elements are not refused.
+ghost use mathlib.Core.Path.{_≡_};
+ghost use Prim.Native.Nat.{_≤_, _<_};
+ghost use lib.ListN.{length};
+ghost use Rattle.spec.specs.Refusal.{refuse};
+ghost use Rattle.spec.specs.Lent.{outcome, filled, zeroed};
+ghost use Rattle.spec.specs.Mesh.{elementsRefusal, entryCount, startList, neighbourList, refuses11};
+ghost use Rattle.spec.specs.CallsMesh.{graphOfElements};
+ghost use Rattle.mesh.specs.Answer.{meaning};
+use crate::answer::Entries;
+
+// The entry count, or 11; the entries are counted before anything is written to the two lists.
+pub fn adjacency(
+    n: usize,
+    elements: &[u16],
+    starts: &mut [u16],
+    neighbours: &mut [u16],
+    scratch: &mut [u16],
+) -> Entries
+    requires { ⌜ (n ≤ 4096) × (n < length (now starts)) × (32768 ≤ length (now neighbours)) × (n ≤ length (now scratch)) ⌝ }
+    requires { ⌜ elementsRefusal (length (now elements)) n (now elements) ≡ 0 ⌝ }
+    ensures { λ r. ⌜ meaning r ≡ outcome (refuse (refuses11 (graphOfElements n (now (elements .entry)))) 11) (entryCount (graphOfElements n (now (elements .entry)))) ⌝ }
+    ensures { λ _. ⌜ now (starts .exit) ≡ filled (refuse (refuses11 (graphOfElements n (now (elements .entry)))) 11) (startList (graphOfElements n (now (elements .entry)))) (now (starts .entry)) ⌝ }
+    ensures { λ _. ⌜ now (neighbours .exit) ≡ filled (refuse (refuses11 (graphOfElements n (now (elements .entry)))) 11) (neighbourList (graphOfElements n (now (elements .entry)))) (now (neighbours .entry)) ⌝ }
+    ensures { λ _. ⌜ now (scratch .exit) ≡ zeroed n (now (scratch .entry)) ⌝ }
+{
+    let bits = &mut scratch[..n];
+    let count = rows::legal::count::count_entries(bits, elements);
+    if 32768 < count {
+        return Entries::Refused(11);
+    }
+    rows::legal::fill::fill(bits, elements, starts, neighbours);
+    Entries::Accepted(count as u32)
+}

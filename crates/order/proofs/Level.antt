@@ -1,0 +1,205 @@
+-- The numbering of one level in the working words: the loop that fills it. Assumes nothing.
+use mathlib.Core.Path.{_≡_, refl, sym, ap, ap₂, _∙_}
+use mathlib.Core.Bool.{true, false}
+use mathlib.Core.List.{List, [], _∷_, _++_}
+use Prim.Native.Nat.{ℕ, _+_, _-_, _≤_, _<_}
+use native.Mathlib.Omega.{arith}
+use lib.ListN.{length, take, drop, getD, length-append, take-append-drop}
+use lib.Seq.{length-take-le}
+use Rattle.basis.specs.Lists.{filterb, memb}
+use borrow.Author.Tests.{eqb-true}
+use Rattle.basis.proofs.Lists.{filter-cong, memb-one}
+use Rattle.basis.proofs.Logic.{fails}
+use Rattle.spec.specs.Graph.{Graph, graphOf, graphRefusal, sizeOf, firstInE}
+use Rattle.spec.specs.Numbering.{levelNodes}
+use Rattle.laws.specs.Legal.{Starts}
+use Rattle.laws.specs.Order.{Grown}
+use Rattle.laws.proofs.PartOrder.{level-in}
+use Rattle.laws.proofs.Refused.{passed, starts-of, not-refused}
+use Rattle.sorting.specs.Nodes.{Nodes}
+use Rattle.order.specs.Model.{orderIn, Listed, Open, Became, Far, free, isFree, foundBy, Spread, at-end, on, Spreads, stand, ownLevels, membersIn, levelsIn, Behind, Begun, filledIn}
+use Rattle.order.proofs.Stand.{open-at, at-order, at-next, at-became, listed-append, listed-one}
+use Rattle.order.proofs.Free.{kept, free-is, row-fine, found-listed, push-listed}
+use Rattle.order.proofs.Walk.{Walk, walk-begin, walk-open, walk-far, walk-levels}
+use Rattle.order.proofs.Settle.{Cursor, cursor-start, cursor-end, cursor-left, cursor-done, leftFirst}
+use Rattle.order.proofs.Part.{member-node, level-member, left-same, found-same, left-in}
+
+-- a cursor keeps the order a list of nodes, and it grows
+pub spread-listed : (S N L : List ℕ) (i : ℕ) {n c : ℕ} {o o′ : List ℕ} → graphRefusal S N ≡ 0 → n ≡ sizeOf S
+    → Spread (foundBy (graphOf S N) L i) c o o′ → Listed n o → Listed n o′ × (length o ≤ length o′)
+spread-listed S N L i ok q (at-end h) A = (A, omega arith)
+spread-listed S N L i {c = c} {o = o} ok q (on h s) A =
+    let w : ℕ = getD o c 0 in
+    let f = row-fine S N ok q w refl in
+    let r = spread-listed S N L i ok q s (found-listed (graphOf S N) L i o w A (f .0) (f .1)) in
+    (r .0, omega (arith, r .1, length-append o (foundBy (graphOf S N) L i o w)))
+
+-- the words go on as a cursor has left them
+pub walk-spread : {S N : List ℕ} {n at : ℕ} {W₀ o W : List ℕ} {e : ℕ} (K : Walk S N n at W₀ o W e) (i c : ℕ) (o₁ : List ℕ) → Listed n o₁ → length o ≤ length o₁
+    → {r : ℕ} {W′ : List ℕ} → length W′ ≡ length W → Spreads n (foundBy (graphOf S N) (drop at W) i) c o₁ W r W′
+    → Walk S N n at W₀ (orderIn n r W′) W′ r × Spread (foundBy (graphOf S N) (drop at W₀) i) c o₁ (orderIn n r W′) × (length o₁ ≤ r)
+walk-spread {S} {N} {n} {at} {W₀} {o} {W} {e} K i c o₁ A h {r} {W′} s X =
+    let y = rw (walk-levels K) at (X .spread) in
+    let z = spread-listed S N (drop at W₀) i (K .ok) (K .sized) y A in (
+      record {
+        ok = K .ok;
+        sized = K .sized;
+        now = at-next (K .now) (z .0) (omega (arith, z .1)) (X .became);
+        behind = K .behind;
+        room = K .room;
+        size = s ∙ K .size;
+      },
+      y,
+      omega (arith, z .1, X .became .count),
+    )
+
+-- level i is filled from b on, in the words W₀; the order has e nodes now, and z is the first in E that is left
+pub record Filling (S N : List ℕ) (n at from m : ℕ) (W₀ : List ℕ) (b t i : ℕ) (W : List ℕ) (e z : ℕ) : Type 0 where
+  pub order : List ℕ
+  pub walk : Walk S N n at W₀ order W e
+  pub behind : Behind (graphOf S N) n at from m W₀
+  pub some : 1 ≤ i
+  pub cursor : Cursor (graphOf S N) (levelNodes (graphOf S N) (levelsIn (graphOf S N) at from m W₀) i) (take b (orderIn n t W₀)) order (length order)
+      (filledIn (graphOf S N) (levelsIn (graphOf S N) at from m W₀) i (orderIn n t W₀))
+  pub left : z ≡ leftFirst (graphOf S N) (levelNodes (graphOf S N) (levelsIn (graphOf S N) at from m W₀) i) order
+
+module _ {S N : List ℕ} {n at from m : ℕ} {W₀ o W : List ℕ} {e : ℕ} (K : Walk S N n at W₀ o W e) (B : Behind (graphOf S N) n at from m W₀) where
+  -- the members stand as they stood
+  members-same : membersIn from m W ≡ membersIn from m W₀
+  members-same = ap (take m) (kept n from W₀ (B .start) (K .now))
+
+  -- what `first_left` asks
+  pub left-room : (at + sizeOf S ≤ length W) × (from + m ≤ length W)
+  left-room = (omega (arith, B .levels .held, K .size, K .sized), omega (arith, B .held, K .size))
+
+  pub left-nodes : Nodes (sizeOf S) (membersIn from m W)
+  left-nodes x k =
+      let X = member-node (not-refused S N (K .ok)) (membersIn from m W₀) (drop at W₀) (B .rising) (B .closed) x (ap (memb x) (sym members-same) ∙ k) in
+      (X .low, X .high)
+
+  pub left-is : {z : ℕ} (i : ℕ) → 1 ≤ i → ((N : List ℕ) → Starts S N → z ≡ firstInE (graphOf S N) (filterb (isFree W at i) (membersIn from m W)))
+      → z ≡ leftFirst (graphOf S N) (levelNodes (graphOf S N) (levelsIn (graphOf S N) at from m W₀) i) o
+  left-is {z} i h f =
+      let P : List ℕ = membersIn from m W₀ in
+      f N (starts-of (passed S N (K .ok)))
+      ∙ ap (firstInE (graphOf S N)) (ap (filterb (isFree W at i)) members-same ∙ filter-cong (isFree W at i) (free (drop at W₀) i o) P test
+      ∙ left-same (not-refused S N (K .ok)) P (drop at W₀) (B .rising) (B .closed) i h o)
+    where
+      test : (q : ℕ) → memb q (membersIn from m W₀) ≡ true → isFree W at i q ≡ free (drop at W₀) i o q
+      test q k =
+          let X = member-node (not-refused S N (K .ok)) (membersIn from m W₀) (drop at W₀) (B .rising) (B .closed) q k in
+          free-is (walk-open K) at q i (X .low) (rw (K .sized) (X .high)) ∙ ap₂ (λ (L : List ℕ) (p : List ℕ). free L i p q) (walk-levels K) (at-order (K .now))
+
+-- before the loop: the cursor has gone once
+pub fill-begin : {S N : List ℕ} {n at from m : ℕ} {W₀ : List ℕ} {b t i : ℕ} → graphRefusal S N ≡ 0 → n ≡ sizeOf S → Open n t W₀
+    → Behind (graphOf S N) n at from m W₀ → Begun (graphOf S N) (levelsIn (graphOf S N) at from m W₀) i b (orderIn n t W₀)
+    → {e : ℕ} {W : List ℕ} → length W ≡ length W₀ → Spreads n (foundBy (graphOf S N) (drop at W₀) i) b (orderIn n t W₀) W₀ e W
+    → (Walk S N n at W₀ (orderIn n e W) W e)
+    × Cursor (graphOf S N) (levelNodes (graphOf S N) (levelsIn (graphOf S N) at from m W₀) i) (take b (orderIn n t W₀)) (orderIn n e W) (length (orderIn n e W))
+    (filledIn (graphOf S N) (levelsIn (graphOf S N) at from m W₀) i (orderIn n t W₀))
+fill-begin {S} {N} {n} {at} {from} {m} {W₀} {b} {t} {i} ok q O B D {e} {W} s X =
+    let g : Graph = graphOf S N in
+    let ls : List ℕ = levelsIn g at from m W₀ in
+    let o : List ℕ = orderIn n t W₀ in
+    let G : Grown (take b o) (levelNodes g ls i) o = record { cur = drop b o; is = sym (take-append-drop b o); few = D .here } in
+    let K = walk-begin ok q O (B .levels) in
+    let Y = walk-spread K i b o (O .listed) (omega arith) s X in
+    let C = cursor-start g (levelNodes g ls i) (take b o) o G (λ x k. fails _ (λ p. omega (arith, D .below x p, level-in g ls i x k .1))) in (
+      Y .0,
+      cursor-end g (levelNodes g ls i) (λ p w k. found-same (not-refused S N ok) (membersIn from m W₀) (drop at W₀) (B .rising) (B .closed) i (D .some) p w
+          (level-member (not-refused S N ok) (membersIn from m W₀) (drop at W₀) (B .rising) (B .closed) i (D .some) w k)) (Y .1)
+          (rw (length-take-le b o (D .inside)) at C),
+    )
+
+module _ {S N : List ℕ} {n at from m : ℕ} {W₀ : List ℕ} {b t i : ℕ} {W : List ℕ} {e z : ℕ} (I : Filling S N n at from m W₀ b t i W e z) where
+  abbrev g : Graph
+  g = graphOf S N
+
+  abbrev lev : List ℕ
+  lev = levelNodes (graphOf S N) (levelsIn (graphOf S N) at from m W₀) i
+
+  -- what `resume` asks of the node that is left
+  pub left-range : (z ≡ 0 → ⊥) → (1 ≤ z) × (z ≤ n)
+  left-range h =
+      let k : 1 ≤ z = omega arith in
+      let w = left-in g lev (I .order) z (sym (I .left)) k in
+      let X = level-in g (levelsIn g at from m W₀) i z (w .0) .0 in
+      (k, rw (I .walk .sized) (X .high))
+
+  pub left-unseen : (z ≡ 0 → ⊥) → memb z (orderIn n e W) ≡ false
+  left-unseen h = rw (at-order (I .walk .now)) (left-in g lev (I .order) z (sym (I .left)) (omega arith) .1)
+
+  -- a turn: z is numbered and the cursor has gone on
+  pub fill-step : (z ≡ 0 → ⊥) → {e′ : ℕ} {W′ : List ℕ} → length W′ ≡ length W
+      → Spreads n (foundBy (graphOf S N) (drop at W) i) e (orderIn n e W ++ (z ∷ [])) W e′ W′
+      → (Walk S N n at W₀ (orderIn n e′ W′) W′ e′)
+      × Cursor (graphOf S N) (levelNodes (graphOf S N) (levelsIn (graphOf S N) at from m W₀) i) (take b (orderIn n t W₀)) (orderIn n e′ W′) (length (orderIn n e′ W′))
+      (filledIn (graphOf S N) (levelsIn (graphOf S N) at from m W₀) i (orderIn n t W₀))
+      × (e < e′)
+  fill-step h {e′} {W′} s X =
+      let o₁ : List ℕ = I .order ++ (z ∷ []) in
+      let r = left-range h in
+      let w = left-in g lev (I .order) z (sym (I .left)) (r .0) in
+      let A : Listed n o₁ = listed-append (I .walk .now .listed) (listed-one z (r .0) (r .1)) (λ x k. rw (eqb-true x z (sym (memb-one x z) ∙ k)) (w .1)) in
+      let Y = walk-spread (I .walk) i e o₁ A (omega (arith, length-append (I .order) (z ∷ []))) s (rw (at-order (I .walk .now)) at X) in
+      let C = cursor-left g lev z (I .cursor) (sym (I .left)) (r .0) in (
+        Y .0,
+        cursor-end g lev (λ p u k. found-same (not-refused S N (I .walk .ok)) (membersIn from m W₀) (drop at W₀) (I .behind .rising) (I .behind .closed) i (I .some) p u
+            (level-member (not-refused S N (I .walk .ok)) (membersIn from m W₀) (drop at W₀) (I .behind .rising) (I .behind .closed) i (I .some) u k)) (Y .1)
+            (rw (← I .walk .now .count) at C),
+        omega (arith, Y .2, length-append (I .order) (z ∷ []), I .walk .now .count),
+      )
+
+  pub fill-done : z ≡ 0 → Became n W₀ (filledIn (graphOf S N) (levelsIn (graphOf S N) at from m W₀) i (orderIn n t W₀)) e W
+  fill-done h =
+      rw (← cursor-done g lev (I .cursor) (λ q k. level-in g (levelsIn g at from m W₀) i q k .0 .low) (sym (I .left) ∙ h)) (at-became (I .walk .now))
+
+-- the loop goes on with the node found
+pub fill-on : {S N : List ℕ} {n at from m : ℕ} {W₀ : List ℕ} {b t i : ℕ} {W o : List ℕ} {e z : ℕ} → Behind (graphOf S N) n at from m W₀ → 1 ≤ i
+    → Walk S N n at W₀ o W e
+    → Cursor (graphOf S N) (levelNodes (graphOf S N) (levelsIn (graphOf S N) at from m W₀) i) (take b (orderIn n t W₀)) o (length o)
+    (filledIn (graphOf S N) (levelsIn (graphOf S N) at from m W₀) i (orderIn n t W₀))
+    → ((N : List ℕ) → Starts S N → z ≡ firstInE (graphOf S N) (filterb (isFree W at i) (membersIn from m W)))
+    → Filling S N n at from m W₀ b t i W e z
+fill-on {o = o} B h K C f = record { order = o; walk = K; behind = B; some = h; cursor = C; left = left-is K B _ h f }
+
+-- ---- a leftover, and the cursor from it
+
+pub push-walk : {S N : List ℕ} {n at t : ℕ} {W : List ℕ} → graphRefusal S N ≡ 0 → n ≡ sizeOf S → Open n t W → Far n at W → (z : ℕ) → (1 ≤ z) × (z ≤ n)
+    → memb z (orderIn n t W) ≡ false → {W₁ : List ℕ} → length W₁ ≡ length W → W₁ ≡ stand n (orderIn n t W ++ (z ∷ [])) (drop n W)
+    → Walk S N n at W (orderIn n t W ++ (z ∷ [])) W₁ (t + 1)
+push-walk {n = n} {t = t} {W = W} ok q O F z w u s e = record {
+  ok = ok;
+  sized = q;
+  now = record {
+    is = e;
+    count = ap (λ (k : ℕ). k + 1) (open-at O .count) ∙ sym (length-append (orderIn n t W) (z ∷ []));
+    listed = push-listed O z (w .0) (w .1) u;
+    wide = open-at O .wide;
+  };
+  behind = F;
+  room = O .room;
+  size = s;
+}
+
+pub resume-done : {S N : List ℕ} {n at t : ℕ} {W o W₁ : List ℕ} {e : ℕ} (K : Walk S N n at W o W₁ e) (i : ℕ) → {r : ℕ} {W₂ : List ℕ} → length W₂ ≡ length W₁
+    → Spreads n (foundBy (graphOf S N) (drop at W₁) i) t (orderIn n e W₁) W₁ r W₂ → Spreads n (foundBy (graphOf S N) (drop at W) i) t o W r W₂
+resume-done {t = t} {o = o} K i s X =
+    let Y = walk-spread K i t o (K .now .listed) (omega arith) s (rw (at-order (K .now)) at X) in
+    record { spread = Y .1; became = at-became (Y .0 .now) }
+
+-- ---- what stands behind goes on to stand there
+
+module _ {S N : List ℕ} {n at from m : ℕ} {W₀ o W : List ℕ} {e : ℕ} (K : Walk S N n at W₀ o W e) (B : Behind (graphOf S N) n at from m W₀) where
+  pub behind-on : Behind (graphOf S N) n at from m W
+  behind-on = record {
+    levels = walk-far K;
+    start = B .start;
+    held = omega (arith, B .held, K .size);
+    rising = rw (members-same K B) (B .rising);
+    closed = rw (members-same K B) (B .closed);
+    low = rw (members-same K B, walk-levels K) (B .low);
+  }
+
+  pub levels-on : levelsIn (graphOf S N) at from m W ≡ levelsIn (graphOf S N) at from m W₀
+  levels-on = ap₂ (λ (P : List ℕ) (L : List ℕ). ownLevels (graphOf S N) P L) (members-same K B) (walk-levels K)

@@ -1,0 +1,47 @@
+-- `order::legal::level` meets its contract. Assumes nothing.
+use native.Mathlib.Omega.{arith}
+use Rattle.order.proofs.Stand.{open-at}
+use Rattle.order.proofs.Walk.{walk-open}
+use Rattle.order.proofs.Level.{behind-on}
+use Rattle.order.proofs.Forward.{level-walk, level-begun, level-done}
+use borrow.Author.Needs.{needs}
+use Rattle.order.proofs.legal.level.Statement.{statement}
+use Rattle.order.proofs.legal.level.Tie as tie
+
+from-before-requires : tie.Need-from-before-requires
+from-before-requires c κs =
+    let P = c .before .before .before .before .pre in
+    let D = P .1 .1 .1 .1 in
+    (P .0, (P .1 .0, (P .1 .1 .0, (P .1 .1 .1 .0 .levels, omega (arith, D .inside, open-at (P .1 .1 .0) .count)))))
+
+fill-requires : tie.Need-fill-requires
+fill-requires c κs =
+    let s = c .before .before .before .before .before .before .before .before in
+    let P = s .pre in
+    let S = s .args .starts .now in
+    let N = s .args .neighbours .now in
+    let K = level-walk S N (P .0) (P .1 .0) (P .1 .1 .0) (P .1 .1 .1 .0) (P .1 .1 .1 .1) (c .before .before .before .from-before .kept .1 .1 .0) (c .before .before .before .from-before .ensures) in (
+      P .0,
+      (
+        P .1 .0,
+        (
+          walk-open K,
+          (
+            behind-on K (P .1 .1 .1 .0),
+            level-begun S N (P .0) (P .1 .0) (P .1 .1 .0) (P .1 .1 .1 .0) (P .1 .1 .1 .1) (c .before .before .before .from-before .kept .1 .1 .0) (c .before .before .before .from-before .ensures),
+          ),
+        ),
+      ),
+    )
+
+same-length : tie.Need-same-length
+same-length c = search needs
+
+returns : tie.Need-returns
+returns c =
+    let s = c .before .before .before .before .before .before .before .before .before .before .before in
+    let P = s .pre in
+    level-done (s .args .starts .now) (s .args .neighbours .now) (P .0) (P .1 .0) (P .1 .1 .0) (P .1 .1 .1 .0) (P .1 .1 .1 .1) (c .before .before .before .before .before .before .from-before .kept .1 .1 .0) (c .before .before .before .before .before .before .from-before .ensures) (c .before .before .fill .ensures)
+
+pub level-spec : {M : Type 1} → statement M
+level-spec = tie.close (tie.spec from-before-requires fill-requires same-length returns)

@@ -1,0 +1,205 @@
+-- The combined levels and their counts stand in the words and the levels, and what is asked before the words are cleared. Assumes nothing.
+use mathlib.Core.Path.{_≡_, refl, sym, ap, _∙_, subst}
+use mathlib.Core.Bool.{Bool, true, false, not, cond}
+use mathlib.Core.List.{List, [], _∷_, map, foldl}
+use Prim.Native.Nat.{ℕ, zero, suc, _+_, _-_, _*_, _≤_, _<_}
+use native.Mathlib.Omega.{arith}
+use lib.ListN.{length, getD, length-map, take, drop}
+use lib.Seq.{slice, sets, ext-getD, length-slice, getD-take, getD-drop}
+use lib.Dec.{eqb, ltb}
+use borrow.Author.Tests.{ne-eqb}
+use Rattle.basis.specs.Lists.{filterb, countb, anyb, memb, upFrom, greatest, All}
+use Rattle.basis.specs.Perm.{Once}
+use Rattle.basis.proofs.Count.{count-map, count-none, length-filter, count-length}
+use Rattle.basis.proofs.Index.{getD-map-upFrom}
+use Rattle.basis.proofs.Lists.{filter-in, length-upFrom}
+use Rattle.basis.proofs.Logic.{by-test, clash, fails, or-neither, or-split}
+use Rattle.spec.specs.Combined.{LevelPairs, levelPairs, settled, settledLevels, pieces, countAt, placePiece, combined, widthOf}
+use Rattle.spec.specs.Ends.{Ends, ends, depthAt}
+use Rattle.spec.specs.Graph.{Graph, nodes, ofNode}
+use Rattle.spec.specs.Levels.{levels, levelOf, levelList, part, depth}
+use Rattle.laws.specs.Legal.{Node, LegalGraph}
+use Rattle.laws.proofs.Combined.{combined-of}
+use Rattle.laws.proofs.Ends.{ends-of}
+use Rattle.laws.proofs.Legal.{node-in, ofNode-map, as-map, by-node, length-nodes}
+use Rattle.laws.proofs.Levels.{levelList-at, depth-most}
+use Rattle.laws.proofs.Pieces.{loose, settled-apart, some-piece}
+use Rattle.piecing.specs.Given.{Entry, Levelled, Given, firstOf, endsOf, merged}
+use Rattle.piecing.specs.Members.{Members, Clearable, settledAt}
+use Rattle.piecing.specs.Placed.{wordsAfter, levelsAfter}
+use Rattle.piecing.specs.Seek.{at, looseAt}
+use Rattle.piecing.specs.Starts.{startsOf, membersOf, Found}
+use Rattle.piecing.proofs.Begin.{X, Y, W₁, W₂, W₃, L₃, Z, part-is-node, x-range, x-out, y-out, z-in, z-make, m-part, same-members, members-at, three-size, three-behind, three-front, three-first, three-second, level-three, one-low, one-high, two-high}
+use Rattle.piecing.proofs.Folding.{After}
+use Rattle.piecing.proofs.Start.{settled-out, loose-in, loose-three, levels-three, after}
+use Rattle.piecing.proofs.Storing.{member-in}
+use Rattle.piecing.proofs.Stores.{sets-behind}
+
+-- the word of a node, by index
+pub of-node : (xs : List ℕ) (q : ℕ) → 1 ≤ q → ofNode xs q ≡ at xs q
+unfolding ofNode
+of-node xs zero l = absurd (omega arith)
+of-node xs (suc q) l = let e : suc q - 1 ≡ q = omega arith in ap (λ (j : ℕ). getD xs j 0) (sym e)
+
+none-any : (q : ℕ) (ps : List (List ℕ)) → All (λ (P : List ℕ). memb q P ≡ false) ps → anyb (memb q) ps ≡ false
+none-any q [] a = refl
+none-any q (P ∷ ps) a = or-neither (a .0) (none-any q ps (a .1))
+
+settled-at : (g : Graph) (pr : LevelPairs) (q : ℕ) → Node g q → settled pr q ≡ true → ofNode (settledLevels g pr) q ≡ ofNode (pr .firsts) q
+unfolding settledLevels
+settled-at g pr q N s = ofNode-map g (λ y. cond (settled pr y) (ofNode (pr .firsts) y) 0) q N ∙ rw s
+
+module _ {g : Graph} {z : ℕ} {e : Ends} {n from to : ℕ} {W L : List ℕ} (A : Entry g z e n from to W L) where
+  abbrev pr : LevelPairs
+  pr = levelPairs g e
+
+  z-less : length (Z A) ≤ to - from
+  z-less = omega (arith, length-filter (settledAt n (W₁ A)) (membersOf n from to (W₁ A)), count-length (settledAt n (W₁ A)) (membersOf n from to (W₁ A)), length-map (upFrom from (to - from)) (λ i. getD (W₁ A) (5 * n + i) 0), length-upFrom from (to - from))
+
+  module _ {W₄ L₄ : List ℕ} {m : ℕ} (F : Found g n (to - from) (looseAt n (W₃ A)) (W₃ A) (L₃ A) W₄ L₄ m) {narrow : Bool} (w : narrow ≡ ltb (e .widthU) (e .widthV)) where
+    R : After g e pr n narrow (startsOf n m W₄) (pieces g pr) W₄ L₄ (settledLevels g pr)
+    R = after A F narrow w
+
+    -- a settled node has kept its level since it was placed
+    kept : (q : ℕ) → Node g q → settled pr q ≡ true → at (levelsAfter n narrow (startsOf n m W₄) W₄ L₄) q ≡ at (L₃ A) q
+    kept q N s =
+        R .placed-out q N (none-any q (pieces g pr) (settled-apart (A .graph) pr q s)) .0
+        ∙ F .others q N (loose-three A q N ∙ rw s)
+
+    pub levelled : Levelled g z e n from to W L (wordsAfter n narrow (startsOf n m W₄) W₄ L₄) (levelsAfter n narrow (startsOf n m W₄) W₄ L₄)
+    unfolding combined
+    levelled = record {
+      words = R .words-size ∙ F .beside .size ∙ three-size A;
+      room = R .levels-size ∙ F .levels ∙ levels-three A;
+      first-out = λ q N o.
+          let i : 0 + q - 1 ≡ q - 1 = omega arith in
+          R .front (q - 1) (omega (arith, N .low, N .high, A .is)) ∙ F .beside .firsts (q - 1) (omega (arith, N .low, N .high, A .is))
+          ∙ sym (ap (λ (j : ℕ). getD (W₃ A) j 0) i) ∙ three-first A q N ∙ x-out A q N o;
+      second-out = λ q N o.
+          R .front (2 * n + q - 1) (omega (arith, N .low, N .high, A .is)) ∙ F .beside .seconds (2 * n + q - 1) (omega (arith, N .low)) (omega (arith, N .low, N .high, A .is))
+          ∙ three-second A q N ∙ y-out A q N o;
+      queue = λ i l h.
+          R .front i (omega arith) ∙ F .queue i l h ∙ three-front A i (omega arith)
+          ∙ sets-behind (W₁ A) n (Z A) i (omega (arith, z-less)) ∙ one-low A i h;
+      starts = λ i l h. R .front i h ∙ F .starts i l h ∙ three-front A i h ∙ two-high A i (omega arith) ∙ one-high A i (omega arith);
+      counts = λ i l h. R .laid .counts i l h;
+      behind = λ i l. R .behind i l ∙ F .beside .behind i (omega arith) ∙ three-behind A i l;
+      inside = λ q p.
+          let N = part-is-node A q p in
+          by-test (anyb (memb q) (pieces g pr))
+          (λ a. R .placed-in q N a)
+          (λ a.
+          let s : settled pr q ≡ true = by-test (settled pr q) (λ b. b) (λ b. clash (some-piece (A .graph) pr q N b) a) in
+          kept q N s ∙ level-three A q N ∙ rw (z-make A q p s) (sym (settled-at g pr q N s)) ∙ sym (R .placed-out q N a .1));
+      outside = λ q N o.
+          let i : memb q (Z A) ≡ false = fails (memb q (Z A)) (λ a. clash (z-in A q a .0) o) in
+          kept q N (settled-out A q N o) ∙ level-three A q N ∙ rw i;
+    }
+
+  -- ---- of what is levelled
+
+  module _ {W′ L′ : List ℕ} (K : Levelled g z e n from to W L W′ L′) where
+    members-same : membersOf n from to W′ ≡ membersOf n from to W
+    members-same = same-members A W′ (K .behind)
+
+    -- past level k nothing counts
+    beyond : (j : ℕ) → e .k < j → countAt (combined g e) j ≡ 0
+    unfolding countAt
+    beyond j h =
+        let S = combined-of (A .graph) (A .node) (A .ends) in
+        ap (countb (eqb j)) (sym (as-map g (combined g e) (S .size))) ∙ count-map (eqb j) (ofNode (combined g e)) (nodes g)
+        ∙ count-none (λ q. eqb j (ofNode (combined g e) q)) (nodes g)
+        (λ q a.
+        let N = node-in g q a in
+        ne-eqb j (ofNode (combined g e) q) (λ x. by-test (memb q (part g z))
+        (λ p. omega (arith, S .most q p))
+        (λ p. omega (arith, S .outside q N p))))
+
+    pub clearable : ((i : ℕ) → n + (to - from) ≤ i → i < 2 * n → getD W i 0 ≡ 0) → ((i : ℕ) → 3 * n + (to - from) ≤ i → i < 4 * n → getD W i 0 ≡ 0)
+        → Clearable n from to (e .k) W′
+    clearable qv qu =
+        let B = members-at A in
+        record {
+          members = record {
+            few = B .few;
+            order = B .order;
+            most = B .most;
+            words = omega (arith, B .words, K .words);
+            once = subst Once (sym members-same) (B .once);
+            low = λ i l h. rw (K .behind (5 * n + i) (omega arith)) (B .low i l h);
+            high = λ i l h. rw (K .behind (5 * n + i) (omega arith)) (B .high i l h);
+          };
+          deep = A .deep;
+          firsts = λ q l h o. K .first-out q (record { low = l; high = omega (arith, A .is) }) (sym (m-part A q) ∙ sym (ap (memb q) members-same) ∙ o);
+          seconds = λ q l h o. K .second-out q (record { low = l; high = omega (arith, A .is) }) (sym (m-part A q) ∙ sym (ap (memb q) members-same) ∙ o);
+          queue = λ i l h. K .queue i l h ∙ qv i l h;
+          starts = λ i l h. K .starts i l h ∙ qu i l h;
+          counts = λ i l h.
+              let j : ℕ = i - 4 * n + 1 in
+              let q : i ≡ 4 * n + j - 1 = omega arith in
+              ap (λ (x : ℕ). getD W′ x 0) q ∙ K .counts j (omega arith) (omega arith) ∙ beyond j (omega arith);
+        }
+
+    -- the greatest count
+    pub width-is : greatest (slice (4 * n) (4 * n + e .k) W′) ≡ widthOf (e .k) (combined g e)
+    unfolding widthOf
+    width-is = ap greatest
+        (ext-getD 0 (slice (4 * n) (4 * n + e .k) W′) (map (countAt (combined g e)) (upFrom 1 (e .k)))
+        (omega (arith, length-slice (4 * n) (4 * n + e .k) W′ (omega (arith, K .words, A .words, A .deep)), length-map (upFrom 1 (e .k)) (countAt (combined g e)), length-upFrom 1 (e .k)))
+        (λ i l.
+        let h : i < e .k = omega (arith, length-slice (4 * n) (4 * n + e .k) W′ (omega (arith, K .words, A .words, A .deep))) in
+        let q : 4 * n + i ≡ 4 * n + (1 + i) - 1 = omega arith in
+        getD-drop (4 * n) (take (4 * n + e .k) W′) i 0 ∙ getD-take (4 * n + e .k) W′ (4 * n + i) 0 (omega arith)
+        ∙ ap (λ (x : ℕ). getD W′ x 0) q ∙ K .counts (1 + i) (omega arith) (omega (arith, A .deep))
+        ∙ sym (getD-map-upFrom (countAt (combined g e)) 1 (e .k) i 0 h)))
+
+    -- the levels
+    pub merged-is : length L ≡ g .size → L′ ≡ merged g z e L
+    merged-is r = by-node g L′ (merged g z e L) (K .room ∙ r)
+        (length-map (nodes g) (λ q. cond (memb q (part g z)) (ofNode (combined g e) q) (ofNode L q)) ∙ length-nodes g)
+        (λ q N. of-node L′ q (N .low) ∙ by-test (memb q (part g z))
+        (λ p. K .inside q p ∙ sym (ofNode-map g (λ y. cond (memb y (part g z)) (ofNode (combined g e) y) (ofNode L y)) q N ∙ rw p))
+        (λ p. K .outside q N p ∙ sym (of-node L q (N .low)) ∙ sym (ofNode-map g (λ y. cond (memb y (part g z)) (ofNode (combined g e) y) (ofNode L y)) q N ∙ rw p)))
+
+-- ---- what is given is an entry
+
+in-part-node : (g : Graph) (z q : ℕ) → memb q (part g z) ≡ true → Node g q
+unfolding part
+in-part-node g z q m = node-in g q (filter-in (λ y. ltb 0 (levelOf (levels g z) y)) (nodes g) q m .0)
+
+pub entry-of : {g : Graph} {from to k widthV widthU : ℕ} {W L : List ℕ} → LegalGraph g → g .size ≤ 4096 → Given g from to k widthV widthU W L
+    → Entry g (firstOf (g .size) from W) (endsOf g from W) (g .size) from to W L
+unfolding depthAt
+entry-of {g} {from} {to} {k} {widthV} {widthU} {W} {L} G few A =
+    let n : ℕ = g .size in
+    let z : ℕ = firstOf n from W in
+    let e : Ends = endsOf g from W in
+    let m : memb z (part g z) ≡ true = sym (ap (memb z) (A .members)) ∙ first-in in
+    let N : Node g z = in-part-node g z z m in
+    let E = ends-of G N in
+    record {
+      graph = G;
+      node = N;
+      ends = E;
+      is = refl;
+      few = few;
+      words = A .words;
+      room = omega (arith, A .room);
+      order = omega (arith, A .order);
+      most = A .most;
+      deep = omega (arith, E .k-depth, depth-most g (e .v));
+      members = A .members;
+      firsts = λ q Q.
+          sym (getD-take n W (q - 1) 0 (omega (arith, Q .low, Q .high))) ∙ ap (λ (l : List ℕ). getD l (q - 1) 0) (A .firsts)
+          ∙ sym (of-node (levelList g (levels g (e .v))) q (Q .low)) ∙ levelList-at g (levels g (e .v)) q Q;
+      seconds = λ q Q.
+          let i : 2 * n + q - 1 ≡ 2 * n + (q - 1) = omega (arith, Q .low) in
+          ap (λ (j : ℕ). getD W j 0) i ∙ sym (getD-take (3 * n) W (2 * n + (q - 1)) 0 (omega (arith, Q .low, Q .high)))
+          ∙ sym (getD-drop (2 * n) (take (3 * n) W) (q - 1) 0) ∙ ap (λ (l : List ℕ). getD l (q - 1) 0) (A .seconds)
+          ∙ sym (of-node (levelList g (levels g (e .u))) q (Q .low)) ∙ levelList-at g (levels g (e .u)) q Q;
+      counts = A .counts;
+      clean = A .clean;
+    }
+  where
+    first-in : memb (firstOf (g .size) from W) (membersOf (g .size) from to W) ≡ true
+    first-in = member-in (g .size) from to W from (omega arith) (A .order)

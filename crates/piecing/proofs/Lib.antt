@@ -1,0 +1,17 @@
+pub mod Stores
+pub mod Seeking
+pub mod Growing
+pub mod Gaps
+pub mod Orders
+pub mod Finding
+pub mod Taking
+pub mod Done
+pub mod PlaceLoop
+pub mod Storing
+pub mod Laying
+pub mod Folding
+pub mod Begin
+pub mod Start
+pub mod Clearing
+pub mod Finish
+pub mod Steps

@@ -1,0 +1,76 @@
+-- Runs of stores: in a row of words, and one word for each of some nodes. Assumes nothing.
+use mathlib.Core.Path.{_≡_, refl, sym, ap, _∙_}
+use mathlib.Core.Logic.{_⊎_, inl, inr, ⊎-elim, _≢_}
+use mathlib.Core.Bool.{Bool, true, false, cond}
+use mathlib.Core.List.{List, [], _∷_, _++_}
+use Prim.Native.Nat.{ℕ, zero, suc, _+_, _-_, _≤_, _<_}
+use native.Mathlib.Nat.{add-zero, add-suc, suc-add}
+use native.Mathlib.Omega.{arith}
+use lib.ListN.{length, getD, set, length-set}
+use lib.Seq.{sets, length-sets, getD-set-same, getD-set-other}
+use lib.Dec.{eqb}
+use borrow.Author.Tests.{eqb-true, eqb-false}
+use Rattle.basis.specs.Lists.{memb}
+use Rattle.basis.proofs.Lists.{memb-here}
+use Rattle.basis.proofs.Logic.{by-test, or-right}
+use Rattle.combining.specs.Model.{written}
+use Rattle.piecing.specs.Seek.{at}
+
+-- ---- in a row
+
+pub sets-append : (Q : List ℕ) (t : ℕ) (xs ys : List ℕ) → sets Q t (xs ++ ys) ≡ sets (sets Q t xs) (t + length xs) ys
+sets-append Q t [] ys = ap (λ (n : ℕ). sets Q n ys) (sym (add-zero t))
+sets-append Q t (x ∷ xs) ys = sets-append (set Q t x) (suc t) xs ys ∙ ap (λ (n : ℕ). sets (sets Q t (x ∷ xs)) n ys) (suc-add t (length xs) ∙ sym (add-suc t (length xs)))
+
+-- a word outside the run is as it was
+pub sets-before : (Q : List ℕ) (t : ℕ) (xs : List ℕ) (i : ℕ) → i < t → getD (sets Q t xs) i 0 ≡ getD Q i 0
+sets-before Q t [] i h = refl
+sets-before Q t (x ∷ xs) i h = sets-before (set Q t x) (suc t) xs i (omega arith) ∙ getD-set-other Q t i x 0 (λ e. omega arith)
+
+pub sets-behind : (Q : List ℕ) (t : ℕ) (xs : List ℕ) (i : ℕ) → t + length xs ≤ i → getD (sets Q t xs) i 0 ≡ getD Q i 0
+sets-behind Q t [] i h = refl
+sets-behind Q t (x ∷ xs) i h = sets-behind (set Q t x) (suc t) xs i (omega arith) ∙ getD-set-other Q t i x 0 (λ e. omega arith)
+
+-- a word of the run is what was stored
+pub sets-at : (Q : List ℕ) (t : ℕ) (xs : List ℕ) (i : ℕ) → t + length xs ≤ length Q → i < length xs → getD (sets Q t xs) (t + i) 0 ≡ getD xs i 0
+sets-at Q t [] i h l = absurd (omega arith)
+sets-at Q t (x ∷ xs) zero h l =
+    let e : t + 0 ≡ t = add-zero t in
+    ap (λ (k : ℕ). getD (sets (set Q t x) (suc t) xs) k 0) e ∙ sets-before (set Q t x) (suc t) xs t (omega arith) ∙ getD-set-same Q t x 0 (omega arith)
+sets-at Q t (x ∷ xs) (suc i) h l =
+    let e : t + suc i ≡ suc t + i = omega arith in
+    ap (λ (k : ℕ). getD (sets (set Q t x) (suc t) xs) k 0) e
+    ∙ sets-at (set Q t x) (suc t) xs i (rw (length-set Q t x) (omega arith)) (omega arith)
+
+-- ---- node by node
+
+pub length-written : (f : ℕ → ℕ) (L zs : List ℕ) → length (written f L zs) ≡ length L
+unfolding written
+length-written f L [] = refl
+length-written f L (z ∷ zs) = length-written f (set L (z - 1) (f z)) zs ∙ length-set L (z - 1) (f z)
+
+pub written-append : (f : ℕ → ℕ) (L xs ys : List ℕ) → written f L (xs ++ ys) ≡ written f (written f L xs) ys
+unfolding written
+written-append f L [] ys = refl
+written-append f L (x ∷ xs) ys = written-append f (set L (x - 1) (f x)) xs ys
+
+-- the nodes have their word, and every other node what it had
+pub written-at : (f : ℕ → ℕ) (L zs : List ℕ) → ((z : ℕ) → memb z zs ≡ true → 1 ≤ z) → (q : ℕ) → 1 ≤ q → q ≤ length L
+    → at (written f L zs) q ≡ cond (memb q zs) (f q) (at L q)
+unfolding written
+written-at f L [] low q l h = refl
+written-at f L (z ∷ zs) low q l h =
+    written-at f (set L (z - 1) (f z)) zs (λ y m. low y (or-right (eqb y z) m)) q l (rw (length-set L (z - 1) (f z)) h)
+    ∙ by-test (eqb q z)
+    (λ e.
+    let q′ : q ≡ z = eqb-true q z e in
+    let s : at (set L (z - 1) (f z)) q ≡ f q = ap (λ (x : ℕ). at (set L (z - 1) (f z)) x) q′ ∙ getD-set-same L (z - 1) (f z) 0 (omega (arith, low z (memb-here z zs))) ∙ ap f (sym q′) in
+    rw (e, s) (both (memb q zs) (f q)))
+    (λ e.
+    let ne = eqb-false q z e in
+    let d : q - 1 ≢ z - 1 = λ x. ne (omega (arith, low z (memb-here z zs))) in
+    rw (e, getD-set-other L (z - 1) (q - 1) (f z) 0 d))
+  where
+    both : (b : Bool) (x : ℕ) → cond b x x ≡ x
+    both true x = refl
+    both false x = refl

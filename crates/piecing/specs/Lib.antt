@@ -1,0 +1,5 @@
+pub mod Seek
+pub mod Starts
+pub mod Placed
+pub mod Members
+pub mod Given

@@ -1,0 +1,4 @@
+pub mod Degrees
+pub mod Counts
+pub mod Lent
+pub mod Answers

@@ -1,0 +1,12 @@
+// What the elimination answers.
+
+// "The marks that are 1 are counted, and so are the newly joined pairs, those not joined at first."
+pub struct Counts {
+    pub marked: u32,
+    pub new: u32,
+}
+
+pub enum Elimination {
+    Accepted(Counts),
+    Refused(u16),
+}

@@ -1,0 +1,78 @@
+// The elimination of a legal graph by a legal numbering.
+ghost use mathlib.Core.Path.{_≡_};
+ghost use Prim.Native.Nat.{_≤_};
+ghost use lib.ListN.{length, take, replicate};
+ghost use Rattle.spec.specs.CallsStore.{eliminationFigures};
+ghost use Rattle.spec.specs.Graph.{sizeOf};
+ghost use Rattle.spec.specs.Lent.{outcome, filled, zeroed, short};
+ghost use Rattle.spec.specs.Measures.{orderOf};
+ghost use Rattle.spec.specs.Refusal.{refuse};
+ghost use Rattle.spec.specs.Store.{markByteCount, markBytes};
+ghost use Rattle.eliminate.specs.Walk.{Given, newGraph};
+ghost use Rattle.store.specs.Answer.{meaning, figuresOf};
+use crate::answer::Counts;
+use crate::answer::Elimination;
+
+// "profile / 8 rounded up"
+fn byte_count(starts: &[u16], neighbours: &[u16], numbering: &[u16]) -> usize
+    requires { ⌜ Given (now starts) (now neighbours) (now numbering) ⌝ }
+    ensures { λ r. ⌜ r ≡ markByteCount (newGraph (now (starts .entry)) (now (neighbours .entry)) (now (numbering .entry))) ⌝ }
+{
+    let profile = envelope::legal::profile(starts, neighbours, numbering);
+    ((profile + 7) / 8) as usize
+}
+
+// The marks are set and counted; the edges, which are half of the entries, are not new. Scratch holds the order of the numbering.
+fn mark(
+    starts: &[u16],
+    neighbours: &[u16],
+    numbering: &[u16],
+    scratch: &mut [u16],
+    bytes: &mut [u8],
+) -> Counts
+    requires { ⌜ Given (now starts) (now neighbours) (now numbering)
+        × (now scratch ≡ orderOf (now numbering))
+        × (length (now bytes) ≡ markByteCount (newGraph (now starts) (now neighbours) (now numbering))) ⌝ }
+    ensures { λ r. ⌜ (figuresOf r ≡ eliminationFigures (newGraph (now (starts .entry)) (now (neighbours .entry)) (now (numbering .entry))))
+        × (now (scratch .exit) ≡ replicate (sizeOf (now (starts .entry))) 0)
+        × (now (bytes .exit) ≡ markBytes (newGraph (now (starts .entry)) (now (neighbours .entry)) (now (numbering .entry)))) ⌝ }
+{
+    eliminate::legal::mark(starts, neighbours, numbering, scratch, bytes);
+    let marked = marks::legal::count(bytes);
+    let edges = (neighbours.len() / 2) as u32;
+    Counts {
+        marked: marked,
+        new: marked - edges,
+    }
+}
+
+// 8, and else the elimination. The first n scratch words hold the order of the numbering.
+pub fn eliminate(
+    starts: &[u16],
+    neighbours: &[u16],
+    numbering: &[u16],
+    scratch: &mut [u16],
+    bytes: &mut [u8],
+    n: usize,
+) -> Elimination
+    requires { ⌜ Given (now starts) (now neighbours) (now numbering)
+        × (n ≡ sizeOf (now starts))
+        × (n ≤ length (now scratch))
+        × (take n (now scratch) ≡ orderOf (now numbering)) ⌝ }
+    ensures { λ r. ⌜ (meaning r ≡ outcome (refuse (short (now (bytes .entry)) (markByteCount (newGraph (now (starts .entry)) (now (neighbours .entry)) (now (numbering .entry))))) 8) (eliminationFigures (newGraph (now (starts .entry)) (now (neighbours .entry)) (now (numbering .entry)))))
+        × (now (scratch .exit) ≡ zeroed n (now (scratch .entry)))
+        × (now (bytes .exit) ≡ filled (refuse (short (now (bytes .entry)) (markByteCount (newGraph (now (starts .entry)) (now (neighbours .entry)) (now (numbering .entry))))) 8) (markBytes (newGraph (now (starts .entry)) (now (neighbours .entry)) (now (numbering .entry)))) (now (bytes .entry))) ⌝ }
+{
+    let m = byte_count(starts, neighbours, numbering);
+    if bytes.len() < m {
+        words::legal::clear(scratch, n);
+        return Elimination::Refused(8);
+    }
+    Elimination::Accepted(mark(
+        starts,
+        neighbours,
+        numbering,
+        &mut scratch[..n],
+        &mut bytes[..m],
+    ))
+}

@@ -1,0 +1,5 @@
+pub mod Placing
+pub mod Spans
+pub mod Ready
+pub mod Laid
+pub mod Turning

@@ -1,0 +1,47 @@
+-- `turning::legal::profile` meets its contract. Assumes nothing.
+use Prim.Native.Nat.{ℕ}
+use mathlib.Core.Path.{ap, _∙_}
+use mathlib.Core.List.{List, _++_}
+use borrow.Author.Needs.{needs}
+use denote.Ref.{now}
+use lib.ListN.{replicate}
+use Rattle.spec.specs.Graph.{graphOf}
+use Rattle.turning.specs.Places.{segment}
+use Rattle.turning.proofs.Spans.{profile-same}
+use Rattle.turning.proofs.Ready.{ready-small, ready-listed, order-kept, fit-after, part-after, listed-after, placed-after, clean-after}
+use Rattle.turning.proofs.legal.profile.Statement.{statement}
+use Rattle.turning.proofs.legal.profile.Tie as tie
+
+put-places-requires : tie.Need-put-places-requires
+put-places-requires c κs =
+    let s = c .before .before .before .before in
+    (ready-small (s .args .n) (s .args .m) (now (s .args .work)) (s .pre .0 .0) (s .pre .0 .1) (s .pre .1 .0), ready-listed (s .args .n) (s .args .m) (now (s .args .work)) (s .pre .0 .0) (s .pre .0 .1) (s .pre .1 .0))
+
+spans-requires : tie.Need-spans-requires
+spans-requires c κs =
+    let s = c .before .before .before .before .before .before .before .before in
+    let p = c .before .before .before .put-places in (
+      (s .pre .0 .0, fit-after (s .args .n) (s .args .m) (now (s .args .work)) (s .pre .0 .0) (s .pre .0 .1) (s .pre .1 .0) (p .last .0) (p .ensures)),
+      (part-after (s .args .n) (s .args .m) (now (s .args .work)) (s .pre .0 .0) (s .pre .0 .1) (s .pre .1 .0) (p .last .0) (p .ensures), placed-after (s .args .n) (s .args .m) (now (s .args .work)) (s .pre .0 .0) (s .pre .0 .1) (s .pre .1 .0) (p .last .0) (p .ensures)),
+    )
+
+wipe-requires : tie.Need-wipe-requires
+wipe-requires c κs =
+    let s = c .before .before .before .before .before .before .before .before .before .before in
+    let p = c .before .before .before .before .before .put-places in
+    let r = ready-small (s .args .n) (s .args .m) (now (s .args .work)) (s .pre .0 .0) (s .pre .0 .1) (s .pre .1 .0) in (
+      (r .0, r .1, fit-after (s .args .n) (s .args .m) (now (s .args .work)) (s .pre .0 .0) (s .pre .0 .1) (s .pre .1 .0) (p .last .0) (p .ensures)),
+      (listed-after (s .args .n) (s .args .m) (now (s .args .work)) (s .pre .0 .0) (s .pre .0 .1) (s .pre .1 .0) (p .last .0) (p .ensures), clean-after (s .args .n) (s .args .m) (now (s .args .work)) (s .pre .0 .0) (s .pre .0 .1) (s .pre .1 .0) (p .last .0) (p .ensures) (s .pre .1 .1)),
+    )
+
+returns : tie.Need-returns
+returns c =
+    let s = c .before .before .before .before .before .before .before .before .before .before .before .before .before in
+    let p = c .before .before .before .before .before .before .before .before .put-places in (
+      profile-same (graphOf (now (s .args .starts)) (now (s .args .neighbours))) (segment (s .args .n) (s .args .m) (now (s .args .work)))
+          (order-kept (s .args .n) (s .args .m) (now (s .args .work)) (s .pre .0 .0) (s .pre .0 .1) (s .pre .1 .0) (p .last .0) (p .ensures)) (c .before .before .before .before .spans .ensures),
+      c .before .before .wipe .ensures ∙ ap (λ (l : List ℕ). replicate (s .args .n) 0 ++ l) (p .ensures .behind),
+    )
+
+pub profile-spec : {M : Type 1} → statement M
+profile-spec = tie.close (tie.spec put-places-requires spans-requires wipe-requires (λ c. search needs) returns)
