@@ -2,7 +2,7 @@
 use mathlib.Core.Path.{_≡_, refl, sym, ap, _∙_}
 use mathlib.Core.Bool.{Bool, true, false, cond}
 use mathlib.Core.List.{List, [], _∷_, map}
-use Prim.Native.Nat.{ℕ, zero, suc, _+_, _-_, _*_, _≤_, _<_, max}
+use Prim.Native.Nat.{ℕ, suc, _+_, _-_, _*_, _≤_, _<_, max}
 use native.Mathlib.Numerals.{add-one}
 use native.Mathlib.Nat.{le-refl, add-zero}
 use native.Mathlib.Omega.{arith}
@@ -10,13 +10,13 @@ use lib.ListN.{length, getD, set, length-set}
 use lib.Seq.{getD-set-other, slice, slice-cons, slice-empty}
 use lib.Dec.{eqb}
 use borrow.Author.Tests.{lt-ltb, le-ltb, eq-eqb, ne-eqb}
-use Rattle.basis.specs.Lists.{bit, memb, upFrom, greatest}
+use Rattle.basis.specs.Lists.{memb, upFrom, greatest}
 use Rattle.basis.specs.Perm.{times}
 use Rattle.basis.proofs.Count.{bit-one, bit-most, times-none}
 use Rattle.basis.proofs.Logic.{fails, eqb-self}
 use Rattle.basis.proofs.Lists.{map-cong, map-memb, upFrom-in}
 use Rattle.combining.specs.Tally.{bump, drain, tally, untally, running}
-use Rattle.combining.specs.Model.{nodeAt, queued, numberAt, slotAt, slots, peakOf, written, goesSecond, Readable, Countable, Full, Placeable}
+use Rattle.combining.specs.Model.{nodeAt, numberAt, slotAt, slots, peakOf, written, goesSecond, Readable, Countable, Full, Placeable}
 use Rattle.combining.proofs.Tally.{Inside, bump-at, drain-at, length-tally, getD-tally, untally-tally, running-is}
 
 -- U differs from W in the counts and behind them alone

@@ -1,6 +1,5 @@
 -- What the functions of this crate do, as functions on lists. W is the words of a part: n first numbers, a queue of n nodes, n second
 -- numbers, n words that stand aside, n counts of levels. Assumes nothing.
-use mathlib.Core.Path.{_≡_}
 use mathlib.Core.Bool.{Bool, _&&_, _||_, cond}
 use mathlib.Core.List.{List, [], _∷_, map}
 use Prim.Native.Nat.{ℕ, _+_, _-_, _*_, _≤_, _<_}

@@ -1,6 +1,6 @@
 -- What elements are refused by: one element by the tests that led there, and a list of elements one by one. Assumes nothing.
 use mathlib.Core.Path.{_≡_, refl, sym, ap, _∙_}
-use mathlib.Core.Bool.{false, _||_}
+use mathlib.Core.Bool.{false}
 use mathlib.Core.Logic.{⊎-elim}
 use mathlib.Core.List.{List, [], _∷_}
 use Prim.Native.Nat.{ℕ, zero, suc, _+_, _≤_, _<_, min}
@@ -40,21 +40,37 @@ by-record short n kind ws =
     in-order (refuse (eqb (nodeCount kind) 0) 9) (refuse (ltb (length ws) (nodeCount kind)) short) _
     ∙ ap (λ (l : List ℕ). refuse (eqb (nodeCount kind) 0) 9 orElse refuse (ltb (length ws) (nodeCount kind)) short orElse refuse (badNodes n l) 10) (take-least (nodeCount kind) ws)
 
--- of an element that is not refused the record ends within the words, and its nodes are inside
-good-parts : (n kind : ℕ) (ws : List ℕ) → elementRefusal 9 n kind ws ≡ 0
-    → (nodeCount kind ≤ length ws) × (anyb (outside n) (take (nodeCount kind) ws) ≡ false)
-unfolding elementRefusal badNodes
-good-parts n kind ws e =
+-- an element that is not refused: its kind is known, its record ends within the words, and its nodes are inside and differ
+pub record Good (n kind : ℕ) (ws : List ℕ) : Type 0 where
+  pub known : eqb (nodeCount kind) 0 ≡ false
+  pub fits : ltb (length ws) (nodeCount kind) ≡ false
+  pub nodes : badNodes n (take (nodeCount kind) ws) ≡ false
+
+pub good-of : (short n kind : ℕ) (ws : List ℕ) → 1 ≤ short → elementRefusal short n kind ws ≡ 0 → Good n kind ws
+unfolding elementRefusal
+good-of short n kind ws h e =
     let a = or-else-zero (refuse (eqb (nodeCount kind) 0) 9) _ e in
-    let b = or-else-zero (refuse (ltb (length ws) (nodeCount kind)) 9) _ (a .1) in
-    let t = refuse-zero (anyb (outside n) (take (nodeCount kind) ws) || repeats (take (nodeCount kind) ws)) 10 (omega arith) (b .1) in
-    (ltb-false (length ws) (nodeCount kind) (refuse-zero (ltb (length ws) (nodeCount kind)) 9 (omega arith) (b .0)), or-none (anyb (outside n) (take (nodeCount kind) ws)) _ t .0)
+    let b = or-else-zero (refuse (ltb (length ws) (nodeCount kind)) short) _ (a .1) in
+    record {
+      known = refuse-zero (eqb (nodeCount kind) 0) 9 (omega arith) (a .0);
+      fits = refuse-zero (ltb (length ws) (nodeCount kind)) short h (b .0);
+      nodes = refuse-zero (badNodes n (take (nodeCount kind) ws)) 10 (omega arith) (b .1);
+    }
+
+pub good-element : (short n kind : ℕ) (ws : List ℕ) → Good n kind ws → elementRefusal short n kind ws ≡ 0
+unfolding elementRefusal
+good-element short n kind ws G = rw (G .known, G .fits, G .nodes)
+
+pub record-fits : (n kind : ℕ) (ws : List ℕ) → Good n kind ws → nodeCount kind ≤ length ws
+record-fits n kind ws G = ltb-false (length ws) (nodeCount kind) (G .fits)
 
 pub good-fits : (n kind : ℕ) (ws : List ℕ) → elementRefusal 9 n kind ws ≡ 0 → nodeCount kind ≤ length ws
-good-fits n kind ws e = good-parts n kind ws e .0
+good-fits n kind ws e = record-fits n kind ws (good-of 9 n kind ws (omega arith) e)
 
 pub good-inside : (n kind : ℕ) (ws : List ℕ) → elementRefusal 9 n kind ws ≡ 0 → anyb (outside n) (take (nodeCount kind) ws) ≡ false
-good-inside n kind ws e = good-parts n kind ws e .1
+unfolding badNodes
+good-inside n kind ws e =
+    or-none (anyb (outside n) (take (nodeCount kind) ws)) (repeats (take (nodeCount kind) ws)) (good-of 9 n kind ws (omega arith) e .nodes) .0
 
 -- ---- the elements one by one
 

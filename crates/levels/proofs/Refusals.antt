@@ -2,15 +2,16 @@
 use mathlib.Core.Path.{_≡_, refl, sym, ap, _∙_}
 use mathlib.Core.Bool.{true, false}
 use mathlib.Core.List.{List, _++_}
-use Prim.Native.Nat.{ℕ, zero, suc, _≤_, _<_}
+use Prim.Native.Nat.{ℕ, zero, suc, _*_, _≤_, _<_}
 use native.Mathlib.Omega.{arith}
 use lib.ListN.{length, drop}
 use lib.Dec.{eqb, ltb}
-use borrow.Author.Tests.{lt-ltb, le-ltb, eqb-false, ltb-false}
+use borrow.Author.Tests.{ne-eqb, lt-ltb, le-ltb, eqb-false, ltb-false}
 use Rattle.basis.proofs.Logic.{or-none}
-use Rattle.spec.specs.CallsLevels.{levelFigures, rootedRefusal, rootedAnswer, rootedLevels}
+use Rattle.spec.specs.CallsLevels.{levelFigures, rootedRefusal, rootedAnswer, rootedLevels, partScratch, partRefusal, endsAnswer, endsScratch}
+use Rattle.spec.specs.Ends.{ends}
 use Rattle.spec.specs.Graph.{graphOf, sizeOf, outside}
-use Rattle.spec.specs.Lent.{accepted, refused, outcome, filled}
+use Rattle.spec.specs.Lent.{accepted, refused, outcome, filled, zeroed, scratchAfter, wordsPerNode}
 use Rattle.spec.specs.Levels.{levels, levelList}
 use Rattle.laws.proofs.Figures.{length-levelList}
 use Rattle.laws.proofs.Lent.{filled-none}
@@ -73,6 +74,49 @@ module _ (S N : List ℕ) (root : ℕ) (B : List ℕ) where
           let g = graphOf S N in
           sym (filled-none (rootedRefusal S N root B) (levelList g (levels g root)) B (rooted-none o)
           ∙ ap (λ (n : ℕ). levelList g (levels g root) ++ drop n B) (length-levelList g (levels g root)))
+
+-- ---- the ends
+
+scratch-refused : (code c : ℕ) (S W : List ℕ) → code ≡ c → 1 ≤ c → W ≡ partScratch code S W
+unfolding partScratch scratchAfter
+scratch-refused zero c S W e l = absurd (omega arith)
+scratch-refused (suc d) c S W e l = rw (ne-eqb (suc d) 0 (λ q. omega arith))
+
+module _ (S N : List ℕ) (node : ℕ) (W : List ℕ) where
+  pub record EndsRefused (c : ℕ) : Type 0 where
+    pub answer : refused c ≡ endsAnswer S N node W
+    pub untouched : W ≡ endsScratch S N node W
+
+  ends-refusal : (c : ℕ) → partRefusal S N node W ≡ c → 1 ≤ c → EndsRefused c
+  unfolding endsAnswer endsScratch
+  ends-refusal c e l = record { answer = answer-refused (partRefusal S N node W) c _ e l; untouched = scratch-refused (partRefusal S N node W) c S W e l }
+
+  -- 1 to 4
+  pub ends-lists : {c : ℕ} → RefusedLists S N c → EndsRefused c
+  unfolding partRefusal
+  ends-lists {c} R = ends-refusal c (refused-first R _) (R .some)
+
+  module _ (G : LegalLists S N) where
+    pub ends-short : length W < wordsPerNode * sizeOf S → EndsRefused 5
+    unfolding partRefusal
+    ends-short h = ends-refusal 5 (legal-next G _ ∙ rw (lt-ltb (length W) (wordsPerNode * sizeOf S) h)) (omega arith)
+
+    module _ (room : wordsPerNode * sizeOf S ≤ length W) where
+      pub ends-outside : outside (sizeOf S) node ≡ true → EndsRefused 6
+      unfolding partRefusal
+      ends-outside o = ends-refusal 6 (legal-next G _ ∙ rw (le-ltb (length W) (wordsPerNode * sizeOf S) room, o)) (omega arith)
+
+      ends-none : outside (sizeOf S) node ≡ false → partRefusal S N node W ≡ 0
+      unfolding partRefusal
+      ends-none o = legal-next G _ ∙ rw (le-ltb (length W) (wordsPerNode * sizeOf S) room, o)
+
+      pub ends-answer : outside (sizeOf S) node ≡ false → accepted (ends (graphOf S N) node) ≡ endsAnswer S N node W
+      unfolding endsAnswer
+      ends-answer o = answer-accepted (partRefusal S N node W) _ (ends-none o)
+
+      pub ends-scratch : outside (sizeOf S) node ≡ false → zeroed (wordsPerNode * sizeOf S) W ≡ endsScratch S N node W
+      unfolding endsScratch partScratch scratchAfter
+      ends-scratch o = rw (ends-none o)
 
 -- ---- what was tested
 

@@ -7,3 +7,15 @@ pub enum RootedAnswer {
         reached: u16,
     },
 }
+
+pub enum EndsAnswer {
+    Refused(u16),
+    Ends {
+        v: u16,
+        u: u16,
+        k: u16,
+        widthv: u16,
+        widthu: u16,
+        passes: u16,
+    },
+}

@@ -1,11 +1,13 @@
 // Document 01's first library: rooted levels, the ends of a part and its combined levels. Each call tests what it is handed, in the order of
 // the table: 1 to 4, then 5, then 6.
 pub mod answer;
+mod part;
 
 ghost use mathlib.Core.Path.{_≡_};
 ghost use Rattle.spec.specs.Graph.{outside};
-ghost use Rattle.spec.specs.CallsLevels.{rootedAnswer, rootedLevels};
-ghost use Rattle.levels.specs.Answers.{rootedMeaning};
+ghost use Rattle.spec.specs.CallsLevels.{rootedAnswer, rootedLevels, endsAnswer, endsScratch};
+ghost use Rattle.levels.specs.Answers.{rootedMeaning, endsMeaning};
+use answer::EndsAnswer;
 use answer::RootedAnswer;
 use graph::Adjacency;
 use words::wide;
@@ -45,6 +47,34 @@ pub fn rooted_levels(
                 depth: f.depth,
                 width: f.width,
                 reached: f.reached,
+            }
+        }
+    }
+}
+
+// The ends of the part of `node`: v, u, k, both widths and the passes, as the search names v and u.
+pub fn ends(starts: &[u16], neighbours: &[u16], node: u16, scratch: &mut [u16]) -> EndsAnswer
+    ensures { λ r. ⌜ endsMeaning r ≡ endsAnswer (now (starts .entry)) (now (neighbours .entry)) node (now (scratch .entry)) ⌝ }
+    ensures { λ _. ⌜ now (scratch .exit) ≡ endsScratch (now (starts .entry)) (now (neighbours .entry)) node (now (scratch .entry)) ⌝ }
+{
+    match graph::test_adjacency(starts, neighbours) {
+        Adjacency::Refused(c) => EndsAnswer::Refused(c),
+        Adjacency::Legal => {
+            let n = starts.len() - 1;
+            if scratch.len() < part::WORDS_PER_NODE * n {
+                return EndsAnswer::Refused(5);
+            }
+            if no_node(n, node) {
+                return EndsAnswer::Refused(6);
+            }
+            let f = part::find_ends(starts, neighbours, node, scratch);
+            EndsAnswer::Ends {
+                v: f.v,
+                u: f.u,
+                k: f.k,
+                widthv: f.widthv,
+                widthu: f.widthu,
+                passes: f.passes,
             }
         }
     }

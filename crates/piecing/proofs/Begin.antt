@@ -1,47 +1,41 @@
 -- Before the first piece: the second numbers counted from the other end, the settled nodes placed, the pieces found. Assumes nothing.
 use mathlib.Core.Path.{_≡_, refl, sym, ap, _∙_, subst}
-use mathlib.Core.Logic.{⊎-elim}
-use mathlib.Core.Bool.{Bool, true, false, not, _&&_, cond}
-use mathlib.Core.List.{List, [], _∷_, map}
+use mathlib.Core.Bool.{true, false, _&&_, cond}
+use mathlib.Core.List.{List, map}
 use Prim.Native.Nat.{ℕ, zero, suc, _+_, _-_, _*_, _≤_, _<_}
 use native.Mathlib.Nat.{zero-add}
 use native.Mathlib.Omega.{arith}
 use lib.ListN.{length, getD, length-map}
 use lib.Seq.{sets, length-sets, ext-getD}
 use lib.Dec.{eqb, ltb}
-use borrow.Author.Tests.{eq-eqb, ne-eqb, eqb-true, eqb-false, not-true, not-false}
-use Rattle.basis.specs.Lists.{filterb, countb, anyb, chainb, sortb, memb, upFrom}
-use Rattle.basis.specs.Perm.{times, Once, Perm}
+use borrow.Author.Tests.{ne-eqb}
+use Rattle.basis.specs.Lists.{filterb, countb, memb, upFrom}
+use Rattle.basis.specs.Perm.{times, Once}
 use Rattle.basis.proofs.Count.{times-none, count-cong, count-map, count-filter, count-length, length-filter}
 use Rattle.basis.proofs.Index.{getD-map-upFrom, memb-getD}
-use Rattle.basis.proofs.Lists.{filter-in, filter-make, filter-cong, filter-again, map-cong, map-map, map-memb, memb-map, upFrom-in, upFrom-make, length-upFrom, any-make, any-find}
-use Rattle.basis.proofs.Logic.{by-test, clash, fails, same, and-split, and-make, eqb-sym}
+use Rattle.basis.proofs.Lists.{filter-in, filter-make, filter-again, map-cong, map-map, memb-map, upFrom-make, length-upFrom}
+use Rattle.basis.proofs.Logic.{by-test, clash, fails, eqb-sym}
 use Rattle.basis.proofs.Rise.{rise-once}
-use Rattle.spec.specs.Combined.{LevelPairs, mirrored, levelPairs, settled, settledLevels, pieces, largerPiece, countAt}
+use Rattle.spec.specs.Combined.{LevelPairs, mirrored, levelPairs, settled, settledLevels, countAt}
 use Rattle.spec.specs.Ends.{Ends, depthAt}
-use Rattle.spec.specs.Graph.{Graph, nodes, restrict, ofNode}
-use Rattle.spec.specs.Levels.{levels, levelOf, part, leads}
+use Rattle.spec.specs.Graph.{Graph, nodes, ofNode}
+use Rattle.spec.specs.Levels.{levels, levelOf, part}
 use Rattle.laws.specs.Legal.{Node, LegalGraph}
-use Rattle.laws.specs.Structure.{EndsOf, Ready}
 use Rattle.laws.proofs.Combined.{first-number, second-number, mirror-sum}
-use Rattle.laws.proofs.Legal.{node-in, in-nodes, length-nodes}
-use Rattle.laws.proofs.Levels.{level-most, part-level, level-part, part-node, part-same, placed-node}
+use Rattle.laws.proofs.Legal.{node-in}
+use Rattle.laws.proofs.Levels.{level-most, part-level, level-part, part-node, part-same}
 use Rattle.laws.proofs.Parts.{part-rises}
-use Rattle.laws.proofs.Pieces.{loose}
-use Rattle.laws.proofs.Placing.{ready-start}
 use Rattle.combining.specs.Tally.{tally}
-use Rattle.combining.specs.Model.{nodeAt, queued, numberAt, slotOf, slots, written, Readable, Countable}
+use Rattle.combining.specs.Model.{nodeAt, queued, numberAt, slotOf, slots, written, Countable}
 use Rattle.combining.proofs.Counting.{slots-in, slots-inside, counts-tally}
 use Rattle.combining.proofs.Tally.{getD-tally, length-tally}
 use Rattle.piecing.specs.Given.{Entry}
 use Rattle.piecing.specs.Members.{Members, Turnable, settledAt, stored, turnedAt}
-use Rattle.piecing.specs.Seek.{at, looseAt}
-use Rattle.piecing.specs.Starts.{startAt, startsOf, sizeAt, membersOf, Standing, Findable, Found}
-use Rattle.piecing.specs.Placed.{endOf}
-use Rattle.piecing.proofs.Finding.{restrict-cong}
-use Rattle.piecing.proofs.Laying.{Piece, Stand, Laid, named-by}
+use Rattle.piecing.specs.Seek.{at}
+use Rattle.piecing.specs.Starts.{membersOf}
+use Rattle.piecing.proofs.Laying.{named-by}
 use Rattle.piecing.proofs.Storing.{length-stored, stored-at, stored-other}
-use Rattle.piecing.proofs.Stores.{sets-before, sets-behind, sets-at, length-written, written-at}
+use Rattle.piecing.proofs.Stores.{sets-before, sets-behind, sets-at, written-at}
 
 part-listed : (g : Graph) (z : ℕ) → part g z ≡ filterb (λ q. memb q (part g z)) (nodes g)
 unfolding part

@@ -1,17 +1,15 @@
 -- The words of a part are cleared: the members' words, the queues and the counts. Assumes nothing.
 use mathlib.Core.Path.{_≡_, refl, sym, ap, _∙_, subst}
 use mathlib.Core.Logic.{⊎-elim}
-use mathlib.Core.Bool.{true, false, cond}
-use mathlib.Core.List.{List, [], _∷_, _++_, map}
-use Prim.Native.Nat.{ℕ, suc, _+_, _-_, _*_, _≤_, _<_}
-use native.Mathlib.Nat.{add-zero}
-use native.Mathlib.Numerals.{add-one}
+use mathlib.Core.Bool.{true}
+use mathlib.Core.List.{List, [], _∷_}
+use Prim.Native.Nat.{ℕ, _+_, _-_, _*_, _≤_, _<_}
 use native.Mathlib.Omega.{arith}
-use lib.ListN.{length, getD, set, take, drop, replicate, length-replicate, getD-replicate, length-append, length-drop, replicate-append-replicate}
+use lib.ListN.{length, getD, set, drop, replicate, length-replicate, getD-replicate, length-append, length-drop, replicate-append-replicate}
 use lib.Seq.{sets, length-sets, ext-getD, getD-take, getD-drop}
 use Rattle.basis.specs.Lists.{memb, upFrom}
 use Rattle.basis.specs.Perm.{Once}
-use Rattle.basis.proofs.Lists.{map-cong, upFrom-in}
+use Rattle.basis.proofs.Lists.{map-cong}
 use Rattle.basis.proofs.Logic.{by-test, lt-or-le}
 use Rattle.spec.specs.Lent.{zeroed}
 use Rattle.laws.proofs.Lent.{zeroed-is, zeroed-front, zeroed-behind}

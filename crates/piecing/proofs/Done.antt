@@ -2,9 +2,8 @@
 use mathlib.Core.Path.{_≡_, sym, ap, _∙_, subst}
 use mathlib.Core.Bool.{Bool, true, _&&_, _||_}
 use mathlib.Core.List.{List, map}
-use Prim.Native.Nat.{ℕ, _+_, _-_, _*_, _≤_, _<_}
+use Prim.Native.Nat.{ℕ, _+_, _-_, _≤_, _<_}
 use native.Mathlib.Omega.{arith}
-use lib.ListN.{length}
 use lib.Dec.{eqb, ltb}
 use borrow.Author.Tests.{eqb-true}
 use Rattle.basis.specs.Lists.{filterb, headOr, sortb, memb}
@@ -15,14 +14,13 @@ use Rattle.basis.proofs.Rise.{rise-filter}
 use Rattle.spec.specs.Combined.{largerPiece}
 use Rattle.spec.specs.Graph.{Graph, nodes, restrict}
 use Rattle.spec.specs.Levels.{part, leads}
-use Rattle.laws.specs.Legal.{Node, LegalGraph}
 use Rattle.laws.proofs.Legal.{node-in, in-nodes, nodes-rise}
 use Rattle.combining.specs.Model.{nodeAt, queued}
-use Rattle.piecing.specs.Seek.{at, looseAt}
-use Rattle.piecing.specs.Starts.{startAt, startsOf, sizeAt, membersOf, Standing, Findable, Found}
+use Rattle.piecing.specs.Seek.{looseAt}
+use Rattle.piecing.specs.Starts.{startAt, startsOf, sizeAt, membersOf, Found}
 use Rattle.piecing.proofs.Finding.{len, ord, leadb}
 use Rattle.piecing.proofs.Orders.{map-sort, rising-same}
-use Rattle.piecing.proofs.Taking.{Finding, Whole, led, led-at, before-now}
+use Rattle.piecing.proofs.Taking.{Finding, led, led-at, before-now}
 
 module _ {g : Graph} {n from to : ℕ} {W₀ L₀ W L : List ℕ} {tail m i : ℕ} (I : Finding g n from to W₀ L₀ W L tail m i) (d : to ≤ i) where
   abbrev t : ℕ → Bool

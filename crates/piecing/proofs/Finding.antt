@@ -1,43 +1,26 @@
 -- The pieces as they are found, in order of their lowest node: which members lead a piece, what is marked, and the order of the list of
 -- starts. Assumes nothing.
-use mathlib.Core.Path.{_≡_, refl, sym, ap, ap₂, _∙_, subst}
-use mathlib.Core.Logic.{_⊎_, inl, inr, ⊎-elim}
-use mathlib.Core.Bool.{Bool, true, false, not, _&&_, _||_, cond, and-false}
-use mathlib.Core.List.{List, [], _∷_, _++_, map, append-nil}
-use Prim.Native.Nat.{ℕ, zero, suc, _+_, _-_, _*_, _≤_, _<_}
-use native.Mathlib.Nat.{add-zero, le-trans}
-use native.Mathlib.Numerals.{add-one}
+use mathlib.Core.Path.{_≡_, refl, sym, ap, _∙_}
+use mathlib.Core.Logic.{⊎-elim}
+use mathlib.Core.Bool.{Bool, true, false, not, _&&_, _||_, cond}
+use mathlib.Core.List.{List, [], _∷_, _++_}
+use Prim.Native.Nat.{ℕ, _≤_}
 use native.Mathlib.Omega.{arith}
-use lib.ListN.{length, getD, set, length-set, length-map}
-use lib.Seq.{sets, length-sets, ext-getD}
+use lib.ListN.{length}
 use lib.Dec.{eqb, ltb}
-use borrow.Author.Tests.{eq-eqb, ne-eqb, eqb-true, eqb-false, lt-ltb, le-ltb, ltb-true, ltb-false, not-true}
-use Rattle.basis.specs.Lists.{filterb, consIf, countb, anyb, chainb, headOr, insertb, sortb, memb, upFrom, All}
-use Rattle.basis.specs.Perm.{Perm}
-use Rattle.basis.specs.Sorted.{Total, Sorted}
-use Rattle.basis.proofs.Count.{count-cong, count-length}
-use Rattle.basis.proofs.Index.{getD-map-upFrom, memb-getD}
+use borrow.Author.Tests.{eq-eqb, eqb-true, eqb-false, not-true}
+use Rattle.basis.specs.Lists.{filterb, anyb, chainb, headOr, memb}
+use Rattle.basis.specs.Sorted.{Total}
 use Rattle.basis.proofs.Lex.{less-order, flip-order, lex-order}
-use Rattle.basis.proofs.Lists.{memb-here, memb-append, any-find, any-make, filter-in, filter-make, filter-cong, map-append, map-cong, map-map, map-memb, memb-map, upFrom-in, upFrom-append, length-upFrom, all-make}
-use Rattle.basis.proofs.Logic.{by-test, clash, fails, passes, same, and-split, and-make, or-split, or-left, or-right, or-none, eqb-self}
-use Rattle.basis.proofs.Perm.{perm-memb, perm-length}
-use Rattle.basis.proofs.Rise.{rise-filter}
-use Rattle.basis.proofs.Sort.{sort-sorted, sort-middle, memb-sort}
-use Rattle.spec.specs.Combined.{largerPiece}
+use Rattle.basis.proofs.Lists.{memb-here, memb-append, any-find, any-make, filter-in, filter-make, filter-cong}
+use Rattle.basis.proofs.Logic.{by-test, clash, same, and-split, and-make, or-split, or-left, or-right}
 use Rattle.spec.specs.Graph.{Graph, nodes, adjoins, restrict}
 use Rattle.spec.specs.Levels.{part, leads, leaders}
 use Rattle.laws.specs.Legal.{Node, LegalGraph}
-use Rattle.laws.proofs.Legal.{node-in, in-nodes, nodes-rise, edge-node, restrict-in, restrict-make, restrict-node, restrict-legal}
-use Rattle.laws.proofs.Levels.{part-self, part-node, part-on, part-same}
+use Rattle.laws.proofs.Legal.{in-nodes, edge-node, restrict-in, restrict-node, restrict-legal}
+use Rattle.laws.proofs.Levels.{part-self, part-node, part-same}
 use Rattle.laws.proofs.Parts.{leader-part, leader-lowest, leader-has, parts-apart, part-least}
-use Rattle.combining.specs.Model.{nodeAt, queued}
-use Rattle.combining.proofs.Counting.{from-cons, from-none}
-use Rattle.piecing.specs.Seek.{at, looseAt, freshAt, Seek, Shut, Grown}
-use Rattle.piecing.specs.Starts.{startAt, startsOf, sizeAt, membersOf, Standing, Listed, Opened, Beside, Findable, Found, Before, Taken}
-use Rattle.piecing.proofs.Gaps.{sets-back}
-use Rattle.piecing.proofs.Orders.{insert-at, sorted-at, map-sort, rising-same, rise-before, rise-behind}
-use Rattle.piecing.proofs.Seeking.{filter-append}
-use Rattle.piecing.proofs.Stores.{sets-before, sets-behind, sets-at}
+use Rattle.piecing.proofs.Orders.{rise-before, rise-behind}
 
 -- ---- graphs with nodes taken out by tests that agree on the nodes
 

@@ -1,37 +1,38 @@
 -- The combined levels and their counts stand in the words and the levels, and what is asked before the words are cleared. Assumes nothing.
 use mathlib.Core.Path.{_≡_, refl, sym, ap, _∙_, subst}
-use mathlib.Core.Bool.{Bool, true, false, not, cond}
-use mathlib.Core.List.{List, [], _∷_, map, foldl}
+use mathlib.Core.Bool.{Bool, true, false, cond}
+use mathlib.Core.List.{List, [], _∷_, map}
 use Prim.Native.Nat.{ℕ, zero, suc, _+_, _-_, _*_, _≤_, _<_}
 use native.Mathlib.Omega.{arith}
-use lib.ListN.{length, getD, length-map, take, drop}
-use lib.Seq.{slice, sets, ext-getD, length-slice, getD-take, getD-drop}
+use lib.ListN.{length, getD, length-map, take}
+use lib.Seq.{slice, ext-getD, length-slice, getD-take, getD-drop}
 use lib.Dec.{eqb, ltb}
 use borrow.Author.Tests.{ne-eqb}
-use Rattle.basis.specs.Lists.{filterb, countb, anyb, memb, upFrom, greatest, All}
+use Rattle.basis.specs.Lists.{countb, anyb, memb, upFrom, greatest, All}
 use Rattle.basis.specs.Perm.{Once}
 use Rattle.basis.proofs.Count.{count-map, count-none, length-filter, count-length}
 use Rattle.basis.proofs.Index.{getD-map-upFrom}
 use Rattle.basis.proofs.Lists.{filter-in, length-upFrom}
-use Rattle.basis.proofs.Logic.{by-test, clash, fails, or-neither, or-split}
-use Rattle.spec.specs.Combined.{LevelPairs, levelPairs, settled, settledLevels, pieces, countAt, placePiece, combined, widthOf}
+use Rattle.basis.proofs.Logic.{by-test, clash, fails, or-neither}
+use Rattle.spec.specs.Combined.{LevelPairs, levelPairs, settled, settledLevels, pieces, countAt, combined, widthOf}
 use Rattle.spec.specs.Ends.{Ends, ends, depthAt}
 use Rattle.spec.specs.Graph.{Graph, nodes, ofNode}
-use Rattle.spec.specs.Levels.{levels, levelOf, levelList, part, depth}
+use Rattle.spec.specs.Levels.{levels, levelOf, levelList, part}
 use Rattle.laws.specs.Legal.{Node, LegalGraph}
+use Rattle.laws.specs.Structure.{EndsOf}
 use Rattle.laws.proofs.Combined.{combined-of}
 use Rattle.laws.proofs.Ends.{ends-of}
 use Rattle.laws.proofs.Legal.{node-in, ofNode-map, as-map, by-node, length-nodes}
 use Rattle.laws.proofs.Levels.{levelList-at, depth-most}
-use Rattle.laws.proofs.Pieces.{loose, settled-apart, some-piece}
+use Rattle.laws.proofs.Pieces.{settled-apart, some-piece}
 use Rattle.piecing.specs.Given.{Entry, Levelled, Given, firstOf, endsOf, merged}
-use Rattle.piecing.specs.Members.{Members, Clearable, settledAt}
+use Rattle.piecing.specs.Members.{Clearable, settledAt}
 use Rattle.piecing.specs.Placed.{wordsAfter, levelsAfter}
 use Rattle.piecing.specs.Seek.{at, looseAt}
 use Rattle.piecing.specs.Starts.{startsOf, membersOf, Found}
-use Rattle.piecing.proofs.Begin.{X, Y, W₁, W₂, W₃, L₃, Z, part-is-node, x-range, x-out, y-out, z-in, z-make, m-part, same-members, members-at, three-size, three-behind, three-front, three-first, three-second, level-three, one-low, one-high, two-high}
+use Rattle.piecing.proofs.Begin.{W₁, W₃, L₃, Z, part-is-node, x-out, y-out, z-in, z-make, m-part, same-members, members-at, three-size, three-behind, three-front, three-first, three-second, level-three, one-low, one-high, two-high}
 use Rattle.piecing.proofs.Folding.{After}
-use Rattle.piecing.proofs.Start.{settled-out, loose-in, loose-three, levels-three, after}
+use Rattle.piecing.proofs.Start.{settled-out, loose-three, levels-three, after}
 use Rattle.piecing.proofs.Storing.{member-in}
 use Rattle.piecing.proofs.Stores.{sets-behind}
 
@@ -203,3 +204,14 @@ entry-of {g} {from} {to} {k} {widthV} {widthU} {W} {L} G few A =
   where
     first-in : memb (firstOf (g .size) from W) (membersOf (g .size) from to W) ≡ true
     first-in = member-in (g .size) from to W from (omega arith) (A .order)
+
+-- where every other node has 0, the levels are the combined levels
+pub merged-alone : {g : Graph} {z : ℕ} {e : Ends} → LegalGraph g → Node g z → EndsOf g z e → (L : List ℕ)
+    → ((q : ℕ) → Node g q → memb q (part g z) ≡ false → ofNode L q ≡ 0) → merged g z e L ≡ combined g e
+merged-alone {g} {z} {e} G N E L h =
+    let S = combined-of G N E in
+    by-node g (merged g z e L) (combined g e)
+    (length-map (nodes g) (λ q. cond (memb q (part g z)) (ofNode (combined g e) q) (ofNode L q)) ∙ length-nodes g) (S .size)
+    (λ q Q. ofNode-map g (λ y. cond (memb y (part g z)) (ofNode (combined g e) y) (ofNode L y)) q Q ∙ by-test (memb q (part g z))
+    (λ p. rw p)
+    (λ p. rw p (h q Q p ∙ sym (S .outside q Q p))))

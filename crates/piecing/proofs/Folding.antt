@@ -1,20 +1,19 @@
 -- All pieces placed in the words are all pieces placed by document 01. Assumes nothing.
-use mathlib.Core.Path.{_≡_, refl, sym, ap, _∙_}
+use mathlib.Core.Path.{_≡_, refl, sym, _∙_}
 use mathlib.Core.Logic.{⊎-elim}
-use mathlib.Core.Bool.{Bool, true, false, _||_}
+use mathlib.Core.Bool.{Bool, true, false}
 use mathlib.Core.List.{List, [], _∷_, foldl}
-use Prim.Native.Nat.{ℕ, _+_, _*_, _≤_, _<_}
+use Prim.Native.Nat.{ℕ, _*_, _≤_, _<_}
 use native.Mathlib.Omega.{arith}
 use lib.ListN.{length, getD}
 use lib.Dec.{ltb}
 use Rattle.basis.specs.Lists.{countb, anyb, memb}
 use Rattle.basis.proofs.Count.{bit-one}
-use Rattle.basis.proofs.Logic.{by-test, clash, fails, or-split, or-none, or-left, or-right}
+use Rattle.basis.proofs.Logic.{by-test, clash, fails, or-split, or-none}
 use Rattle.spec.specs.Combined.{LevelPairs, placePiece}
 use Rattle.spec.specs.Ends.{Ends}
 use Rattle.spec.specs.Graph.{Graph, ofNode}
 use Rattle.laws.specs.Legal.{Node}
-use Rattle.laws.specs.Structure.{Ready}
 use Rattle.laws.proofs.Pieces.{place-out}
 use Rattle.piecing.specs.Seek.{at}
 use Rattle.piecing.specs.Placed.{placedWords, placedLevels, wordsAfter, levelsAfter, PlaceableAll}

@@ -4,19 +4,18 @@ use mathlib.Core.Logic.{_⊎_, ⊎-elim}
 use mathlib.Core.Bool.{Bool, true, false, not, _&&_, _||_, cond}
 use mathlib.Core.List.{List, [], _∷_, _++_}
 use Prim.Native.Nat.{ℕ, suc, _+_, _-_, _*_, _≤_, _<_}
-use native.Mathlib.Nat.{add-zero}
 use native.Mathlib.Numerals.{add-one}
 use native.Mathlib.Omega.{arith}
-use lib.ListN.{length, take, drop, getD, set, length-append, length-set}
-use lib.Seq.{sets, length-sets, take-suc, take-all, take-append-le, getD-set-same, getD-set-other}
+use lib.ListN.{length, take, getD, set, length-append, length-set}
+use lib.Seq.{sets, take-suc, take-all, take-append-le, getD-set-same, getD-set-other}
 use lib.Dec.{eqb}
 use borrow.Author.Tests.{eq-eqb, ne-eqb, eqb-true, eqb-false}
-use Rattle.basis.specs.Lists.{bit, filterb, consIf, countb, headOr, memb, upFrom}
+use Rattle.basis.specs.Lists.{filterb, consIf, countb, headOr, memb, upFrom}
 use Rattle.basis.specs.Perm.{times, Once, Perm}
-use Rattle.basis.proofs.Count.{bit-most, count-append, count-cong, filter-once, times-none, memb-times}
+use Rattle.basis.proofs.Count.{bit-most, count-append, count-cong, filter-once, times-none}
 use Rattle.basis.proofs.Index.{memb-getD}
-use Rattle.basis.proofs.Lists.{memb-here, memb-append, filter-in, filter-make, filter-cong, head-memb, upFrom-in}
-use Rattle.basis.proofs.Logic.{by-test, clash, same, and-split, and-make, or-split, or-left, or-right, fails, eqb-self}
+use Rattle.basis.proofs.Lists.{memb-here, memb-append, filter-in, filter-make, filter-cong, upFrom-in}
+use Rattle.basis.proofs.Logic.{by-test, clash, same, and-split, and-make, or-split, fails}
 use Rattle.basis.proofs.Perm.{once-perm}
 use Rattle.spec.specs.Graph.{Graph, adjoins, restrict}
 use Rattle.spec.specs.Levels.{part}
@@ -27,7 +26,7 @@ use Rattle.laws.proofs.Parts.{part-once, part-least}
 use Rattle.combining.specs.Model.{written}
 use Rattle.piecing.specs.Seek.{at, looseAt, freshAt, one, Seek, Nodes, Pushed, Shut, Grown}
 use Rattle.piecing.proofs.Stores.{sets-append, sets-before, sets-behind, sets-at, length-written, written-at}
-use Rattle.piecing.proofs.Seeking.{end-most, words-size, levels-size, spare-on, seek-on}
+use Rattle.piecing.proofs.Seeking.{end-most, levels-size, spare-on, seek-on}
 
 head-append : (F ys : List ℕ) → 1 ≤ length F → headOr 0 (F ++ ys) ≡ headOr 0 F
 head-append [] ys h = absurd (omega arith)

@@ -1,30 +1,30 @@
 -- One piece placed in the words is one piece placed by document 01: counts, h and l, the choice and the levels. Assumes nothing.
-use mathlib.Core.Path.{_≡_, refl, sym, ap, ap₂, _∙_, subst}
-use mathlib.Core.Bool.{Bool, true, false, _&&_, _||_, cond}
-use mathlib.Core.List.{List, [], _∷_, map, foldl}
-use Prim.Native.Nat.{ℕ, zero, suc, _+_, _-_, _*_, _≤_, _<_}
-use native.Mathlib.Nat.{le-antisymm, zero-add}
+use mathlib.Core.Path.{_≡_, sym, ap, _∙_, subst}
+use mathlib.Core.Bool.{Bool, true, false, cond}
+use mathlib.Core.List.{List, [], _∷_, map}
+use Prim.Native.Nat.{ℕ, _+_, _-_, _*_, _≤_, _<_}
+use native.Mathlib.Nat.{le-antisymm}
 use native.Mathlib.Omega.{arith}
 use lib.ListN.{length, getD}
 use lib.Dec.{eqb, ltb}
-use borrow.Author.Tests.{eq-eqb, ne-eqb, eqb-true, eqb-false}
-use Rattle.basis.specs.Lists.{filterb, countb, anyb, memb, upFrom, greatest, All}
+use borrow.Author.Tests.{eq-eqb, eqb-true}
+use Rattle.basis.specs.Lists.{countb, memb, upFrom, greatest}
 use Rattle.basis.specs.Perm.{times, Perm}
 use Rattle.basis.proofs.Count.{times-none, count-cong, count-map, count-length}
 use Rattle.basis.proofs.Index.{greatest-memb, greatest-le}
-use Rattle.basis.proofs.Lists.{memb-here, memb-map, map-cong, map-map, map-memb, upFrom-in, upFrom-make}
-use Rattle.basis.proofs.Logic.{by-test, clash, fails, same, or-split, or-left, or-right, or-neither}
-use Rattle.basis.proofs.Perm.{perm-memb, perm-count, perm-length}
+use Rattle.basis.proofs.Lists.{memb-map, map-cong, map-map, upFrom-in, upFrom-make}
+use Rattle.basis.proofs.Logic.{by-test, fails, same}
+use Rattle.basis.proofs.Perm.{perm-memb, perm-count}
 use Rattle.spec.specs.Combined.{LevelPairs, countAt, added, raised, peak, bySecond, placePiece}
 use Rattle.spec.specs.Ends.{Ends}
 use Rattle.spec.specs.Graph.{Graph, ofNode}
 use Rattle.laws.specs.Legal.{Node}
 use Rattle.laws.specs.Structure.{Ready}
-use Rattle.laws.proofs.Pieces.{second, place-in, place-out, length-placed}
+use Rattle.laws.proofs.Pieces.{second, place-in}
 use Rattle.laws.proofs.Placing.{peak-nodes, ready-step, ready-counts}
 use Rattle.combining.specs.Tally.{tally}
-use Rattle.combining.specs.Model.{nodeAt, queued, numberAt, slotOf, slotAt, slots, peakOf, goesSecond, chosen, written, Readable, Countable, Placeable}
-use Rattle.combining.proofs.Counting.{slots-in, slots-inside, counts-tally, chosen-countable}
+use Rattle.combining.specs.Model.{nodeAt, queued, numberAt, slotOf, slots, peakOf, goesSecond, chosen, Readable, Countable, Placeable}
+use Rattle.combining.proofs.Counting.{slots-in, slots-inside, counts-tally}
 use Rattle.combining.proofs.Tally.{getD-tally}
 use Rattle.piecing.specs.Seek.{at}
 use Rattle.piecing.specs.Starts.{sizeAt, Standing}

@@ -1,13 +1,13 @@
 -- The loop that places the pieces in the order of their starts. Assumes nothing.
 use mathlib.Core.Path.{_≡_, refl, sym, ap, _∙_, subst}
 use mathlib.Core.Bool.{Bool}
-use mathlib.Core.List.{List, [], _∷_, map}
+use mathlib.Core.List.{List, _∷_, map}
 use Prim.Native.Nat.{ℕ, _+_, _-_, _*_, _≤_, _<_}
 use native.Mathlib.Omega.{arith}
 use lib.ListN.{length, getD}
 use Rattle.basis.specs.Lists.{upFrom}
 use Rattle.combining.specs.Tally.{tally}
-use Rattle.combining.specs.Model.{queued, slots, numberAt, written, chosen, peakOf, goesSecond, Readable, Countable, Placeable}
+use Rattle.combining.specs.Model.{queued, slots, numberAt, written, chosen, peakOf, goesSecond, Placeable}
 use Rattle.combining.proofs.Counting.{Counts, counts-tally, from-cons, from-none, chosen-countable}
 use Rattle.piecing.specs.Starts.{startAt, startsOf, sizeAt, Standing}
 use Rattle.piecing.specs.Placed.{endOf, placedWords, placedLevels, wordsAfter, levelsAfter, PlaceableAll}

@@ -7,13 +7,13 @@ use native.Mathlib.Nat.{add-zero}
 use native.Mathlib.Numerals.{add-one}
 use native.Mathlib.Omega.{arith}
 use lib.ListN.{length, take, drop, getD, set, length-append, take-append-drop}
-use lib.Seq.{sets, length-sets, take-suc, take-length, take-all, drop-cons}
+use lib.Seq.{sets, length-sets, take-suc, take-all, drop-cons}
 use lib.Dec.{eqb}
 use Rattle.basis.specs.Lists.{bit, filterb, consIf, countb, memb, upFrom}
-use Rattle.basis.specs.Perm.{times, Once}
-use Rattle.basis.proofs.Count.{bit-one, count-append, length-filter, count-every, count-cong, count-parted, count-sub, filter-once, none-times, times-none}
+use Rattle.basis.specs.Perm.{times}
+use Rattle.basis.proofs.Count.{bit-one, count-append, length-filter, count-every, count-cong, count-parted, count-sub, filter-once, none-times}
 use Rattle.basis.proofs.Lists.{memb-append, memb-filter, filter-in, upFrom-in}
-use Rattle.basis.proofs.Logic.{by-test, clash, fails, and-split, and-make, or-left, eqb-self}
+use Rattle.basis.proofs.Logic.{by-test, and-make, or-left, eqb-self}
 use Rattle.basis.proofs.Index.{memb-getD}
 use Rattle.combining.specs.Model.{written}
 use Rattle.piecing.specs.Seek.{at, looseAt, freshAt, one, Seek, Nodes, Pushed}

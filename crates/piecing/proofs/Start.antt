@@ -1,37 +1,32 @@
 -- From the words before the first piece to the combined levels: the pieces found are document 01's, and so is what is placed. Assumes nothing.
 use mathlib.Core.Path.{_≡_, refl, sym, ap, _∙_, subst}
 use mathlib.Core.Logic.{⊎-elim}
-use mathlib.Core.Bool.{Bool, true, false, not, _&&_, cond}
-use mathlib.Core.List.{List, [], _∷_, map, foldl}
-use Prim.Native.Nat.{ℕ, zero, suc, _+_, _-_, _*_, _≤_, _<_}
+use mathlib.Core.Bool.{Bool, true, false, not, _&&_}
+use mathlib.Core.List.{List, [], _∷_, map}
+use Prim.Native.Nat.{ℕ, _+_, _-_, _*_, _<_}
 use native.Mathlib.Omega.{arith}
-use lib.ListN.{length, getD, length-map, take, drop, length-drop}
-use lib.Seq.{slice, ext-getD, length-slice, getD-take, getD-drop}
+use lib.ListN.{length, getD}
 use lib.Dec.{eqb, ltb}
-use borrow.Author.Tests.{eq-eqb, ne-eqb, eqb-true, not-true, not-false}
-use Rattle.basis.specs.Lists.{filterb, countb, anyb, chainb, sortb, memb, upFrom, greatest, All}
+use borrow.Author.Tests.{eq-eqb, eqb-true, not-true}
+use Rattle.basis.specs.Lists.{filterb, chainb, sortb, memb, upFrom, All}
 use Rattle.basis.specs.Perm.{Perm}
-use Rattle.basis.proofs.Count.{count-map, count-none}
-use Rattle.basis.proofs.Index.{getD-map-upFrom}
-use Rattle.basis.proofs.Lists.{filter-cong, map-memb, memb-here, upFrom-in, length-upFrom}
+use Rattle.basis.proofs.Lists.{filter-cong, map-memb, memb-here, upFrom-in}
 use Rattle.basis.proofs.Logic.{by-test, clash, fails, or-split, or-right}
-use Rattle.spec.specs.Combined.{LevelPairs, levelPairs, settled, settledLevels, pieces, largerPiece, countAt, placePiece, combined, widthOf}
+use Rattle.spec.specs.Combined.{LevelPairs, levelPairs, settled, settledLevels, pieces, largerPiece}
 use Rattle.spec.specs.Ends.{Ends}
-use Rattle.spec.specs.Graph.{Graph, nodes, restrict, ofNode}
-use Rattle.spec.specs.Levels.{levels, levelOf, part, leads}
-use Rattle.laws.specs.Legal.{Node, LegalGraph}
-use Rattle.laws.proofs.Combined.{combined-of}
-use Rattle.laws.proofs.Legal.{node-in, ofNode-map, as-map, restrict-node, restrict-legal}
+use Rattle.spec.specs.Graph.{Graph, nodes, restrict}
+use Rattle.spec.specs.Levels.{levels, part, leads}
+use Rattle.laws.specs.Legal.{Node}
+use Rattle.laws.proofs.Legal.{node-in, restrict-node, restrict-legal}
 use Rattle.laws.proofs.Levels.{part-node}
 use Rattle.laws.proofs.Parts.{part-rises}
-use Rattle.laws.proofs.Pieces.{loose, settled-apart, some-piece}
+use Rattle.laws.proofs.Pieces.{loose, settled-apart}
 use Rattle.laws.proofs.Placing.{ready-start}
 use Rattle.combining.specs.Model.{nodeAt, queued, numberAt}
 use Rattle.piecing.specs.Given.{Entry}
-use Rattle.piecing.specs.Seek.{at, looseAt}
+use Rattle.piecing.specs.Seek.{looseAt}
 use Rattle.piecing.specs.Starts.{startAt, startsOf, sizeAt, membersOf, Findable, Found}
-use Rattle.piecing.specs.Placed.{wordsAfter, levelsAfter}
-use Rattle.piecing.proofs.Begin.{X, Y, W₁, W₂, W₃, L₃, Z, part-is-node, x-range, y-range, x-out, y-out, z-in, z-make, same-members, three-size, three-behind, three-front, three-first, three-second, three-counts, level-three}
+use Rattle.piecing.proofs.Begin.{X, Y, W₂, W₃, L₃, Z, part-is-node, x-range, y-range, x-out, y-out, z-in, same-members, three-size, three-behind, three-first, three-second, three-counts, level-three}
 use Rattle.piecing.proofs.Finding.{restrict-cong, len-some}
 use Rattle.piecing.proofs.Folding.{After, lay-all}
 use Rattle.piecing.proofs.Laying.{Piece, Stand, Laid}

@@ -1,15 +1,15 @@
 -- The functions in their order, by what each has ensured of the words and the levels: what the next asks, and what the last has done.
 -- Assumes nothing.
-use mathlib.Core.Path.{_≡_, refl, sym, ap, _∙_, subst}
+use mathlib.Core.Path.{_≡_, sym, ap, _∙_, subst}
 use mathlib.Core.Bool.{Bool}
 use mathlib.Core.Logic.{⊎-elim}
-use mathlib.Core.List.{List, map}
-use Prim.Native.Nat.{ℕ, zero, suc, _+_, _-_, _*_, _≤_, _<_}
+use mathlib.Core.List.{List}
+use Prim.Native.Nat.{ℕ, _+_, _-_, _*_, _≤_}
 use native.Mathlib.Omega.{arith}
 use lib.ListN.{length, getD, replicate}
-use lib.Seq.{slice, sets, ext-getD}
+use lib.Seq.{sets, ext-getD}
 use lib.Dec.{eqb, ltb}
-use Rattle.basis.specs.Lists.{filterb, memb, upFrom, greatest}
+use Rattle.basis.specs.Lists.{filterb, upFrom}
 use Rattle.basis.proofs.Count.{count-length}
 use Rattle.basis.proofs.Index.{greatest-le}
 use Rattle.basis.proofs.Logic.{lt-or-le}

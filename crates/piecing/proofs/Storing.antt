@@ -1,23 +1,23 @@
 -- The loops over the members: a word stored for each, and the settled ones gathered in the queue. Assumes nothing.
-use mathlib.Core.Path.{_≡_, refl, sym, ap, ap₂, _∙_}
+use mathlib.Core.Path.{_≡_, refl, sym, ap, _∙_}
 use mathlib.Core.Logic.{_≢_}
 use mathlib.Core.Bool.{Bool, true, false, cond}
-use mathlib.Core.List.{List, [], _∷_, _++_, map, append-nil}
-use Prim.Native.Nat.{ℕ, suc, _+_, _-_, _*_, _≤_, _<_}
+use mathlib.Core.List.{List, [], _∷_, _++_, append-nil}
+use Prim.Native.Nat.{ℕ, _+_, _-_, _*_, _≤_, _<_}
 use native.Mathlib.Nat.{le-refl}
 use native.Mathlib.Omega.{arith}
 use lib.ListN.{length, getD, set, length-set, length-append, length-map}
 use lib.Seq.{sets, length-sets, getD-set-same, getD-set-other}
 use lib.Dec.{eqb}
 use borrow.Author.Tests.{eqb-true, eqb-false}
-use Rattle.basis.specs.Lists.{bit, filterb, consIf, memb, upFrom}
-use Rattle.basis.specs.Perm.{times, Once}
+use Rattle.basis.specs.Lists.{filterb, consIf, memb, upFrom}
+use Rattle.basis.specs.Perm.{times}
 use Rattle.basis.proofs.Count.{bit-one, length-filter, count-length, count-append, none-times}
-use Rattle.basis.proofs.Lists.{memb-here, memb-append, map-memb, memb-map, upFrom-in, upFrom-make, length-upFrom}
-use Rattle.basis.proofs.Logic.{by-test, or-left, or-right, eqb-self}
+use Rattle.basis.proofs.Lists.{memb-here, map-memb, memb-map, upFrom-in, upFrom-make, length-upFrom}
+use Rattle.basis.proofs.Logic.{by-test, or-right, eqb-self}
 use Rattle.combining.proofs.Counting.{from-cons, from-none}
 use Rattle.piecing.specs.Starts.{membersOf}
-use Rattle.piecing.specs.Members.{Members, Turnable, settledAt, stored, turnedAt}
+use Rattle.piecing.specs.Members.{Members, settledAt, stored}
 use Rattle.piecing.proofs.Seeking.{filter-append}
 use Rattle.piecing.proofs.Stores.{sets-append, sets-before, sets-behind}
 use Rattle.piecing.proofs.Taking.{map-split}

@@ -7,18 +7,18 @@ use Prim.Native.Nat.{ℕ, zero, suc, _+_, _-_, _*_, _≤_, _<_}
 use native.Mathlib.Nat.{add-zero, zero-add}
 use native.Mathlib.Numerals.{add-one}
 use native.Mathlib.Omega.{arith}
-use lib.ListN.{length, getD, set, length-set, length-map}
+use lib.ListN.{length, getD, set, length-map}
 use lib.Seq.{sets, length-sets, ext-getD}
 use lib.Dec.{eqb, ltb}
-use borrow.Author.Tests.{eq-eqb, ne-eqb, eqb-true, eqb-false, lt-ltb, le-ltb, ltb-false, not-true}
-use Rattle.basis.specs.Lists.{filterb, consIf, countb, anyb, chainb, headOr, insertb, sortb, memb, upFrom, All}
+use borrow.Author.Tests.{eq-eqb, ne-eqb, eqb-true, lt-ltb, le-ltb, ltb-false, not-true}
+use Rattle.basis.specs.Lists.{filterb, consIf, countb, anyb, chainb, headOr, insertb, sortb, memb, upFrom}
 use Rattle.basis.specs.Perm.{Perm}
 use Rattle.basis.specs.Sorted.{Sorted}
 use Rattle.basis.proofs.Count.{count-cong, count-length, length-filter}
 use Rattle.basis.proofs.Rise.{rise-filter, upFrom-rises}
-use Rattle.basis.proofs.Index.{getD-map, getD-map-upFrom, memb-getD}
+use Rattle.basis.proofs.Index.{getD-map, getD-map-upFrom}
 use Rattle.basis.proofs.Lists.{memb-here, memb-append, any-find, any-make, filter-in, filter-make, map-append, map-cong, map-map, map-memb, memb-map, upFrom-in, upFrom-make, upFrom-append, length-upFrom, all-make}
-use Rattle.basis.proofs.Logic.{by-test, clash, fails, passes, same, and-split, and-make, or-split, or-left, or-right, or-none, lt-or-le, eqb-self}
+use Rattle.basis.proofs.Logic.{by-test, clash, fails, same, and-split, or-split, or-left, or-right, or-none, lt-or-le, eqb-self}
 use Rattle.basis.proofs.Perm.{perm-memb, perm-length}
 use Rattle.basis.proofs.Sort.{sort-sorted, sort-middle, memb-sort}
 use Rattle.spec.specs.Graph.{Graph, nodes, adjoins, restrict}
@@ -29,7 +29,7 @@ use Rattle.laws.proofs.Levels.{part-on}
 use Rattle.combining.specs.Model.{nodeAt, queued}
 use Rattle.combining.proofs.Counting.{from-cons, from-none}
 use Rattle.piecing.specs.Seek.{at, looseAt, freshAt, Seek, Shut, Grown}
-use Rattle.piecing.specs.Starts.{startAt, startsOf, sizeAt, membersOf, Standing, Listed, Opened, Beside, Findable, Before, Taken}
+use Rattle.piecing.specs.Starts.{startAt, startsOf, sizeAt, membersOf, Standing, Listed, Beside, Findable, Before, Taken}
 use Rattle.piecing.proofs.Finding.{restrict-cong, len, ord, leadb, covered, ord-total, one-leader, self-in, len-some, piece-loose, lead-iff}
 use Rattle.piecing.proofs.Gaps.{sets-back}
 use Rattle.piecing.proofs.Orders.{insert-at, sorted-at, rising-same, rise-before}

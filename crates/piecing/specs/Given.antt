@@ -8,7 +8,7 @@ use lib.Seq.{slice}
 use Rattle.basis.specs.Lists.{memb}
 use Rattle.spec.specs.Combined.{combined, countAt}
 use Rattle.spec.specs.Ends.{Ends, ends}
-use Rattle.spec.specs.Graph.{Graph, nodes, graphOf, sizeOf, ofNode}
+use Rattle.spec.specs.Graph.{Graph, nodes, ofNode}
 use Rattle.spec.specs.Levels.{levels, levelOf, levelList, part}
 use Rattle.laws.specs.Legal.{Node, LegalGraph}
 use Rattle.laws.specs.Structure.{EndsOf}

@@ -1,12 +1,10 @@
 -- The pieces placed one after another: the words and the levels afterwards, as functions of those before. Assumes nothing.
-use mathlib.Core.Path.{_≡_}
 use mathlib.Core.Bool.{Bool}
 use mathlib.Core.List.{List, [], _∷_}
-use Prim.Native.Nat.{ℕ, _+_, _*_, _≤_}
-use lib.ListN.{length}
+use Prim.Native.Nat.{ℕ, _+_}
 use Rattle.combining.specs.Tally.{tally}
 use Rattle.combining.specs.Model.{queued, slots, numberAt, written, chosen, Placeable}
-use Rattle.piecing.specs.Starts.{startAt, sizeAt, Standing}
+use Rattle.piecing.specs.Starts.{sizeAt, Standing}
 
 -- where the piece that starts at o ends
 abbrev pub endOf : ℕ → List ℕ → List ℕ → ℕ → ℕ

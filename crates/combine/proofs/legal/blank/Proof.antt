@@ -1,5 +1,5 @@
 -- `combine::legal::blank` meets its contract. Assumes nothing.
-use Prim.Native.Nat.{ℕ, _+_, _-_, _≤_, _<_}
+use Prim.Native.Nat.{_-_}
 use native.Mathlib.Omega.{arith}
 use Rattle.piecing.proofs.Clearing.{Blanking, blank-begin, blank-step, blank-size, blank-done}
 use Rattle.combine.proofs.legal.blank.Statement.{statement}

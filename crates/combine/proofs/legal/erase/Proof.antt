@@ -1,8 +1,7 @@
 -- `combine::legal::erase` meets its contract. Assumes nothing.
 use mathlib.Core.Path.{refl}
-use Prim.Native.Nat.{ℕ, _+_, _-_, _*_, _≤_, _<_}
+use Prim.Native.Nat.{_-_}
 use native.Mathlib.Omega.{arith}
-use lib.ListN.{length}
 use borrow.Author.Needs.{needs}
 use Rattle.piecing.specs.Members.{nought}
 use Rattle.piecing.proofs.Storing.{Storing, store-begin, store-size, z-low, z-high, z-fits, store-step, store-done}

@@ -1,7 +1,5 @@
 -- `combine::legal::level` meets its contract: each step asks what the steps before it have ensured. Assumes nothing.
-use Prim.Native.Nat.{ℕ, _-_}
 use native.Mathlib.Omega.{arith}
-use lib.ListN.{length}
 use Rattle.spec.specs.Graph.{graphOf, sizeOf}
 use Rattle.laws.proofs.Refused.{passed, starts-of}
 use Rattle.piecing.specs.Given.{firstOf, endsOf, Levelled}

@@ -1,5 +1,5 @@
 -- `combine::legal::place_all` meets its contract. Assumes nothing.
-use Prim.Native.Nat.{ℕ, _+_, _-_, _*_, _≤_, _<_}
+use Prim.Native.Nat.{_-_}
 use native.Mathlib.Omega.{arith}
 use borrow.Author.Needs.{needs}
 use Rattle.piecing.proofs.PlaceLoop.{PlacingAll, place-begin, now-stands, now-placeable, end-fits, place-step, place-done}

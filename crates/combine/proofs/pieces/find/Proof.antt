@@ -2,12 +2,11 @@
 use mathlib.Core.Path.{_≡_, refl, sym, ap, _∙_}
 use mathlib.Core.Logic.{⊎-elim}
 use mathlib.Core.List.{List}
-use Prim.Native.Nat.{ℕ, _+_, _-_, _*_, _≤_, _<_}
+use Prim.Native.Nat.{ℕ, _+_, _-_, _*_, _≤_}
 use native.Mathlib.Omega.{arith}
 use lib.ListN.{length, getD}
 use borrow.Author.Needs.{needs}
-use Rattle.spec.specs.Graph.{graphOf, sizeOf}
-use Rattle.laws.specs.Legal.{Node}
+use Rattle.spec.specs.Graph.{graphOf}
 use Rattle.laws.proofs.Refused.{passed, starts-of, not-refused}
 use Rattle.piecing.specs.Seek.{freshAt}
 use Rattle.piecing.proofs.Taking.{Finding, finding-begin, z-node, shut-now, before-now, finding-skip, finding-take}

@@ -1,11 +1,10 @@
 -- `combine::pieces::make_gap` meets its contract. Assumes nothing.
-use mathlib.Core.Path.{_≡_, sym, ap, _∙_, subst}
+use mathlib.Core.Path.{subst}
 use mathlib.Core.List.{List}
 use Prim.Native.Nat.{ℕ, _+_, _-_, _*_, _≤_, _<_}
 use native.Mathlib.Omega.{arith}
-use lib.ListN.{length, getD, set, length-set}
+use lib.ListN.{length, set}
 use borrow.Author.Needs.{needs}
-use Rattle.piecing.specs.Starts.{Standing}
 use Rattle.piecing.proofs.Gaps.{Gapping, gap-begin, gap-size, stands-on, gap-stop, gap-step, gap-done}
 use Rattle.combine.proofs.pieces.make_gap.Statement.{statement}
 use Rattle.combine.proofs.pieces.make_gap.Tie as tie

@@ -1,7 +1,6 @@
 -- `combine::pieces::size_at` meets its contract. Assumes nothing.
 use mathlib.Core.Path.{ap, _∙_}
 use Prim.Native.Nat.{ℕ, _-_}
-use native.Mathlib.Omega.{arith}
 use lib.ListN.{getD}
 use borrow.Author.Needs.{needs}
 use Rattle.combine.proofs.pieces.size_at.Statement.{statement}

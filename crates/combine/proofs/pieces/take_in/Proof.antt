@@ -1,11 +1,10 @@
 -- `combine::pieces::take_in` meets its contract. Assumes nothing.
-use mathlib.Core.Path.{_≡_, refl, sym, ap, _∙_}
+use mathlib.Core.Path.{_≡_, refl, ap, _∙_}
 use mathlib.Core.List.{List, map}
 use Prim.Native.Nat.{ℕ, _+_, _-_, _*_, _≤_, _<_}
 use native.Mathlib.Omega.{arith}
 use lib.ListN.{length, length-set}
 use lib.Seq.{length-sets}
-use borrow.Author.Needs.{needs}
 use Rattle.basis.specs.Lists.{upFrom}
 use Rattle.laws.proofs.Refused.{passed, starts-of}
 use Rattle.piecing.specs.Starts.{startAt, Listed}

@@ -7,7 +7,7 @@ use Prim.Native.Nat.{ℕ, _+_, _-_, _*_, _≤_}
 use native.Mathlib.Omega.{arith}
 use lib.ListN.{length, set}
 use borrow.Author.Needs.{needs}
-use Rattle.piecing.specs.Seek.{freshAt, Seek}
+use Rattle.piecing.specs.Seek.{freshAt}
 use Rattle.piecing.proofs.Seeking.{Visiting, visit-begin, v-low, v-high, visit-words, visit-levels, visit-old, visit-new, t-in, visit-done, visit-sizes}
 use Rattle.combine.proofs.pieces.visit.Statement.{statement}
 use Rattle.combine.proofs.pieces.visit.Tie as tie

@@ -1,9 +1,8 @@
 -- `placing::legal::choose` meets its contract. Assumes nothing.
 use mathlib.Core.Path.{sym, ap, _∙_}
 use mathlib.Core.Bool.{Bool, cond}
-use Prim.Native.Nat.{ℕ, _*_}
+use Prim.Native.Nat.{_*_}
 use borrow.Author.Needs.{needs}
-use Rattle.combining.specs.Model.{goesSecond}
 use Rattle.combining.proofs.Counting.{second-less, second-more, second-even}
 use Rattle.placing.proofs.legal.choose.Statement.{statement}
 use Rattle.placing.proofs.legal.choose.Tie as tie

@@ -1,5 +1,5 @@
 -- `placing::legal::lower` meets its contract. Assumes nothing.
-use Prim.Native.Nat.{ℕ, _-_, _<_}
+use Prim.Native.Nat.{_-_, _<_}
 use native.Mathlib.Omega.{arith}
 use lib.ListN.{length}
 use Rattle.combining.proofs.Counting.{Lowering, readable-on, lower-begin, lat-in, lat-some, lower-step, lower-done}

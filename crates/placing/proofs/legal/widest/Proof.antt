@@ -1,6 +1,6 @@
 -- `placing::legal::widest` meets its contract. Assumes nothing.
 use mathlib.Core.Path.{ap, _∙_}
-use Prim.Native.Nat.{ℕ, _-_, _*_, _≤_, max}
+use Prim.Native.Nat.{_-_, _*_, _≤_, max}
 use native.Mathlib.Omega.{arith}
 use borrow.Author.Needs.{needs}
 use Rattle.combining.proofs.Counting.{Topping, top-begin, top-step, top-done}

@@ -1,0 +1,210 @@
+// The ends of one part of a legal graph, on 4n words: the levels and queue of the search from v in the first 2n, those of the search from an
+// s of v's last level in the others. The words are 0 before, and afterwards they have the searches from v and from u.
+ghost use mathlib.Core.Path.{_≡_};
+ghost use mathlib.Core.List.{List, _++_};
+ghost use Prim.Native.Nat.{ℕ, _+_, _≤_, _<_};
+ghost use lib.ListN.{length, take, drop, replicate};
+ghost use lib.Seq.{slice};
+ghost use Rattle.spec.specs.Graph.{graphOf, sizeOf, graphRefusal, firstInE};
+ghost use Rattle.spec.specs.Levels.{levels, part, reached};
+ghost use Rattle.spec.specs.Ends.{ends, farthest};
+ghost use Rattle.laws.specs.Legal.{Starts};
+ghost use Rattle.search.specs.Answer.{rootedOf, Searched};
+ghost use Rattle.sorting.specs.Nodes.{Nodes};
+ghost use Rattle.ends.specs.Answer.{foundOf, Ended};
+ghost use Rattle.ends.specs.Passes.{Probed, Candidates, Tries, Area, Sorted, At, Passed, OnePart};
+use crate::shape::Found;
+use crate::shape::Tried;
+use graph::legal::precedes;
+use search::legal::search;
+use search::legal::wipe;
+use search::shape::Rooted;
+use sorting::legal::by_e;
+use words::wide;
+
+// The first of some nodes in E.
+pub fn first_in_e(starts: &[u16], nodes: &[u16]) -> u16
+    requires { ⌜ ((neighbours : List ℕ) × Starts (now starts) neighbours) ⌝ }
+    requires { ⌜ Nodes (sizeOf (now starts)) (now nodes) ⌝ }
+    requires { ⌜ 1 ≤ length (now nodes) ⌝ }
+    ensures { λ r. ⌜ ((neighbours : List ℕ) → Starts (now (starts .entry)) neighbours → r ≡ firstInE (graphOf (now (starts .entry)) neighbours) (now (nodes .entry))) ⌝ }
+{
+    let mut first = nodes[0];
+    let mut i = 1;
+    while i < nodes.len() {
+        let p = nodes[i];
+        if precedes(starts, wide(p), wide(first)) {
+            first = p;
+        }
+        i += 1;
+    }
+    first
+}
+
+// Step 1: "v is the part's first node in E", for the part of `node`. The 2n words are 0 before and after.
+pub fn first_of_part(starts: &[u16], neighbours: &[u16], node: u16, work: &mut [u16]) -> u16
+    requires { ⌜ graphRefusal (now starts) (now neighbours) ≡ 0 ⌝ }
+    requires { ⌜ (1 ≤ node) × (node ≤ sizeOf (now starts)) ⌝ }
+    requires { ⌜ now work ≡ replicate (sizeOf (now starts) + sizeOf (now starts)) 0 ⌝ }
+    ensures { λ r. ⌜ r ≡ firstInE (graphOf (now (starts .entry)) (now (neighbours .entry))) (part (graphOf (now (starts .entry)) (now (neighbours .entry))) node) ⌝ }
+    ensures { λ _. ⌜ now (work .exit) ≡ now (work .entry) ⌝ }
+{
+    let n = starts.len() - 1;
+    let r = search(starts, neighbours, node, work);
+    let count = wide(r.reached);
+    let v = first_in_e(starts, &work[n..n + count]);
+    wipe(work, n, count);
+    v
+}
+
+// The search from s; its words are kept if s is deeper than `depth`, and are 0 again if not.
+fn probe(starts: &[u16], neighbours: &[u16], s: u16, depth: u16, work: &mut [u16]) -> Rooted
+    requires { ⌜ graphRefusal (now starts) (now neighbours) ≡ 0 ⌝ }
+    requires { ⌜ (1 ≤ s) × (s ≤ sizeOf (now starts)) ⌝ }
+    requires { ⌜ now work ≡ replicate (sizeOf (now starts) + sizeOf (now starts)) 0 ⌝ }
+    ensures { λ r. ⌜ r ≡ rootedOf (levels (graphOf (now (starts .entry)) (now (neighbours .entry))) s) ⌝ }
+    ensures { λ _. ⌜ Probed (now (starts .entry)) (now (neighbours .entry)) s depth (now (work .exit)) ⌝ }
+{
+    let n = starts.len() - 1;
+    let r = search(starts, neighbours, s, work);
+    if depth < r.depth {
+        return r;
+    }
+    wipe(work, n, wide(r.reached));
+    r
+}
+
+// Steps 3 and 4 for the nodes S that stand in the words from a up to b, in E: stops at the first s deeper than `depth`, whose search then
+// stands in the second 2n words. If there is none, it is the s of least width, "ties by E": a later s must be narrower.
+fn try_each(
+    starts: &[u16],
+    neighbours: &[u16],
+    work: &mut [u16],
+    a: usize,
+    b: usize,
+    depth: u16,
+) -> Tried
+    requires { ⌜ graphRefusal (now starts) (now neighbours) ≡ 0 ⌝ }
+    requires { ⌜ Candidates (now starts) (now neighbours) a b (now work) ⌝ }
+    ensures { λ r. ⌜ Tries (now (starts .entry)) (now (neighbours .entry)) (slice a b (now (work .entry))) depth (now (work .entry)) (now (work .exit)) r ⌝ }
+{
+    let half = starts.len() - 1 + (starts.len() - 1);
+    let mut node = 0;
+    let mut best = Rooted {
+        depth: 0,
+        width: 65535,
+        reached: 0,
+        last: 0,
+    };
+    let mut i = a;
+    while i < b {
+        let s = work[i];
+        let r = probe(starts, neighbours, s, depth, &mut work[half..]);
+        if depth < r.depth {
+            return Tried {
+                deeper: true,
+                node: s,
+                search: r,
+            };
+        }
+        if r.width < best.width {
+            node = s;
+            best = r;
+        }
+        i += 1;
+    }
+    Tried {
+        deeper: false,
+        node,
+        search: best,
+    }
+}
+
+// "Take S in E": sorts the last level of the search r, at the end of its queue.
+fn sort_last(starts: &[u16], r: Rooted, work: &mut [u16])
+    requires { ⌜ ((neighbours : List ℕ) × (v : ℕ) × Area (now starts) neighbours v r (now work)) ⌝ }
+    ensures { λ _. ⌜ ((neighbours : List ℕ) (v : ℕ) → Area (now (starts .entry)) neighbours v r (now (work .entry)) → Sorted (now (starts .entry)) neighbours v r (now (work .exit))) ⌝ }
+{
+    let n = starts.len() - 1;
+    let a = n + wide(r.last);
+    let b = n + wide(r.reached);
+    by_e(starts, &mut work[a..b]);
+}
+
+// One pass, steps 2 and 3: S is the last level of the search r from v.
+fn pass(starts: &[u16], neighbours: &[u16], r: Rooted, work: &mut [u16]) -> Tried
+    requires { ⌜ ((v : ℕ) × At (now starts) (now neighbours) v r (now work)) ⌝ }
+    ensures { λ t. ⌜ ((v : ℕ) → At (now (starts .entry)) (now (neighbours .entry)) v r (now (work .entry)) → Passed (now (starts .entry)) (now (neighbours .entry)) v t (now (work .exit))) ⌝ }
+{
+    let n = starts.len() - 1;
+    sort_last(starts, r, &mut work[0..n + n]);
+    try_each(
+        starts,
+        neighbours,
+        work,
+        n + wide(r.last),
+        n + wide(r.reached),
+        r.depth,
+    )
+}
+
+// Copies the search in the second 2n words over the one in the first, node by node: both are of one part of `count` nodes.
+fn copy_over(work: &mut [u16], n: usize, count: usize)
+    requires { ⌜ OnePart n count (now work) ⌝ }
+    ensures { λ _. ⌜ now (work .exit) ≡ drop (n + n) (now (work .entry)) ++ drop (n + n) (now (work .entry)) ⌝ }
+{
+    let half = n + n;
+    let mut i = 0;
+    while i < count {
+        let p = work[half + n + i];
+        let at = wide(p) - 1;
+        work[at] = work[half + at];
+        work[n + i] = p;
+        i += 1;
+    }
+}
+
+// Moves the search in the second 2n words to the first.
+fn take_over(work: &mut [u16], n: usize, count: usize)
+    requires { ⌜ OnePart n count (now work) ⌝ }
+    ensures { λ _. ⌜ now (work .exit) ≡ drop (n + n) (now (work .entry)) ++ replicate (n + n) 0 ⌝ }
+{
+    copy_over(work, n, count);
+    wipe(&mut work[n + n..], n, count);
+}
+
+// The ends of the part whose first node in E is `first`, and the searches from them: v's in the first 2n words, u's in the second.
+pub fn ends_from(starts: &[u16], neighbours: &[u16], first: u16, work: &mut [u16]) -> Found
+    requires { ⌜ graphRefusal (now starts) (now neighbours) ≡ 0 ⌝ }
+    requires { ⌜ (1 ≤ first) × (first ≤ sizeOf (now starts)) ⌝ }
+    requires { ⌜ first ≡ firstInE (graphOf (now starts) (now neighbours)) (part (graphOf (now starts) (now neighbours)) first) ⌝ }
+    requires { ⌜ now work ≡ replicate (sizeOf (now starts) + sizeOf (now starts) + (sizeOf (now starts) + sizeOf (now starts))) 0 ⌝ }
+    ensures { λ r. ⌜ r ≡ foundOf (ends (graphOf (now (starts .entry)) (now (neighbours .entry))) first) ⌝ }
+    ensures { λ _. ⌜ Ended (now (starts .entry)) (now (neighbours .entry)) (ends (graphOf (now (starts .entry)) (now (neighbours .entry))) first) (now (work .exit)) ⌝ }
+{
+    let n = starts.len() - 1;
+    let half = n + n;
+    let mut v = first;
+    let mut r = search(starts, neighbours, first, &mut work[0..half]);
+    let mut t = pass(starts, neighbours, r, work);
+    let mut passes: u16 = 1;
+    let mut deeper = t.deeper;
+    while deeper {
+        v = t.node;
+        r = t.search;
+        take_over(work, n, wide(r.reached));
+        passes += 1;
+        t = pass(starts, neighbours, r, work);
+        deeper = t.deeper;
+    }
+    let u = t.node;
+    let w = search(starts, neighbours, u, &mut work[half..]);
+    Found {
+        v,
+        u,
+        k: r.depth,
+        widthv: r.width,
+        widthu: w.width,
+        passes,
+    }
+}

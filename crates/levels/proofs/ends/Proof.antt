@@ -1,0 +1,99 @@
+-- `levels::ends` meets its contract: each refusal by its test, and the figures of `find_ends`. Assumes nothing.
+use mathlib.Core.Path.{_≡_, sym, ap, _∙_}
+use mathlib.Core.Bool.{false}
+use native.Mathlib.Omega.{arith}
+use borrow.Author.Needs.{needs}
+use Rattle.spec.specs.Graph.{sizeOf, outside}
+use Rattle.spec.specs.Lent.{accepted}
+use Rattle.graph.specs.Facts.{LegalLists}
+use Rattle.graph.proofs.Answers.{legal-lists, refused-lists}
+use Rattle.levels.proofs.Refusals.{ends-lists, ends-short, ends-outside, ends-answer, ends-scratch, node-inside}
+use Rattle.levels.proofs.ends.Statement.{statement}
+use Rattle.levels.proofs.ends.Tie as tie
+
+test-adjacency-requires : tie.Need-test-adjacency-requires
+test-adjacency-requires c κs = search needs
+
+enum-known-c : tie.Need-enum-known-c
+enum-known-c c = search needs
+
+enum-told : tie.Need-enum-told
+enum-told c = search needs
+
+-- the two lists, where the adjacency test passed
+legal : (c : tie.After-enum-told) → let s = c .before .before .before .before .before .before in LegalLists (s .args .starts .now) (s .args .neighbours .now)
+legal c =
+    let s = c .before .before .before .before .before .before in
+    legal-lists (s .args .starts .now) (s .args .neighbours .now) (c .before .before .test-adjacency .ensures) (c .enum-told .given .1)
+
+sub-n : tie.Need-sub-n
+sub-n c = omega (arith, legal c .starts .count)
+
+mul-if1 : tie.Need-mul-if1
+mul-if1 c = omega (arith, legal c .starts .few)
+
+returns : tie.Need-returns
+returns c =
+    let s = c .before .before .before .before .before .before .before in
+    let R = ends-short (s .args .starts .now) (s .args .neighbours .now) (s .args .node) (s .args .scratch .now) (legal (c .before)) (c .if1 .taken) in
+    (R .answer, R .untouched)
+
+no-node-requires : tie.Need-no-node-requires
+no-node-requires c κs = search needs
+
+returns-2 : tie.Need-returns-2
+returns-2 c =
+    let e = c .before .before in
+    let s = e .before .before .before .before .before .before .before in
+    let R = ends-outside (s .args .starts .now) (s .args .neighbours .now) (s .args .node) (s .args .scratch .now) (legal (e .before)) (e .if1 .left)
+    (sym (c .before .no-node .ensures) ∙ c .if2 .taken) in
+    (R .answer, R .untouched)
+
+-- the node given is one
+inside : (c : tie.Else2) → let s = c .before .before .before .before .before .before .before .before .before in outside (sizeOf (s .args .starts .now)) (s .args .node) ≡ false
+inside c = sym (c .before .no-node .ensures) ∙ c .if2 .left
+
+find-ends-requires : tie.Need-find-ends-requires
+find-ends-requires c κs =
+    let e = c .before .before .before in
+    let s = e .before .before .before .before .before .before .before in
+    (legal (e .before) .refusal, (node-inside (sizeOf (s .args .starts .now)) (s .args .node) (inside (c .before)), e .if1 .left))
+
+returns-3 : tie.Need-returns-3
+returns-3 c =
+    let s = c .before .before .before .before .before .before .before in
+    let R = ends-lists (s .args .starts .now) (s .args .neighbours .now) (s .args .node) (s .args .scratch .now)
+    (refused-lists (s .args .starts .now) (s .args .neighbours .now) (c .before .before .before .test-adjacency .ensures) (c .before .c .given .1)) in
+    (R .answer, R .untouched)
+
+same-length : tie.Need-same-length
+same-length c = search needs
+
+returns-4 : tie.Need-returns-4
+returns-4 c =
+    let e = c .before .before .before .before .before .before in
+    let s = e .before .before .before .before .before .before .before in
+    let o = inside (c .before .before .before .before) in
+    let L = legal (e .before) in
+    let w = c .before .before .find-ends .ensures in (
+      ap (λ f. accepted (record { v = f .v; u = f .u; k = f .k; widthV = f .widthv; widthU = f .widthu; passes = f .passes })) (w .0)
+          ∙ ends-answer (s .args .starts .now) (s .args .neighbours .now) (s .args .node) (s .args .scratch .now) L (e .if1 .left) o,
+      w .1 ∙ ends-scratch (s .args .starts .now) (s .args .neighbours .now) (s .args .node) (s .args .scratch .now) L (e .if1 .left) o,
+    )
+
+pub ends-spec : {M : Type 1} → statement M
+ends-spec =
+    tie.close
+    (tie.spec
+    test-adjacency-requires
+    enum-known-c
+    enum-told
+    sub-n
+    mul-if1
+    returns
+    no-node-requires
+    returns-2
+    find-ends-requires
+    returns-3
+    same-length
+    returns-4)

@@ -1,0 +1,32 @@
+// The calls on one part: what they do in their scratch once it was tested.
+ghost use mathlib.Core.Path.{_≡_};
+ghost use Prim.Native.Nat.{_*_, _≤_};
+ghost use lib.ListN.{length};
+ghost use Rattle.spec.specs.Ends.{ends};
+ghost use Rattle.spec.specs.Graph.{graphOf, sizeOf, graphRefusal};
+ghost use Rattle.spec.specs.Lent.{zeroed, wordsPerNode};
+ghost use Rattle.ends.specs.Answer.{foundOf};
+use ends::legal::ends_from;
+use ends::legal::first_of_part;
+use ends::shape::Found;
+use words::legal::clear;
+
+// "scratch 8n words"
+pub const WORDS_PER_NODE: usize = 8;
+
+// The ends of the part of `node`, in scratch that is set to 0 before and after.
+pub fn find_ends(starts: &[u16], neighbours: &[u16], node: u16, scratch: &mut [u16]) -> Found
+    requires { ⌜ graphRefusal (now starts) (now neighbours) ≡ 0 ⌝ }
+    requires { ⌜ (1 ≤ node) × (node ≤ sizeOf (now starts)) ⌝ }
+    requires { ⌜ wordsPerNode * sizeOf (now starts) ≤ length (now scratch) ⌝ }
+    ensures { λ r. ⌜ r ≡ foundOf (ends (graphOf (now (starts .entry)) (now (neighbours .entry))) node) ⌝ }
+    ensures { λ _. ⌜ now (scratch .exit) ≡ zeroed (wordsPerNode * sizeOf (now (starts .entry))) (now (scratch .entry)) ⌝ }
+{
+    let n = starts.len() - 1;
+    let half = n + n;
+    clear(scratch, WORDS_PER_NODE * n);
+    let v = first_of_part(starts, neighbours, node, &mut scratch[0..half]);
+    let f = ends_from(starts, neighbours, v, &mut scratch[0..half + half]);
+    clear(scratch, WORDS_PER_NODE * n);
+    f
+}
