@@ -1,7 +1,7 @@
 -- Passes that add bits: what is left to add completes what is there. Assumes nothing.
 use mathlib.Core.Path.{_≡_, refl, sym, ap, _∙_}
 use mathlib.Core.Bool.{Bool, true, false, _&&_, _||_, or-assoc, and-comm}
-use mathlib.Core.List.{List, _++_, append-nil}
+use mathlib.Core.List.{List}
 use Prim.Native.Nat.{ℕ, suc, _+_, _-_, _≤_, _<_}
 use native.Mathlib.Omega.{arith}
 use lib.Bits.{bitOr}
@@ -13,10 +13,8 @@ use Rattle.basis.specs.Lists.{anyb, memb}
 use Rattle.basis.proofs.Index.{memb-getD}
 use Rattle.basis.proofs.Lists.{any-none}
 use Rattle.basis.proofs.Logic.{by-test, or-none}
-use Rattle.spec.specs.Lent.{zeroed}
 use Rattle.spec.specs.Graph.{outside}
 use Rattle.spec.specs.Mesh.{nodeCount, elements}
-use Rattle.laws.proofs.Lent.{zeroed-is}
 use Rattle.elements.proofs.Remains.{drop-next}
 use Rattle.elements.proofs.Elements.{refusalFrom, refusal-none, good-fits, good-inside, elements-next, elements-over}
 use Rattle.blocks.specs.Block.{bitAt, share, Mask, Added, Block}
@@ -195,12 +193,6 @@ module _ (ws : List ℕ) (base : ℕ) (before : List ℕ) where
           ∙ ap (λ (els : List (List ℕ)). bitAt k (getD bits q 0) || share els (base + suc k) (suc q)) (sym (elements-over ws j h))
           ∙ M .at k q l b;
     }
-
--- a list that is 0 all through
-pub zeroed-all : (n : ℕ) (l : List ℕ) → length l ≡ n → zeroed n l ≡ replicate n 0
-zeroed-all n l e =
-    let h : length l ≤ n = omega arith in
-    zeroed-is n l ∙ ap (λ (t : List ℕ). replicate n 0 ++ t) (drop-of-length-le l h) ∙ append-nil (replicate n 0)
 
 -- added to no bits
 pub block-of : (els : List (List ℕ)) (base n : ℕ) (a b : List ℕ) → a ≡ replicate n 0 → length b ≡ n

@@ -17,8 +17,9 @@ use Rattle.basis.proofs.Logic.{by-test}
 use Rattle.spec.specs.Graph.{ofNode}
 use Rattle.search.specs.Queue.{Queued}
 use Rattle.search.proofs.Stores.{write-front, write-behind, front-length, behind-length}
-use Rattle.search.proofs.Tallies.{ofNode-at, ofNode-some, ofNode-set, levels-ext}
+use Rattle.search.proofs.Tallies.{ofNode-some, ofNode-set, levels-ext}
 use Rattle.ends.specs.Passes.{OnePart}
+use Rattle.laws.proofs.Legal.{ofNode-at}
 
 -- from the search B to the levels L and the queue Q
 pub record Copying (n count : ℕ) (B L Q : List ℕ) (i : ℕ) : Type 0 where

@@ -1,15 +1,16 @@
 -- The envelope of a numbering, walked by old number: f, the spans and their sum. Assumes nothing.
-use mathlib.Core.Path.{_≡_, sym, ap, ap₂, _∙_, subst}
+use mathlib.Core.Path.{_≡_, refl, sym, ap, ap₂, _∙_, subst}
 use mathlib.Core.Logic.{⊎-elim}
 use mathlib.Core.Bool.{true}
 use mathlib.Core.List.{List, map}
-use Prim.Native.Nat.{ℕ, _+_, _-_, _≤_}
+use Prim.Native.Nat.{ℕ, zero, suc, _+_, _-_, _*_, _≤_}
+use native.Mathlib.Nat.{mul-suc, suc-mul, mul-le-mul}
 use native.Mathlib.Numerals.{add-one}
 use native.Mathlib.Omega.{arith}
 use lib.ListN.{getD}
 use Rattle.basis.specs.Lists.{least, sum, upFrom}
 use Rattle.basis.proofs.Index.{memb-getD, least-le, least-is}
-use Rattle.basis.proofs.Lists.{map-memb, sum-cong, sum-step}
+use Rattle.basis.proofs.Lists.{map-memb, sum-cong, sum-mono, sum-step}
 use Rattle.spec.specs.Graph.{Graph, nodes, adjoins, ofNode}
 use Rattle.spec.specs.Measures.{isNumbering, renumbered, firstIn, rowSpan, profile}
 use Rattle.laws.specs.Legal.{Node, LegalGraph}
@@ -72,3 +73,34 @@ module _ {g : Graph} (G : LegalGraph g) (x : List ℕ) (ok : isNumbering (g .siz
       sum-cong (λ a. ofNode x a - firstIn (renumbered g x) (ofNode x a)) (λ a. ofNode x a - firstOld G x ok a) (nodes g)
       (λ a m. ap (λ (v : ℕ). ofNode x a - v) (first-old G x ok a (node-in g a m)))
       ∙ sym (profile-old G x ok)
+
+-- ---- how large a profile can be
+
+-- twice the sum of 0 .. k − 1
+triangle : (k : ℕ) → 2 * sum (map (λ q. q - 1) (upFrom 1 (suc k))) ≡ suc k * k
+triangle zero = refl
+triangle (suc k) =
+    let e : 1 + suc k - 1 ≡ suc k = omega arith in
+    omega (arith, sum-step (λ q. q - 1) 1 (suc k), triangle k, suc-mul (suc k) (suc k), mul-suc (suc k) k, e)
+
+-- a row reaches below the diagonal by less than its number
+span-less : (h : Graph) → LegalGraph h → (q : ℕ) → rowSpan h q ≤ q - 1
+unfolding rowSpan firstIn adjoins
+span-less h H zero = omega arith
+span-less h H (suc j) =
+    ⊎-elim
+    (λ (e : least (suc j) (h .row (suc j)) ≡ suc j). omega arith)
+    (λ m. omega (arith, H .inside (suc j) (least (suc j) (h .row (suc j))) m .low))
+    (least-is (suc j) (h .row (suc j)))
+
+-- so the profile of 4,096 nodes is at most 8,386,560
+pub profile-most : (h : Graph) → LegalGraph h → h .size ≤ 4096 → profile h ≤ 8386560
+unfolding profile nodes
+profile-most h H few = omega (arith, sum-mono (rowSpan h) (λ q. q - 1) (upFrom 1 (h .size)) (span-less h H), whole (h .size) few)
+  where
+    whole : (n : ℕ) → n ≤ 4096 → sum (map (λ q. q - 1) (upFrom 1 n)) ≤ 8386560
+    whole zero l = omega arith
+    whole (suc k) l =
+        let m : k ≤ 4095 = omega arith in
+        let p : suc k * k ≤ 4096 * 4095 = mul-le-mul l m in
+        omega (arith, triangle k)

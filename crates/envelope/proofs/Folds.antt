@@ -1,19 +1,12 @@
 -- The least, the greatest and the sum of a walk over a list or a range, as far as it has come. Assumes nothing.
-use mathlib.Core.Path.{_≡_, ap}
+use mathlib.Core.Path.{_≡_}
 use mathlib.Core.List.{List, [], _∷_, map}
-use Prim.Native.Nat.{ℕ, zero, suc, _+_, _-_, _≤_, _<_, min}
+use Prim.Native.Nat.{ℕ, suc, _+_, _<_, min}
 use native.Mathlib.Numerals.{add-one}
 use native.Mathlib.Omega.{arith}
 use lib.ListN.{length, getD, drop}
 use lib.Seq.{drop-cons, drop-length}
 use Rattle.basis.specs.Lists.{least}
-use Rattle.spec.specs.Graph.{ofNode}
-
--- the entry of node v, by its index
-pub ofNode-at : (xs : List ℕ) (v : ℕ) → 1 ≤ v → ofNode xs v ≡ getD xs (v - 1) 0
-unfolding ofNode
-ofNode-at xs zero h = absurd (omega arith)
-ofNode-at xs (suc j) h = let e : j ≡ suc j - 1 = omega arith in ap (λ (i : ℕ). getD xs i 0) e
 
 -- the least with one number of the list taken in
 pub least-in : (m v : ℕ) (l : List ℕ) → least (min m v) l ≡ min v (least m l)

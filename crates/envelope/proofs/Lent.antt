@@ -1,10 +1,9 @@
 -- The scratch words of test 7: zeros, or the nodes in the order of their numbers. Assumes nothing.
 use mathlib.Core.Path.{_≡_, sym, ap, _∙_}
 use mathlib.Core.Bool.{Bool, true, false, cond}
-use mathlib.Core.List.{List, _++_, append-nil}
+use mathlib.Core.List.{List, _++_}
 use Prim.Native.Nat.{ℕ, suc}
-use native.Mathlib.Omega.{arith}
-use lib.ListN.{length, drop, replicate, length-map, drop-of-length-le}
+use lib.ListN.{length, drop, replicate, length-map}
 use Rattle.basis.specs.Lists.{overwrite, upFrom, position}
 use Rattle.basis.proofs.Lists.{length-upFrom}
 use Rattle.basis.proofs.Logic.{fails}
@@ -12,11 +11,6 @@ use Rattle.spec.specs.Lent.{zeroed}
 use Rattle.spec.specs.Measures.{isNumbering, orderOf}
 use Rattle.laws.proofs.Lent.{zeroed-is, zeroed-behind}
 use Rattle.laws.proofs.Numberings.{numbering-length}
-
--- words all set to 0
-pub zeroed-all : (n : ℕ) (l : List ℕ) → length l ≡ n → zeroed n l ≡ replicate n 0
-zeroed-all n l e =
-    zeroed-is n l ∙ ap (λ (r : List ℕ). replicate n 0 ++ r) (drop-of-length-le l {i = n} (omega arith)) ∙ append-nil (replicate n 0)
 
 -- a numbering of another length is none
 pub misfit : (n : ℕ) (x : List ℕ) → (length x ≡ n → ⊥) → isNumbering n x ≡ false

@@ -50,7 +50,7 @@ fn settle(numbering: &[u16], order: &mut [u16]) -> bool
 }
 
 // Whether n words are a numbering of n nodes; if so, the nodes in the order of their numbers, else zeros again.
-pub fn invert(numbering: &[u16], scratch: &mut [u16]) -> bool
+fn invert(numbering: &[u16], scratch: &mut [u16]) -> bool
     requires { ⌜ length (now numbering) ≤ 4096 ⌝ }
     requires { ⌜ now scratch ≡ replicate (length (now numbering)) 0 ⌝ }
     ensures { λ r. ⌜ r ≡ isNumbering (length (now (numbering .entry))) (now (numbering .entry)) ⌝ }

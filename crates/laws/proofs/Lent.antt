@@ -1,9 +1,9 @@
 -- Answers and lent buffers: what an accepted call says, and the words that it leaves. Assumes nothing.
 use mathlib.Core.Path.{_≡_, refl, sym, ap, _∙_}
-use mathlib.Core.List.{List, _++_}
+use mathlib.Core.List.{List, _++_, append-nil}
 use Prim.Native.Nat.{ℕ, zero, suc, _≤_}
 use native.Mathlib.Omega.{arith}
-use lib.ListN.{length, take, drop, replicate, length-replicate}
+use lib.ListN.{length, take, drop, replicate, length-replicate, drop-of-length-le}
 use lib.Seq.{take-at, drop-at}
 use Rattle.spec.specs.Lent.{Outcome, accepted, refused, outcome, filled, zeroed}
 
@@ -38,3 +38,9 @@ zeroed-front n l = ap (take n) (zeroed-is n l) ∙ take-at (replicate n 0) (drop
 
 pub zeroed-behind : (n : ℕ) (l : List ℕ) → drop n (zeroed n l) ≡ drop n l
 zeroed-behind n l = ap (drop n) (zeroed-is n l) ∙ drop-at (replicate n 0) (drop n l) n (length-replicate n 0)
+
+-- a buffer of n words is then all 0
+pub zeroed-all : (n : ℕ) (l : List ℕ) → length l ≡ n → zeroed n l ≡ replicate n 0
+zeroed-all n l e =
+    let h : length l ≤ n = omega arith in
+    zeroed-is n l ∙ ap (λ (t : List ℕ). replicate n 0 ++ t) (drop-of-length-le l h) ∙ append-nil (replicate n 0)

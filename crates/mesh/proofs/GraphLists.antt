@@ -12,7 +12,7 @@ use lib.Dec.{leb, ltb}
 use borrow.Author.Tests.{eq-eqb, ne-eqb, le-leb, le-ltb, not-true}
 use Rattle.basis.specs.Lists.{anyb, chainb, memb, joinAll, headOr, lastOr, upFrom, sum}
 use Rattle.basis.proofs.Index.{getD-map-upFrom, last-at}
-use Rattle.basis.proofs.Lists.{any-find, memb-here, upFrom-append, length-upFrom, map-append}
+use Rattle.basis.proofs.Lists.{any-find, memb-here, upFrom-append, length-upFrom, map-append, join-append}
 use Rattle.basis.proofs.Logic.{clash, fails, or-split, or-neither, lt-or-le}
 use Rattle.basis.proofs.Walk.{chain-walked}
 use Rattle.spec.specs.Refusal.{refuse, _orElse_}
@@ -21,7 +21,7 @@ use Rattle.spec.specs.Mesh.{entryCount, startList, neighbourList}
 use Rattle.laws.specs.Legal.{Node, LegalGraph}
 use Rattle.laws.proofs.Legal.{of-row}
 use Rattle.rows.specs.Rows.{entriesTo}
-use Rattle.rows.proofs.Next.{sum-next, join-append, join-length}
+use Rattle.rows.proofs.Next.{sum-next, join-length}
 use Rattle.rows.proofs.Blocks.{to-none, to-upto}
 
 module _ (g : Graph) where

@@ -12,7 +12,7 @@ use lib.Dec.{eqb}
 use borrow.Author.Tests.{eqb-true}
 use Rattle.basis.specs.Lists.{filterb, memb, upFrom, overwrite}
 use Rattle.basis.proofs.Count.{bit-one, bit-none, memb-times, times-memb}
-use Rattle.basis.proofs.Lists.{memb-append, memb-here, filter-none}
+use Rattle.basis.proofs.Lists.{memb-append, memb-here, filter-none, filter-append}
 use Rattle.basis.proofs.Logic.{by-test, clash, fails, or-split, or-right}
 use Rattle.basis.proofs.Perm.{perm-memb}
 use Rattle.spec.specs.Graph.{Graph, graphOf, graphRefusal, sizeOf, ofNode}
@@ -25,7 +25,6 @@ use Rattle.laws.proofs.Refused.{not-refused}
 use Rattle.order.specs.Model.{stand, orderIn, Listed, Open, Became, foundBy, addBy, membersIn, levelsIn, Behind, Begun, Levelled, Starting, filledIn, laterIn}
 use Rattle.order.proofs.Stand.{open-at, at-order, at-next, at-became, stand-behind, listed-append, listed-none}
 use Rattle.order.proofs.Walk.{Walk, walk-begin}
-use Rattle.order.proofs.Settle.{filter-append}
 use Rattle.order.proofs.Part.{member-node, own-member, found-same, fold-same}
 use Rattle.order.proofs.Level.{push-walk, behind-on, levels-on}
 use Rattle.order.proofs.Wipe.{marks-none}
@@ -276,6 +275,12 @@ module _ (S N : List ℕ) {at from m k v : ℕ} {W : List ℕ} (ok : graphRefusa
 
   in-first : memb v (levelNodes graph levels 1) ≡ true
   in-first = level-make graph levels 1 v node (T .first)
+
+  -- the order is a list of nodes
+  pub forward-listed : Listed (sizeOf S) (forwardOrder (graphOf S N) (levelsIn (graphOf S N) at from m W) k v)
+  unfolding forwardOrder
+  forward-listed =
+      laters-listed graph levels refl (k - 1) 2 0 (filledIn graph levels 1 (v ∷ [])) (levelled-first graph levels v in-first) (first-listed graph levels refl v in-first) .0
 
   -- v is numbered
   module _ {W₁ : List ℕ} (s₁ : length W₁ ≡ length W) (e₁ : W₁ ≡ stand (sizeOf S) (orderIn (sizeOf S) 0 W ++ (v ∷ [])) (drop (sizeOf S) W)) where

@@ -11,7 +11,7 @@ use lib.Dec.{eqb}
 use borrow.Author.Tests.{ne-eqb}
 use Rattle.basis.specs.Lists.{filterb, headOr, insertb, sortb, memb}
 use Rattle.basis.proofs.Index.{memb-getD}
-use Rattle.basis.proofs.Lists.{all-make, memb-append, filter-in, head-memb}
+use Rattle.basis.proofs.Lists.{all-make, memb-append, filter-in, head-memb, filter-append}
 use Rattle.basis.proofs.Logic.{by-test, or-left, eqb-self}
 use Rattle.basis.proofs.Perm.{perm-memb}
 use Rattle.basis.proofs.Sort.{sort-middle}
@@ -20,7 +20,6 @@ use Rattle.laws.specs.Legal.{Starts}
 use Rattle.laws.proofs.Orders.{E-order, perm-sortE}
 use Rattle.sorting.specs.Nodes.{Nodes}
 use Rattle.order.specs.Model.{isFree, firstOf, membersIn}
-use Rattle.order.proofs.Settle.{filter-append}
 
 -- the first of a list with one more
 first-snoc : (g : Graph) (l : List ℕ) (q : ℕ) → ((x : ℕ) → memb x l ≡ true → 1 ≤ x) → firstInE g (l ++ (q ∷ [])) ≡ firstOf g (firstInE g l) q

@@ -7,3 +7,6 @@ pub mod Part
 pub mod Level
 pub mod Wipe
 pub mod Forward
+pub mod Callers
+pub mod Written
+pub mod Beside

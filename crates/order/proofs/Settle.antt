@@ -1,7 +1,7 @@
 -- The numbering within a level by a cursor: nodes behind it have no unnumbered neighbours in the level, so the lowest-numbered node that
 -- has some is at the cursor or after it. Of any level. Assumes nothing.
 use mathlib.Core.Path.{_≡_, refl, sym, ap, _∙_, subst}
-use mathlib.Core.Logic.{_⊎_, ⊎-elim}
+use mathlib.Core.Logic.{⊎-elim}
 use mathlib.Core.Bool.{Bool, true, false, not, _&&_}
 use mathlib.Core.List.{List, [], _∷_, _++_, map, append-assoc, append-nil}
 use Prim.Native.Nat.{ℕ, zero, suc, _+_, _-_, _≤_, _<_}
@@ -12,7 +12,7 @@ use borrow.Author.Tests.{not-true}
 use Rattle.basis.specs.Lists.{filterb, headOr, memb, All}
 use Rattle.basis.proofs.Count.{length-filter, memb-times, times-memb}
 use Rattle.basis.proofs.Index.{memb-getD, getD-right}
-use Rattle.basis.proofs.Lists.{memb-append, memb-here, map-append, filter-in, filter-make, filter-none}
+use Rattle.basis.proofs.Lists.{memb-append, memb-here, map-append, filter-in, filter-make, filter-none, filter-append}
 use Rattle.basis.proofs.Logic.{by-test, clash, fails, and-split, or-left, or-right, lt-or-le}
 use Rattle.basis.proofs.Perm.{perm-memb, perm-length}
 use Rattle.spec.specs.Graph.{Graph, adjoins, sortE, firstInE}
@@ -23,10 +23,6 @@ use Rattle.laws.proofs.Orders.{perm-sortE}
 use Rattle.order.specs.Model.{Spread, at-end, on}
 
 -- ---- lists
-
-pub filter-append : (t : ℕ → Bool) (a b : List ℕ) → filterb t (a ++ b) ≡ filterb t a ++ filterb t b
-filter-append t [] b = refl
-filter-append t (x ∷ a) b = rw (filter-append t a b) (by-test (t x) (λ e. rw e) (λ e. rw e))
 
 -- empty lists in front don't count
 first-skip : (ls rest : List (List ℕ)) → All (λ (l : List ℕ). l ≡ []) ls → firstFilled (ls ++ rest) ≡ firstFilled rest

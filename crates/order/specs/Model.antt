@@ -2,9 +2,9 @@
 -- Assumes nothing.
 use mathlib.Core.Path.{_≡_}
 use mathlib.Core.Bool.{Bool, true, not, _&&_, cond}
-use mathlib.Core.List.{List, _++_, map}
+use mathlib.Core.List.{List, [], _∷_, _++_, map}
 use Prim.Native.Nat.{ℕ, suc, _+_, _-_, _≤_, _<_}
-use lib.ListN.{length, take, drop, getD}
+use lib.ListN.{length, take, drop, getD, set}
 use lib.Dec.{eqb}
 use Rattle.basis.specs.Lists.{bit, filterb, memb, upFrom}
 use Rattle.basis.specs.Perm.{times, Once}
@@ -133,3 +133,27 @@ filledIn g ls i o = within (length (levelNodes g ls i)) g (levelNodes g ls i) o
 -- a later level i numbered after the order o
 abbrev pub laterIn : Graph → List ℕ → List ℕ → ℕ → List ℕ
 laterIn g ls o i = laterLevel g (levelNodes g ls (i - 1)) (levelNodes g ls i) o
+
+-- ---- levels in a list of their own
+
+-- the words W with f z written for each node z of P, by old number from `at` on
+unfoldable pub written : (ℕ → ℕ) → ℕ → List ℕ → List ℕ → List ℕ
+written f at W [] = W
+written f at W (z ∷ P) = written f at (set W (at + (z - 1)) (f z)) P
+
+-- the n words from `at` on lie behind the order and before the part's m nodes, which stand from `from` on
+pub record Between (n at from m : ℕ) (W : List ℕ) : Type 0 where
+  pub behind : n + n ≤ at
+  pub before : at + n ≤ from
+  pub held : from + m ≤ length W
+  pub nodes : Nodes n (membersIn from m W)
+
+-- The part's levels stand in L, and its m nodes, in rising order, from `from` on. No edge leaves the part, and all its levels are at least 1.
+-- The words from `at` on are 0 for its nodes.
+pub record Beside (g : Graph) (n at from m : ℕ) (L W : List ℕ) : Type 0 where
+  pub between : Between n at from m W
+  pub long : n ≤ length L
+  pub rising : membersIn from m W ≡ filterb (λ q. memb q (membersIn from m W)) (nodes g)
+  pub closed : Closed g (membersIn from m W)
+  pub low : (q : ℕ) → memb q (membersIn from m W) ≡ true → 1 ≤ ofNode L q
+  pub zeros : (q : ℕ) → memb q (membersIn from m W) ≡ true → getD W (at + (q - 1)) 0 ≡ 0

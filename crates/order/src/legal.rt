@@ -1,5 +1,6 @@
 // The order of one part of a legal graph, level by level (document 01, "Numbering"), in lent words: n marks by old number, then the order
-// as it grows. The levels of the part's nodes stand by old number from `at` on, its m nodes in rising order from `from` on.
+// as it grows. The levels of the part's nodes stand by old number from `at` on, its m nodes in rising order from `from` on: words behind
+// the order are only read.
 ghost use mathlib.Core.Path.{_≡_};
 ghost use mathlib.Core.Bool.{true, false, cond};
 ghost use mathlib.Core.List.{List, [], _∷_, _++_, foldl};
@@ -7,11 +8,11 @@ ghost use Prim.Native.Nat.{ℕ, _+_, _-_, _≤_, _<_};
 ghost use lib.ListN.{length, take, drop, replicate};
 ghost use lib.Dec.{ltb};
 ghost use Rattle.basis.specs.Lists.{filterb, chainb, memb, upFrom, overwrite};
-ghost use Rattle.spec.specs.Graph.{sizeOf, graphOf, graphRefusal, sortE, firstInE};
+ghost use Rattle.spec.specs.Graph.{sizeOf, graphOf, graphRefusal, sortE, firstInE, ofNode};
 ghost use Rattle.spec.specs.Numbering.{forwardOrder};
 ghost use Rattle.laws.specs.Legal.{Starts};
 ghost use Rattle.sorting.specs.Nodes.{Nodes};
-ghost use Rattle.order.specs.Model.{stand, orderIn, Open, Became, Far, free, isFree, firstOf, foundBy, addBy, Spreads, membersIn, levelsIn, Behind, Begun, Levelled, Starting, filledIn, laterIn};
+ghost use Rattle.order.specs.Model.{stand, orderIn, Open, Became, Far, free, isFree, firstOf, foundBy, addBy, Spreads, membersIn, levelsIn, Behind, Begun, Levelled, Starting, filledIn, laterIn, ownLevels, written, Between, Beside};
 use words::wide;
 
 // Whether the node q has no number yet and stands in level i.
@@ -341,4 +342,57 @@ pub fn forward(
     let b = fill(starts, neighbours, work, n, at, from, m, 0, 1, 1);
     let t = later_levels(starts, neighbours, work, n, at, from, m, b, k);
     wipe(work, n, t);
+}
+
+// Brings the levels of the part's nodes into the words from `at` on.
+fn bring(levels: &[u16], work: &mut [u16], n: usize, at: usize, from: usize, m: usize)
+    requires { ⌜ Between n at from m (now work) ⌝ }
+    requires { ⌜ n ≤ length (now levels) ⌝ }
+    ensures { λ _. ⌜ now (work .exit) ≡ written (ofNode (now (levels .entry))) at (now (work .entry)) (membersIn from m (now (work .entry))) ⌝ }
+{
+    let mut j = 0;
+    while j < m {
+        let p = wide(work[from + j]) - 1;
+        let level = levels[p];
+        work[at + p] = level;
+        j += 1;
+    }
+}
+
+// Sets those words to 0 again.
+fn unbring(work: &mut [u16], n: usize, at: usize, from: usize, m: usize)
+    requires { ⌜ Between n at from m (now work) ⌝ }
+    ensures { λ _. ⌜ now (work .exit) ≡ written (λ _. 0) at (now (work .entry)) (membersIn from m (now (work .entry))) ⌝ }
+{
+    let mut j = 0;
+    while j < m {
+        let p = wide(work[from + j]) - 1;
+        work[at + p] = 0;
+        j += 1;
+    }
+}
+
+// The same, with the part's levels by old number in a list of their own. The n words from `at` on, which lie before the part's nodes, hold
+// them meanwhile; the words of the part's nodes there are 0 before and after.
+pub fn forward_by(
+    starts: &[u16],
+    neighbours: &[u16],
+    levels: &[u16],
+    work: &mut [u16],
+    at: usize,
+    from: usize,
+    m: usize,
+    k: u16,
+    v: u16,
+)
+    requires { ⌜ graphRefusal (now starts) (now neighbours) ≡ 0 ⌝ }
+    requires { ⌜ take (sizeOf (now starts)) (now work) ≡ replicate (sizeOf (now starts)) 0 ⌝ }
+    requires { ⌜ Beside (graphOf (now starts) (now neighbours)) (sizeOf (now starts)) at from m (now levels) (now work) ⌝ }
+    requires { ⌜ Starting (ownLevels (graphOf (now starts) (now neighbours)) (membersIn from m (now work)) (now levels)) (membersIn from m (now work)) k v ⌝ }
+    ensures { λ _. ⌜ now (work .exit) ≡ replicate (sizeOf (now (starts .entry))) 0 ++ overwrite (forwardOrder (graphOf (now (starts .entry)) (now (neighbours .entry))) (ownLevels (graphOf (now (starts .entry)) (now (neighbours .entry))) (membersIn from m (now (work .entry))) (now (levels .entry))) k v) (drop (sizeOf (now (starts .entry))) (now (work .entry))) ⌝ }
+{
+    let n = starts.len() - 1;
+    bring(levels, work, n, at, from, m);
+    forward(starts, neighbours, work, at, from, m, k, v);
+    unbring(work, n, at, from, m);
 }

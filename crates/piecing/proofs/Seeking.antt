@@ -12,20 +12,12 @@ use lib.Dec.{eqb}
 use Rattle.basis.specs.Lists.{bit, filterb, consIf, countb, memb, upFrom}
 use Rattle.basis.specs.Perm.{times}
 use Rattle.basis.proofs.Count.{bit-one, count-append, length-filter, count-every, count-cong, count-parted, count-sub, filter-once, none-times}
-use Rattle.basis.proofs.Lists.{memb-append, memb-filter, filter-in, upFrom-in}
+use Rattle.basis.proofs.Lists.{memb-append, memb-filter, filter-in, upFrom-in, filter-append}
 use Rattle.basis.proofs.Logic.{by-test, and-make, or-left, eqb-self}
 use Rattle.basis.proofs.Index.{memb-getD}
 use Rattle.combining.specs.Model.{written}
 use Rattle.piecing.specs.Seek.{at, looseAt, freshAt, one, Seek, Nodes, Pushed}
 use Rattle.piecing.proofs.Stores.{sets-append, sets-before, sets-behind, length-written, written-append, written-at}
-
-pub filter-append : (f : ℕ → Bool) (xs ys : List ℕ) → filterb f (xs ++ ys) ≡ filterb f xs ++ filterb f ys
-filter-append f [] ys = refl
-filter-append f (x ∷ xs) ys = ap (consIf (f x) x) (filter-append f xs ys) ∙ go (f x)
-  where
-    go : (b : Bool) → consIf b x (filterb f xs ++ filterb f ys) ≡ consIf b x (filterb f xs) ++ filterb f ys
-    go true = refl
-    go false = refl
 
 -- ---- what visiting does
 

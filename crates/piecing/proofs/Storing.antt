@@ -13,12 +13,11 @@ use borrow.Author.Tests.{eqb-true, eqb-false}
 use Rattle.basis.specs.Lists.{filterb, consIf, memb, upFrom}
 use Rattle.basis.specs.Perm.{times}
 use Rattle.basis.proofs.Count.{bit-one, length-filter, count-length, count-append, none-times}
-use Rattle.basis.proofs.Lists.{memb-here, map-memb, memb-map, upFrom-in, upFrom-make, length-upFrom}
+use Rattle.basis.proofs.Lists.{memb-here, map-memb, memb-map, upFrom-in, upFrom-make, length-upFrom, filter-append}
 use Rattle.basis.proofs.Logic.{by-test, or-right, eqb-self}
 use Rattle.combining.proofs.Counting.{from-cons, from-none}
 use Rattle.piecing.specs.Starts.{membersOf}
 use Rattle.piecing.specs.Members.{Members, settledAt, stored}
-use Rattle.piecing.proofs.Seeking.{filter-append}
 use Rattle.piecing.proofs.Stores.{sets-append, sets-before, sets-behind}
 use Rattle.piecing.proofs.Taking.{map-split}
 

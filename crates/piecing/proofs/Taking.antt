@@ -17,7 +17,7 @@ use Rattle.basis.specs.Sorted.{Sorted}
 use Rattle.basis.proofs.Count.{count-cong, count-length, length-filter}
 use Rattle.basis.proofs.Rise.{rise-filter, upFrom-rises}
 use Rattle.basis.proofs.Index.{getD-map, getD-map-upFrom}
-use Rattle.basis.proofs.Lists.{memb-here, memb-append, any-find, any-make, filter-in, filter-make, map-append, map-cong, map-map, map-memb, memb-map, upFrom-in, upFrom-make, upFrom-append, length-upFrom, all-make}
+use Rattle.basis.proofs.Lists.{memb-here, memb-append, any-find, any-make, filter-in, filter-make, map-append, map-cong, map-map, map-memb, memb-map, upFrom-in, upFrom-make, upFrom-append, length-upFrom, all-make, filter-append}
 use Rattle.basis.proofs.Logic.{by-test, clash, fails, same, and-split, or-split, or-left, or-right, or-none, lt-or-le, eqb-self}
 use Rattle.basis.proofs.Perm.{perm-memb, perm-length}
 use Rattle.basis.proofs.Sort.{sort-sorted, sort-middle, memb-sort}
@@ -33,7 +33,6 @@ use Rattle.piecing.specs.Starts.{startAt, startsOf, sizeAt, membersOf, S
 use Rattle.piecing.proofs.Finding.{restrict-cong, len, ord, leadb, covered, ord-total, one-leader, self-in, len-some, piece-loose, lead-iff}
 use Rattle.piecing.proofs.Gaps.{sets-back}
 use Rattle.piecing.proofs.Orders.{insert-at, sorted-at, rising-same, rise-before}
-use Rattle.piecing.proofs.Seeking.{filter-append}
 use Rattle.piecing.proofs.Stores.{sets-before, sets-behind, sets-at}
 
 -- ---- runs of indices

@@ -9,14 +9,14 @@ use lib.ListN.{length, set, drop, length-map}
 use lib.Seq.{sets, sets-eq, length-sets}
 use lib.Dec.{eqb}
 use Rattle.basis.specs.Lists.{filterb, joinAll, overwrite, upFrom, sum}
-use Rattle.basis.proofs.Lists.{filter-cong, upFrom-in, upFrom-append, length-upFrom, map-append, sum-append, sum-shift}
+use Rattle.basis.proofs.Lists.{filter-cong, upFrom-in, upFrom-append, length-upFrom, map-append, sum-append, sum-shift, join-append}
 use Rattle.spec.specs.Graph.{Graph, nodes, degree, graphBy}
 use Rattle.spec.specs.Mesh.{elements, joins, meshGraph, entryCount, startList, neighbourList}
 use Rattle.spec.specs.CallsMesh.{graphOfElements}
 use Rattle.laws.proofs.ByTest.{graphBy-row}
 use Rattle.blocks.specs.Block.{share, Block}
 use Rattle.rows.specs.Rows.{inRow, rowAt, entriesIn, entriesTo, Laid, Room, RowsFit}
-use Rattle.rows.proofs.Next.{sets-append, map-shift, join-append, join-length, sum-upto}
+use Rattle.rows.proofs.Next.{sets-append, map-shift, join-length, sum-upto}
 
 -- a row of the mesh's graph
 mesh-row : (n : ℕ) (ws : List ℕ) (p : ℕ) → 1 ≤ p → p ≤ n → graphOfElements n ws .row p ≡ filterb (joins (elements ws) p) (upFrom 1 n)

@@ -1,7 +1,7 @@
 -- One more number of a range, and one more store: counts, filters, sums and stores step by step. Assumes nothing.
 use mathlib.Core.Path.{_≡_, refl, sym, ap, ap₂, _∙_}
-use mathlib.Core.Bool.{Bool, true, false}
-use mathlib.Core.List.{List, [], _∷_, _++_, map, append-assoc}
+use mathlib.Core.Bool.{Bool}
+use mathlib.Core.List.{List, [], _∷_, _++_, map}
 use Prim.Native.Nat.{ℕ, zero, suc, _+_, _≤_, _<_}
 use native.Mathlib.Nat.{add-zero, le-dest}
 use native.Mathlib.Omega.{arith}
@@ -9,7 +9,7 @@ use lib.ListN.{length, set, length-append}
 use lib.Seq.{sets}
 use Rattle.basis.specs.Lists.{bit, consIf, filterb, countb, joinAll, upFrom, sum}
 use Rattle.basis.proofs.Count.{count-append}
-use Rattle.basis.proofs.Lists.{upFrom-append, map-append, join-last, sum-append}
+use Rattle.basis.proofs.Lists.{upFrom-append, map-append, join-last, sum-append, filter-append}
 
 module _ {A : Type 0} where
   -- stores one after another
@@ -18,14 +18,6 @@ module _ {A : Type 0} where
   sets-append l i (x ∷ xs) ys =
       let e : suc i + length xs ≡ i + suc (length xs) = omega arith in
       sets-append (set l i x) (suc i) xs ys ∙ ap (λ (j : ℕ). sets (sets (set l i x) (suc i) xs) j ys) e
-
-  pub filter-append : (t : A → Bool) (xs ys : List A) → filterb t (xs ++ ys) ≡ filterb t xs ++ filterb t ys
-  filter-append t [] ys = refl
-  filter-append t (x ∷ xs) ys = ap (consIf (t x) x) (filter-append t xs ys) ∙ cons (t x)
-    where
-      cons : (b : Bool) → consIf b x (filterb t xs ++ filterb t ys) ≡ consIf b x (filterb t xs) ++ filterb t ys
-      cons true = refl
-      cons false = refl
 
 -- the range with one number more
 pub upFrom-next : (a k : ℕ) → upFrom a (k + 1) ≡ upFrom a k ++ ((a + k) ∷ [])
@@ -70,11 +62,6 @@ sum-upto f a j k h =
       ap sum (map-append f (upFrom a j) (upFrom (a + j) (w .0))),
       sum-append (map f (upFrom a j)) (map f (upFrom (a + j) (w .0))),
     )
-
--- joined lists, one list of lists after another, and their length
-pub join-append : (xs ys : List (List ℕ)) → joinAll (xs ++ ys) ≡ joinAll xs ++ joinAll ys
-join-append [] ys = refl
-join-append (x ∷ xs) ys = ap (λ (l : List ℕ). x ++ l) (join-append xs ys) ∙ sym (append-assoc x (joinAll xs) (joinAll ys))
 
 pub join-length : (f : ℕ → List ℕ) (xs : List ℕ) → length (joinAll (map f xs)) ≡ sum (map (λ x. length (f x)) xs)
 join-length f [] = refl

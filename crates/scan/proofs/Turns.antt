@@ -1,14 +1,14 @@
 -- The loop of `scan` over lists: where it begins, a turn, and the figures at its end. Assumes nothing.
 use mathlib.Core.Path.{_≡_, refl, sym, ap, _∙_}
-use mathlib.Core.List.{List, _++_, append-nil}
+use mathlib.Core.List.{List}
 use Prim.Native.Nat.{ℕ, _+_, _-_, _≤_, _<_, max}
 use native.Mathlib.Omega.{arith}
-use lib.ListN.{length, set, replicate, drop-of-length-le}
+use lib.ListN.{length, set, replicate}
 use lib.Dec.{eqb}
 use Rattle.basis.specs.Lists.{filterb, upFrom}
 use Rattle.spec.specs.Graph.{graphOf, sizeOf, graphRefusal, ofNode}
 use Rattle.spec.specs.Lent.{zeroed}
-use Rattle.laws.proofs.Lent.{zeroed-is}
+use Rattle.laws.proofs.Lent.{zeroed-all}
 use Rattle.search.specs.Marks.{rows}
 use Rattle.search.specs.Queue.{Readable}
 use Rattle.search.proofs.Level.{Level, first, next, size, most, depth-is, width-is, reached-is}
@@ -18,17 +18,11 @@ use Rattle.scan.specs.Visit.{Visited}
 use Rattle.scan.specs.declared.shape.Figures.{Figures}
 use Rattle.scan.proofs.Visits.{level-memb}
 
--- a list that was cleared whole
-cleared : (n : ℕ) (L : List ℕ) → length L ≡ n → zeroed n L ≡ replicate n 0
-cleared n L e =
-    let h : length L ≤ n = omega arith in
-    zeroed-is n L ∙ ap (λ (l : List ℕ). replicate n 0 ++ l) (drop-of-length-le L h) ∙ append-nil (replicate n 0)
-
 pub begin : {S N : List ℕ} {root at : ℕ} {L : List ℕ} (L₀ : List ℕ) → graphRefusal S N ≡ 0 → 1 ≤ root → root ≤ sizeOf S → length L₀ ≡ sizeOf S
     → L ≡ zeroed (length L₀) L₀ → at ≡ root → Level S N root (set L (at - 1) 1) 0 1 0 0
 begin {S} {N} {root} {at} {L} L₀ z lo hi l c a =
     let f : set L (at - 1) 1 ≡ set (replicate (sizeOf S) 0) (root - 1) 1 =
-    (λ i. set (c i) (a i - 1) 1) ∙ ap (λ (m : List ℕ). set m (root - 1) 1) (cleared (length L₀) L₀ refl ∙ ap (λ (m : ℕ). replicate m 0) l) in
+    (λ i. set (c i) (a i - 1) 1) ∙ ap (λ (m : List ℕ). set m (root - 1) 1) (zeroed-all (length L₀) L₀ refl ∙ ap (λ (m : ℕ). replicate m 0) l) in
     rw f (first S N z (record { low = lo; high = hi }))
 
 module _ {S N : List ℕ} {root : ℕ} {L : List ℕ} {before count d w : ℕ} (I : Level S N root L before count d w) where

@@ -9,22 +9,19 @@ use lib.Dec.{eqb}
 use borrow.Author.Tests.{eq-eqb, ne-eqb, eqb-true}
 use Rattle.basis.specs.Lists.{consIf, filterb, memb, upFrom}
 use Rattle.basis.proofs.Count.{count-length}
-use Rattle.basis.proofs.Lists.{upFrom-make, upFrom-append, memb-filter}
-use Rattle.basis.proofs.Logic.{by-test, same, and-split, and-make}
+use Rattle.basis.proofs.Lists.{upFrom-make, upFrom-append, memb-filter, filter-append}
+use Rattle.basis.proofs.Logic.{same, and-split, and-make}
 use Rattle.spec.specs.Graph.{rowOf, ofNode}
 use Rattle.search.specs.Marks.{within, marked, found, rows}
 use Rattle.search.specs.Queue.{Readable}
 use Rattle.search.proofs.Level.{old-level}
 use Rattle.search.proofs.Marks.{found-free, found-taken, marked-free, marked-taken, length-marked, marked-append, found-append, times-none, level-after}
 use Rattle.search.proofs.Round.{within-rows}
-use Rattle.search.proofs.Tallies.{ofNode-at, ofNode-some}
+use Rattle.search.proofs.Tallies.{ofNode-some}
 use Rattle.scan.specs.Visit.{Visited}
+use Rattle.laws.proofs.Legal.{ofNode-at}
 
 -- ---- filters and rows in two parts
-
-filter-append : (t : ℕ → Bool) (xs ys : List ℕ) → filterb t (xs ++ ys) ≡ filterb t xs ++ filterb t ys
-filter-append t [] ys = refl
-filter-append t (x ∷ xs) ys = by-test (t x) (λ e. rw e (ap (λ (l : List ℕ). x ∷ l) (filter-append t xs ys))) (λ e. rw e (filter-append t xs ys))
 
 rows-append : (S N xs ys : List ℕ) → rows S N (xs ++ ys) ≡ rows S N xs ++ rows S N ys
 unfolding rows

@@ -23,7 +23,8 @@ use Rattle.laws.proofs.Refused.{passed, legal-graph}
 use Rattle.search.specs.Marks.{within, marked, found, rows}
 use Rattle.search.proofs.Marks.{times-none, times-gain, times-keep, greatest-marked, times-mark}
 use Rattle.search.proofs.Round.{readable, within-rows, placed, length-placed, first-placed, round, placed-last}
-use Rattle.search.proofs.Tallies.{ofNode-at, ofNode-set, times-set, times-zeros, times-rest, greatest-set, greatest-at, greatest-zeros, greatest-times, times-above, greatest-less, width-more, width-same, width-most}
+use Rattle.search.proofs.Tallies.{ofNode-set, times-set, times-zeros, times-rest, greatest-set, greatest-at, greatest-zeros, greatest-times, times-above, greatest-less, width-more, width-same, width-most}
+use Rattle.laws.proofs.Legal.{ofNode-at}
 
 -- The nodes up to level depth + 1 are placed in L, `before` of them up to level depth and `count` at the last; width is that of the first depth levels.
 pub record Level (S N : List ℕ) (root : ℕ) (L : List ℕ) (before count depth width : ℕ) : Type 0 where

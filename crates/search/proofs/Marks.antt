@@ -13,7 +13,8 @@ use Rattle.basis.specs.Perm.{times}
 use Rattle.basis.proofs.Logic.{by-test}
 use Rattle.spec.specs.Graph.{ofNode}
 use Rattle.search.specs.Marks.{within, free, setIf, mark, marked, found}
-use Rattle.search.proofs.Tallies.{ofNode-at, ofNode-set, times-set, greatest-set}
+use Rattle.search.proofs.Tallies.{ofNode-set, times-set, greatest-set}
+use Rattle.laws.proofs.Legal.{ofNode-at}
 
 module _ (j : ℕ) (pos : 0 < j) where
   mark-free : (L : List ℕ) (v : ℕ) → ofNode L v ≡ 0 → mark j L v ≡ set L (v - 1) j

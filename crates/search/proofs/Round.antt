@@ -16,7 +16,7 @@ use Rattle.spec.specs.Graph.{Graph, graphOf, sizeOf, rowOf, nodes, adjoins, gra
 use Rattle.spec.specs.Levels.{levels, levelOf, levelList, depth}
 use Rattle.laws.specs.Legal.{Node, LegalGraph}
 use Rattle.laws.specs.Rooted.{upTo, beside}
-use Rattle.laws.proofs.Legal.{length-nodes, by-node, ofNode-map}
+use Rattle.laws.proofs.Legal.{length-nodes, by-node, ofNode-map, ofNode-at}
 use Rattle.laws.proofs.Levels.{rooted, placed-node, levelList-at}
 use Rattle.laws.proofs.Figures.{length-levelList}
 use Rattle.laws.proofs.Refused.{passed, starts-of, legal-graph}
@@ -25,7 +25,7 @@ use Rattle.search.specs.Marks.{within, marked, rows}
 use Rattle.search.specs.Queue.{Readable}
 use Rattle.search.proofs.Marks.{length-marked, level-after}
 use Rattle.search.proofs.Moves.{within-append, within-make}
-use Rattle.search.proofs.Tallies.{ofNode-at, ofNode-some, ofNode-set, times-bit, greatest-at}
+use Rattle.search.proofs.Tallies.{ofNode-some, ofNode-set, times-bit, greatest-at}
 
 -- ---- what the code asks of the two lists
 

@@ -22,11 +22,6 @@ use Rattle.spec.specs.Graph.{ofNode}
 
 -- ---- levels by node
 
-pub ofNode-at : (L : List ℕ) (v : ℕ) → 1 ≤ v → ofNode L v ≡ getD L (v - 1) 0
-unfolding ofNode
-ofNode-at L zero h = absurd (omega arith)
-ofNode-at L (suc k) h = let e : k ≡ suc k - 1 = omega arith in ap (λ (i : ℕ). getD L i 0) e
-
 -- what has a level is a node
 pub ofNode-some : (L : List ℕ) (q : ℕ) → 1 ≤ ofNode L q → (1 ≤ q) × (q ≤ length L)
 unfolding ofNode

@@ -16,8 +16,8 @@ use Rattle.spec.specs.Graph.{Graph, nodes, adjoins, graphBy, sizeOf, rowOf, gra
 use Rattle.spec.specs.Measures.{inOrder, firstIn, rowSpan, profile}
 use Rattle.laws.specs.Legal.{Node}
 use Rattle.laws.proofs.PartProfile.{order-first}
-use Rattle.envelope.proofs.Folds.{ofNode-at}
 use Rattle.turning.specs.Places.{Listed, Part, Placed}
+use Rattle.laws.proofs.Legal.{ofNode-at}
 
 -- the sum of the spans of the places 1 .. a
 abbrev pub spansTo : Graph → ℕ → ℕ

@@ -5,9 +5,10 @@ use denote.Ref.{now}
 use borrow.Author.Needs.{needs}
 use lib.ListN.{length}
 use Rattle.spec.specs.Mesh.{elements, elementsRefusal}
-use Rattle.blocks.proofs.Passes.{zeroed-all, block-of}
+use Rattle.blocks.proofs.Passes.{block-of}
 use Rattle.blocks.proofs.legal.mark_block.Statement.{statement}
 use Rattle.blocks.proofs.legal.mark_block.Tie as tie
+use Rattle.laws.proofs.Lent.{zeroed-all}
 
 mark-elements-requires : tie.Need-mark-elements-requires
 mark-elements-requires c κs =

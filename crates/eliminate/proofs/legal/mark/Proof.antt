@@ -4,10 +4,10 @@ use Prim.Native.Nat.{ℕ}
 use native.Mathlib.Omega.{arith}
 use borrow.Author.Needs.{needs}
 use lib.ListN.{replicate}
-use Rattle.envelope.proofs.Lent.{zeroed-all}
 use Rattle.eliminate.proofs.Rows.{rows-none, rows-words, rows-bytes}
 use Rattle.eliminate.proofs.legal.mark.Statement.{statement}
 use Rattle.eliminate.proofs.legal.mark.Tie as tie
+use Rattle.laws.proofs.Lent.{zeroed-all}
 
 pass-requires : tie.Need-pass-requires
 pass-requires c κs =

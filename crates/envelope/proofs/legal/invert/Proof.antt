@@ -5,9 +5,9 @@ use native.Mathlib.Omega.{arith}
 use borrow.Author.Needs.{needs}
 use denote.Ref.{now}
 use lib.ListN.{length, length-replicate}
-use Rattle.envelope.proofs.Lent.{zeroed-all}
 use Rattle.envelope.proofs.legal.invert.Statement.{statement}
 use Rattle.envelope.proofs.legal.invert.Tie as tie
+use Rattle.laws.proofs.Lent.{zeroed-all}
 
 returns : tie.Need-returns
 returns c =

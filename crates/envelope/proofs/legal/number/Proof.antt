@@ -3,9 +3,9 @@ use mathlib.Core.Path.{sym, _∙_}
 use native.Mathlib.Omega.{arith}
 use borrow.Author.Needs.{needs}
 use denote.Ref.{now}
-use Rattle.envelope.proofs.Folds.{ofNode-at}
 use Rattle.envelope.proofs.legal.number.Statement.{statement}
 use Rattle.envelope.proofs.legal.number.Tie as tie
+use Rattle.laws.proofs.Legal.{ofNode-at}
 
 returns : tie.Need-returns
 returns c =

@@ -9,11 +9,11 @@ use lib.ListN.{length, replicate}
 use Rattle.spec.specs.Graph.{sizeOf}
 use Rattle.spec.specs.Lent.{zeroed}
 use Rattle.laws.proofs.Numberings.{numbering-length}
-use Rattle.envelope.proofs.Lent.{zeroed-all}
 use Rattle.measures.specs.Fronts.{Sweeps}
 use Rattle.measures.proofs.Swept.{sweep-most, opened-long, opened-sweeps, front-swept}
 use Rattle.measures.proofs.fronts.front.Statement.{statement}
 use Rattle.measures.proofs.fronts.front.Tie as tie
+use Rattle.laws.proofs.Lent.{zeroed-all}
 
 -- as many numbers as nodes
 long : (s : tie.Start) → length (now (s .args .numbering)) ≡ sizeOf (now (s .args .starts))

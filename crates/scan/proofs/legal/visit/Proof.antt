@@ -11,11 +11,11 @@ use lib.Seq.{drop-cons}
 use borrow.Author.Needs.{needs}
 use Rattle.search.specs.Marks.{within}
 use Rattle.search.proofs.Moves.{within-at}
-use Rattle.search.proofs.Tallies.{ofNode-at}
 use Rattle.scan.specs.Visit.{Visited}
 use Rattle.scan.proofs.Visits.{visited-none, visited-free, visited-taken, visited-append, visited-size}
 use Rattle.scan.proofs.legal.visit.Statement.{statement}
 use Rattle.scan.proofs.legal.visit.Tie as tie
+use Rattle.laws.proofs.Legal.{ofNode-at}
 
 -- at the loop's head: `row` from k on is still to be visited, and `count` nodes got the level so far
 record Visiting (row : List ℕ) (j : ℕ) (L₀ L : List ℕ) (count k : ℕ) : Type 0 where

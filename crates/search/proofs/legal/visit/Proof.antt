@@ -14,9 +14,9 @@ use Rattle.search.specs.Queue.{Ready, Pushed, Lent}
 use Rattle.search.proofs.Marks.{times-mark}
 use Rattle.search.proofs.Moves.{within-at, pushed-none, pushed-free, pushed-taken, pushed-append, pushed-size, pushed-queue, pushed-ready}
 use Rattle.search.proofs.Stores.{write-front, write-behind, front-length, behind-length}
-use Rattle.search.proofs.Tallies.{ofNode-at}
 use Rattle.search.proofs.legal.visit.Statement.{statement}
 use Rattle.search.proofs.legal.visit.Tie as tie
+use Rattle.laws.proofs.Legal.{ofNode-at}
 
 -- at the loop's head: `row` from k on is still to be visited
 record Visiting (row L₀ Q₀ : List ℕ) (tail j : ℕ) (L Q : List ℕ) (t k : ℕ) : Type 0 where

@@ -16,9 +16,10 @@ use Rattle.basis.proofs.Logic.{by-test, eqb-self}
 use Rattle.spec.specs.Graph.{ofNode}
 use Rattle.search.specs.Queue.{Queued}
 use Rattle.search.proofs.Stores.{write-front, write-behind, front-length, behind-length}
-use Rattle.search.proofs.Tallies.{ofNode-at, ofNode-some, ofNode-set, levels-ext}
+use Rattle.search.proofs.Tallies.{ofNode-some, ofNode-set, levels-ext}
 use Rattle.search.proofs.legal.wipe.Statement.{statement}
 use Rattle.search.proofs.legal.wipe.Tie as tie
+use Rattle.laws.proofs.Legal.{ofNode-at}
 
 -- at the loop's head: the queue from i up to count holds the nodes that have a level, and the others are 0
 record Wiping (n count : ℕ) (L Q : List ℕ) (i : ℕ) : Type 0 where
