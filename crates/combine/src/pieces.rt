@@ -75,7 +75,7 @@ fn grow(
 }
 
 // The number of nodes of the piece that starts at s in the queue.
-pub fn size_at(scratch: &[u16], levels: &[u16], n: usize, s: usize) -> usize
+pub(crate) fn size_at(scratch: &[u16], levels: &[u16], n: usize, s: usize) -> usize
     requires { ⌜ Standing n (now scratch) (now levels) s ⌝ }
     ensures { λ r. ⌜ r ≡ sizeAt n (now (scratch .entry)) (now (levels .entry)) s ⌝ }
 {
@@ -126,7 +126,7 @@ fn take_in(
 }
 
 // Finds the pieces of the part whose members stand from..to: "taken by size falling, then by lowest old number". Returns how many.
-pub fn find(
+pub(crate) fn find(
     starts: &[u16],
     neighbours: &[u16],
     scratch: &mut [u16],

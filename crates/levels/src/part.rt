@@ -15,7 +15,7 @@ use words::legal::clear;
 pub const WORDS_PER_NODE: usize = 8;
 
 // The ends of the part of `node`, in scratch that is set to 0 before and after.
-pub fn find_ends(starts: &[u16], neighbours: &[u16], node: u16, scratch: &mut [u16]) -> Found
+pub(crate) fn find_ends(starts: &[u16], neighbours: &[u16], node: u16, scratch: &mut [u16]) -> Found
     requires { ⌜ graphRefusal (now starts) (now neighbours) ≡ 0 ⌝ }
     requires { ⌜ (1 ≤ node) × (node ≤ sizeOf (now starts)) ⌝ }
     requires { ⌜ wordsPerNode * sizeOf (now starts) ≤ length (now scratch) ⌝ }

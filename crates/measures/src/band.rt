@@ -47,7 +47,7 @@ fn width(starts: &[u16], neighbours: &[u16], numbering: &[u16], p: usize) -> usi
 }
 
 // "Bandwidth is the greatest difference over an edge, 0 with no edge"
-pub fn bandwidth(starts: &[u16], neighbours: &[u16], numbering: &[u16]) -> u32
+pub(crate) fn bandwidth(starts: &[u16], neighbours: &[u16], numbering: &[u16]) -> u32
     requires { ⌜ LegalLists (now starts) (now neighbours) ⌝ }
     requires { ⌜ isNumbering (sizeOf (now starts)) (now numbering) ≡ true ⌝ }
     ensures { λ r. ⌜ r ≡ bandwidth (renumbered (graphOf (now (starts .entry)) (now (neighbours .entry))) (now (numbering .entry))) ⌝ }

@@ -51,7 +51,12 @@ fn sweep(counts: &mut [u16]) -> usize
 }
 
 // "the reported front is the greatest of these". The n words lent end as 0.
-pub fn front(starts: &[u16], neighbours: &[u16], numbering: &[u16], counts: &mut [u16]) -> u32
+pub(crate) fn front(
+    starts: &[u16],
+    neighbours: &[u16],
+    numbering: &[u16],
+    counts: &mut [u16],
+) -> u32
     requires { ⌜ LegalLists (now starts) (now neighbours) ⌝ }
     requires { ⌜ isNumbering (sizeOf (now starts)) (now numbering) ≡ true ⌝ }
     requires { ⌜ length (now counts) ≡ sizeOf (now starts) ⌝ }

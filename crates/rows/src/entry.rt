@@ -7,7 +7,7 @@ ghost use Rattle.basis.specs.Lists.{bit};
 ghost use Rattle.blocks.specs.Block.{bitAt};
 
 // 1 where row p, at bit k of node q's word, holds q, else 0: p doesn't adjoin itself, whatever the elements hold.
-pub fn entry(word: u16, k: usize, p: usize, q: usize) -> usize
+pub(crate) fn entry(word: u16, k: usize, p: usize, q: usize) -> usize
     requires { ⌜ k < 16 ⌝ }
     ensures { λ r. ⌜ r ≡ bit (not (eqb p q) && bitAt k word) ⌝ }
 {

@@ -1,0 +1,46 @@
+// The first nine bytes of a file: the letters, version, n and element count.
+ghost use mathlib.Core.Path.{_≡_};
+ghost use Prim.Native.Nat.{_+_, _<_, _≤_};
+ghost use lib.ListN.{length, getD};
+ghost use Rattle.spec.specs.File.{word, hasMark, badHeader};
+
+// The word of two bytes, "low byte first".
+pub fn word_at(file: &[u8], at: usize) -> u16
+    requires { ⌜ at + 1 < length (now file) ⌝ }
+    ensures { λ r. ⌜ r ≡ word (getD (now (file .entry)) at 0) (getD (now (file .entry)) (at + 1) 0) ⌝ }
+{
+    let low = file[at] as u16;
+    let high = file[at + 1] as u16;
+    low + 256 * high
+}
+
+// Whether the file begins with the letters G, R and D.
+fn has_mark(file: &[u8]) -> bool
+    requires { ⌜ 3 ≤ length (now file) ⌝ }
+    ensures { λ r. ⌜ r ≡ hasMark (now (file .entry)) ⌝ }
+{
+    if file[0] != 71 {
+        return false;
+    }
+    if file[1] != 82 {
+        return false;
+    }
+    file[2] == 68
+}
+
+// "wrong mark or version, file too long, under 9 bytes"
+pub fn bad_header(file: &[u8]) -> bool
+    ensures { λ r. ⌜ r ≡ badHeader (now (file .entry)) ⌝ }
+{
+    let size = file.len();
+    if 65535 < size {
+        return true;
+    }
+    if size < 9 {
+        return true;
+    }
+    if !has_mark(file) {
+        return true;
+    }
+    word_at(file, 3) != 1
+}

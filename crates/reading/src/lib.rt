@@ -1,0 +1,26 @@
+// A file's bytes, read to the two lists of its mesh: header, words, elements, then the adjacency.
+ghost use mathlib.Core.Path.{_≡_};
+ghost use Rattle.spec.specs.File.{headerRefusal};
+
+mod answer;
+mod header;
+pub mod legal;
+
+pub use answer::Tested;
+
+// What a file is refused by before its elements are looked at, 12 or 1, or 0: "length, mark and version for 12 first, then 1".
+pub fn header_refusal(file: &[u8]) -> u16
+    ensures { λ r. ⌜ r ≡ headerRefusal (now (file .entry)) ⌝ }
+{
+    if header::bad_header(file) {
+        return 12;
+    }
+    let n = header::word_at(file, 5);
+    if n == 0 {
+        return 1;
+    }
+    if 4096 < n {
+        return 1;
+    }
+    0
+}
