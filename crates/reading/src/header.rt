@@ -5,7 +5,7 @@ ghost use lib.ListN.{length, getD};
 ghost use Rattle.spec.specs.File.{word, hasMark, badHeader};
 
 // The word of two bytes, "low byte first".
-pub fn word_at(file: &[u8], at: usize) -> u16
+pub(crate) fn word_at(file: &[u8], at: usize) -> u16
     requires { ⌜ at + 1 < length (now file) ⌝ }
     ensures { λ r. ⌜ r ≡ word (getD (now (file .entry)) at 0) (getD (now (file .entry)) (at + 1) 0) ⌝ }
 {
@@ -29,7 +29,7 @@ fn has_mark(file: &[u8]) -> bool
 }
 
 // "wrong mark or version, file too long, under 9 bytes"
-pub fn bad_header(file: &[u8]) -> bool
+pub(crate) fn bad_header(file: &[u8]) -> bool
     ensures { λ r. ⌜ r ≡ badHeader (now (file .entry)) ⌝ }
 {
     let size = file.len();
