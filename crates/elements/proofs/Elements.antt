@@ -20,7 +20,7 @@ use Rattle.elements.proofs.Remains.{drop-next}
 -- ---- one element
 
 -- tests in order, grouped the other way
-in-order : (a b c : ℕ) → (a orElse b) orElse c ≡ a orElse b orElse c
+pub in-order : (a b c : ℕ) → (a orElse b) orElse c ≡ a orElse b orElse c
 in-order zero b c = refl
 in-order (suc a) b c = refl
 

@@ -1,15 +1,21 @@
 // Functions that ask for a header that is not refused, and room.
 ghost use mathlib.Core.Path.{_≡_};
-ghost use Prim.Native.Nat.{_≤_};
+ghost use mathlib.Core.Bool.{_||_};
+ghost use Prim.Native.Nat.{_≤_, _<_};
 ghost use lib.ListN.{length};
+ghost use lib.Dec.{eqb};
 ghost use Rattle.basis.specs.Lists.{overwrite};
-ghost use Rattle.spec.specs.Lent.{outcome};
-ghost use Rattle.spec.specs.File.{body, countedRefusal, wordsTaken};
+ghost use Rattle.spec.specs.Lent.{outcome, filled, scratchAfter};
+ghost use Rattle.spec.specs.Mesh.{entryCount, startList, neighbourList};
+ghost use Rattle.spec.specs.File.{fileNodes, body, countedRefusal, wordsTaken, fileGraph, headerRefusal, bodyRefusal};
+ghost use Rattle.mesh.specs.Answer.{meaning};
 ghost use Rattle.reading.specs.Answer.{tested};
+ghost use Rattle.reading.specs.Words.{wordsRefusal};
 use crate::answer::Tested;
+use mesh::Entries;
 
 // Writes the words after the header to the front of the list, and returns how many there are.
-pub fn decode(file: &[u8], list: &mut [u16]) -> usize
+fn decode(file: &[u8], list: &mut [u16]) -> usize
     requires { ⌜ (9 ≤ length (now file)) × (length (body (now file)) ≤ length (now list)) ⌝ }
     ensures { λ r. ⌜ r ≡ length (body (now (file .entry))) ⌝ }
     ensures { λ _. ⌜ now (list .exit) ≡ overwrite (body (now (file .entry))) (now (list .entry)) ⌝ }
@@ -25,7 +31,7 @@ pub fn decode(file: &[u8], list: &mut [u16]) -> usize
 
 // Tests `count` elements of a file of n nodes, one by one: how many words they take, or the refusal: 9, 10, or 12 for a record that
 // runs past the file's end.
-pub fn test_elements(count: usize, n: usize, list: &[u16]) -> Tested
+fn test_elements(count: usize, n: usize, list: &[u16]) -> Tested
     ensures { λ r. ⌜ tested r ≡ outcome (countedRefusal count n (now (list .entry))) (wordsTaken count (now (list .entry))) ⌝ }
 {
     let mut at = 0;
@@ -43,4 +49,57 @@ pub fn test_elements(count: usize, n: usize, list: &[u16]) -> Tested
         left -= 1;
     }
     Tested::Taken(at)
+}
+
+// Decodes the words after the header and tests the elements in them: how many words there are, all of them taken, or the refusal:
+// "bytes left over once all elements pass" are 12.
+fn read_elements(file: &[u8], list: &mut [u16]) -> Tested
+    requires { ⌜ (headerRefusal (now file) ≡ 0) × (length (body (now file)) ≤ length (now list)) ⌝ }
+    ensures { λ r. ⌜ tested r ≡ outcome (wordsRefusal (now (file .entry))) (length (body (now (file .entry)))) ⌝ }
+    ensures { λ _. ⌜ now (list .exit) ≡ overwrite (body (now (file .entry))) (now (list .entry)) ⌝ }
+{
+    let n = words::wide(crate::header::word_at(file, 5));
+    let count = words::wide(crate::header::word_at(file, 7));
+    let size = decode(file, list);
+    let answer = test_elements(count, n, &list[..size]);
+    match answer {
+        Tested::Refused(number) => Tested::Refused(number),
+        Tested::Taken(taken) => {
+            if 9 + 2 * taken < file.len() {
+                Tested::Refused(12)
+            } else {
+                Tested::Taken(size)
+            }
+        }
+    }
+}
+
+// The two lists of a file's mesh, and their entry count, or the refusal.
+pub fn read_mesh(
+    file: &[u8],
+    list: &mut [u16],
+    starts: &mut [u16],
+    neighbours: &mut [u16],
+    scratch: &mut [u16],
+) -> Entries
+    requires { ⌜ (headerRefusal (now file) ≡ 0) × (length (body (now file)) ≤ length (now list)) ⌝ }
+    requires { ⌜ (fileNodes (now file) < length (now starts)) × (32768 ≤ length (now neighbours)) × (fileNodes (now file) ≤ length (now scratch)) ⌝ }
+    ensures { λ r. ⌜ meaning r ≡ outcome (bodyRefusal (now (file .entry))) (entryCount (fileGraph (now (file .entry)))) ⌝ }
+    ensures { λ _. ⌜ now (list .exit) ≡ overwrite (body (now (file .entry))) (now (list .entry)) ⌝ }
+    ensures { λ _. ⌜ now (starts .exit) ≡ filled (bodyRefusal (now (file .entry))) (startList (fileGraph (now (file .entry)))) (now (starts .entry)) ⌝ }
+    ensures { λ _. ⌜ now (neighbours .exit) ≡ filled (bodyRefusal (now (file .entry))) (neighbourList (fileGraph (now (file .entry)))) (now (neighbours .entry)) ⌝ }
+    ensures { λ _. ⌜ now (scratch .exit) ≡ scratchAfter (eqb (bodyRefusal (now (file .entry))) 0 || eqb (bodyRefusal (now (file .entry))) 11) (fileNodes (now (file .entry))) (now (scratch .entry)) ⌝ }
+{
+    let n = words::wide(crate::header::word_at(file, 5));
+    let answer = read_elements(file, list);
+    match answer {
+        Tested::Refused(number) => Entries::Refused(number),
+        Tested::Taken(size) => mesh::legal::adjacency(
+            n,
+            &list[..size],
+            starts,
+            neighbours,
+            scratch,
+        ),
+    }
 }

@@ -1,0 +1,171 @@
+-- What a file is refused by after its header, test by test, and its graph. Assumes nothing.
+use mathlib.Core.Path.{_≡_, refl, sym, ap, _∙_}
+use mathlib.Core.Bool.{Bool, true, false, _||_}
+use mathlib.Core.List.{List, [], _∷_}
+use Prim.Native.Nat.{ℕ, zero, suc, _+_, _*_, _≤_, _<_}
+use native.Mathlib.Omega.{arith}
+use lib.ListN.{length, take, drop}
+use lib.Dec.{eqb, ltb, eqb·suc-zero}
+use borrow.Author.Tests.{lt-ltb, le-ltb, ltb-false, ne-eqb}
+use Rattle.basis.proofs.Logic.{or-none}
+use Rattle.spec.specs.Refusal.{refuse, _orElse_}
+use Rattle.spec.specs.Lent.{refused, accepted, outcome, filled, zeroed, scratchAfter}
+use Rattle.spec.specs.Graph.{Graph, badSize}
+use Rattle.spec.specs.Mesh.{nodeCount, badNodes, elementRefusal, elementsRefusal, meshGraph, refuses11}
+use Rattle.spec.specs.CallsMesh.{graphOfElements}
+use Rattle.spec.specs.File.{fileNodes, fileElements, body, badHeader, countedRefusal, wordsTaken, leftOver, fileGraph, headerRefusal, bodyRefusal}
+use Rattle.laws.proofs.Lent.{outcome-accepted, outcome-refused}
+use Rattle.laws.proofs.Refused.{or-else-zero, refuse-zero}
+use Rattle.elements.proofs.Elements.{in-order}
+use Rattle.reading.specs.Words.{wordsRefusal}
+use Rattle.reading.proofs.Bytes.{body-length, header-whole}
+use Rattle.reading.proofs.Counted.{all-taken, taken-most}
+
+-- ---- the header
+
+-- a header that is not refused
+pub header-good : (bs : List ℕ) → headerRefusal bs ≡ 0 → (9 ≤ length bs) × (fileNodes bs ≤ 4096)
+unfolding headerRefusal
+header-good bs e =
+    let a = or-else-zero (refuse (badHeader bs) 12) (refuse (badSize (fileNodes bs)) 1) e in
+    let b = refuse-zero (badSize (fileNodes bs)) 1 (omega arith) (a .1) in
+    (header-whole bs (refuse-zero (badHeader bs) 12 (omega arith) (a .0)), ltb-false 4096 (fileNodes bs) (or-none (eqb (fileNodes bs) 0) (ltb 4096 (fileNodes bs)) b .1))
+
+-- ---- the words
+
+module _ (bs : List ℕ) where
+  abbrev counted : ℕ
+  counted = countedRefusal (fileElements bs) (fileNodes bs) (body bs)
+
+  abbrev taken : ℕ
+  taken = wordsTaken (fileElements bs) (body bs)
+
+  -- an element is refused
+  pub by-element : (r : ℕ) → refused r ≡ outcome (countedRefusal (fileElements bs) (fileNodes bs) (body bs)) (wordsTaken (fileElements bs) (body bs))
+      → refused r ≡ outcome (wordsRefusal bs) (length (body bs))
+  unfolding wordsRefusal outcome
+  by-element r e =
+      let w = outcome-refused counted r taken (sym e) in
+      ap refused (sym (w .0)) ∙ first counted (omega (arith, w .0, w .1))
+    where
+      first : (c : ℕ) → 1 ≤ c → refused c ≡ outcome (c orElse refuse (leftOver bs) 12) (length (body bs))
+      first zero h = absurd (omega arith)
+      first (suc c) h = refl
+
+  module _ (t : ℕ) (e : accepted t ≡ outcome (countedRefusal (fileElements bs) (fileNodes bs) (body bs)) (wordsTaken (fileElements bs) (body bs))) where
+    both : (countedRefusal (fileElements bs) (fileNodes bs) (body bs) ≡ 0) × (wordsTaken (fileElements bs) (body bs) ≡ t)
+    both = outcome-accepted counted taken t (sym e)
+
+    -- what they take is there
+    pub taken-small : t ≤ length (body bs)
+    taken-small = omega (arith, both .1, taken-most (fileElements bs) (fileNodes bs) (body bs) (both .0))
+
+    -- bytes are left over
+    pub by-left : 9 + 2 * t < length bs → refused 12 ≡ outcome (wordsRefusal bs) (length (body bs))
+    unfolding wordsRefusal leftOver outcome
+    by-left h = rw (both .0, lt-ltb (9 + 2 * taken) (length bs) (omega (arith, both .1)))
+
+    -- none are
+    pub by-none : length bs ≤ 9 + 2 * t → accepted (length (body bs)) ≡ outcome (wordsRefusal bs) (length (body bs))
+    unfolding wordsRefusal leftOver outcome
+    by-none h = rw (both .0, le-ltb (9 + 2 * taken) (length bs) (omega (arith, both .1)))
+
+-- ---- after the words: 11 or none
+
+-- no word's refusal is 11
+or-not : (a b : ℕ) → (a ≡ 11 → ⊥) → (b ≡ 11 → ⊥) → (a orElse b) ≡ 11 → ⊥
+or-not zero b h l e = l e
+or-not (suc a) b h l e = h e
+
+refuse-not : (t : Bool) (c : ℕ) → (c ≡ 11 → ⊥) → refuse t c ≡ 11 → ⊥
+refuse-not true c h e = h e
+refuse-not false c h e = omega arith
+
+element-not : (n k : ℕ) (ws : List ℕ) → elementRefusal 12 n k ws ≡ 11 → ⊥
+unfolding elementRefusal
+element-not n k ws =
+    or-not (refuse (eqb (nodeCount k) 0) 9) (refuse (ltb (length ws) (nodeCount k)) 12 orElse refuse (badNodes n (take (nodeCount k) ws)) 10)
+    (refuse-not (eqb (nodeCount k) 0) 9 (λ e. omega arith))
+    (or-not (refuse (ltb (length ws) (nodeCount k)) 12) (refuse (badNodes n (take (nodeCount k) ws)) 10)
+    (refuse-not (ltb (length ws) (nodeCount k)) 12 (λ e. omega arith)) (refuse-not (badNodes n (take (nodeCount k) ws)) 10 (λ e. omega arith)))
+
+counted-not : (c n : ℕ) (ws : List ℕ) → countedRefusal c n ws ≡ 11 → ⊥
+unfolding countedRefusal
+counted-not zero n ws e = omega arith
+counted-not (suc c) n [] e = omega arith
+counted-not (suc c) n (k ∷ ws) e = or-not (elementRefusal 12 n k ws) (countedRefusal c n (drop (nodeCount k) ws)) (element-not n k ws) (counted-not c n (drop (nodeCount k) ws)) e
+
+module _ (bs : List ℕ) where
+  words-not : wordsRefusal bs ≡ 11 → ⊥
+  unfolding wordsRefusal
+  words-not =
+      or-not (countedRefusal (fileElements bs) (fileNodes bs) (body bs)) (refuse (leftOver bs) 12) (counted-not (fileElements bs) (fileNodes bs) (body bs))
+      (refuse-not (leftOver bs) 12 (λ e. omega arith))
+
+  body-split : bodyRefusal bs ≡ wordsRefusal bs orElse refuse (refuses11 (fileGraph bs)) 11
+  unfolding bodyRefusal wordsRefusal
+  body-split = sym (in-order (countedRefusal (fileElements bs) (fileNodes bs) (body bs)) (refuse (leftOver bs) 12) (refuse (refuses11 (fileGraph bs)) 11))
+
+  -- the words are refused, so the file is, by the same number
+  pub words-refused : (r : ℕ) → refused r ≡ outcome (wordsRefusal bs) (length (body bs)) → (bodyRefusal bs ≡ r) × (1 ≤ r) × (r ≡ 11 → ⊥)
+  words-refused r e =
+      let w = outcome-refused (wordsRefusal bs) r (length (body bs)) (sym e) in
+      (body-split ∙ first (wordsRefusal bs) (omega (arith, w .0, w .1)) ∙ w .0, w .1, λ z. words-not (w .0 ∙ z))
+    where
+      first : (c : ℕ) → 1 ≤ c → c orElse refuse (refuses11 (fileGraph bs)) 11 ≡ c
+      first zero h = absurd (omega arith)
+      first (suc c) h = refl
+
+  module _ (t : ℕ) (e : accepted t ≡ outcome (wordsRefusal bs) (length (body bs))) where
+    passed : (wordsRefusal bs ≡ 0) × (length (body bs) ≡ t)
+    passed = outcome-accepted (wordsRefusal bs) (length (body bs)) t (sym e)
+
+    pub words-all : t ≡ length (body bs)
+    words-all = sym (passed .1)
+
+    parts : (countedRefusal (fileElements bs) (fileNodes bs) (body bs) ≡ 0) × (leftOver bs ≡ false)
+    unfolding wordsRefusal
+    parts =
+        let a = or-else-zero (countedRefusal (fileElements bs) (fileNodes bs) (body bs)) (refuse (leftOver bs) 12) (passed .0) in
+        (a .0, refuse-zero (leftOver bs) 12 (omega arith) (a .1))
+
+    every : wordsTaken (fileElements bs) (body bs) ≡ length (body bs)
+    unfolding leftOver
+    every =
+        let l = ltb-false (9 + 2 * wordsTaken (fileElements bs) (body bs)) (length bs) (parts .1) in
+        omega (arith, l, body-length bs, taken-most (fileElements bs) (fileNodes bs) (body bs) (parts .0))
+
+    -- the elements are those of the word list
+    pub words-good : elementsRefusal (length (body bs)) (fileNodes bs) (body bs) ≡ 0
+    words-good = all-taken (fileElements bs) (fileNodes bs) (body bs) (parts .0) every .0
+
+    pub words-graph : fileGraph bs ≡ graphOfElements (fileNodes bs) (body bs)
+    unfolding fileGraph graphOfElements
+    words-graph = ap (meshGraph (fileNodes bs)) (all-taken (fileElements bs) (fileNodes bs) (body bs) (parts .0) every .1)
+
+    pub words-pass : bodyRefusal bs ≡ refuse (refuses11 (graphOfElements (fileNodes bs) (body bs))) 11
+    words-pass =
+        body-split ∙ ap (λ (r : ℕ). r orElse refuse (refuses11 (fileGraph bs)) 11) (passed .0)
+        ∙ ap (λ (g : Graph). refuse (refuses11 g) 11) words-graph
+
+-- ---- answer and buffers by the refusal's number
+
+pub outcome-kept : (c : ℕ) (a : ℕ) → 1 ≤ c → refused c ≡ outcome c a
+unfolding outcome
+outcome-kept zero a h = absurd (omega arith)
+outcome-kept (suc c) a h = refl
+
+pub filled-kept : (c : ℕ) (new old : List ℕ) → 1 ≤ c → old ≡ filled c new old
+unfolding filled
+filled-kept zero new old h = absurd (omega arith)
+filled-kept (suc c) new old h = refl
+
+pub scratch-kept : (c n : ℕ) (l : List ℕ) → 1 ≤ c → (c ≡ 11 → ⊥) → l ≡ scratchAfter (eqb c 0 || eqb c 11) n l
+unfolding scratchAfter
+scratch-kept zero n l h other = absurd (omega arith)
+scratch-kept (suc c) n l h other = rw (ne-eqb (suc c) 11 other, eqb·suc-zero c)
+
+pub scratch-zeroed : (b : Bool) (n : ℕ) (l : List ℕ) → zeroed n l ≡ scratchAfter (eqb (refuse b 11) 0 || eqb (refuse b 11) 11) n l
+unfolding scratchAfter
+scratch-zeroed true n l = refl
+scratch-zeroed false n l = refl
