@@ -2,3 +2,4 @@ pub mod Compute
 pub mod Called
 pub mod Bracket
 pub mod Examples
+pub mod Wrong
