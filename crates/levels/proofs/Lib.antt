@@ -1,3 +1,4 @@
 pub mod Refusals
 pub mod Scratch
 pub mod Firsts
+pub mod OnePart

@@ -1,7 +1,9 @@
 // Document 01's first library: rooted levels, the ends of a part and its combined levels. Each call tests what it is handed, in the order of
 // the table: 1 to 4, then 5, then 6.
 pub mod answer;
+pub mod legal;
 mod part;
+pub mod shape;
 
 ghost use mathlib.Core.Path.{_≡_};
 ghost use Rattle.spec.specs.Graph.{outside};

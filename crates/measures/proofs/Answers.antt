@@ -12,7 +12,7 @@ use Rattle.basis.specs.Lists.{overwrite}
 use Rattle.basis.proofs.Logic.{or-neither}
 use Rattle.spec.specs.Refusal.{refuse, _orElse_}
 use Rattle.spec.specs.Lent.{accepted, refused, outcome, zeroed, scratchAfter, short}
-use Rattle.spec.specs.Graph.{graphOf, graphRefusal, sizeOf, refuses1, refuses2, refuses3, refuses4}
+use Rattle.spec.specs.Graph.{Graph, graphOf, graphRefusal, sizeOf, refuses1, refuses2, refuses3, refuses4}
 use Rattle.spec.specs.Measures.{isNumbering, renumbered, bandwidth, profile, front}
 use Rattle.spec.specs.CallsNumbering.{MeasureFigures, measureFigures, measuresRefusal, measuresAnswer, measuresScratch}
 use Rattle.laws.proofs.Lent.{zeroed-is}
@@ -79,15 +79,18 @@ module _ (S N X W : List ℕ) where
           ap (λ (d : ℕ). scratchAfter (eqb d 0 || eqb d 7) (sizeOf S) W) (sym e),
         )
 
-    pub measured : sizeOf S ≤ length W → isNumbering (sizeOf S) X ≡ true → (b p f : ℕ)
-        → b ≡ bandwidth (renumbered (graphOf S N) X) → p ≡ profile (renumbered (graphOf S N) X) → f ≡ front (renumbered (graphOf S N) X)
-        → (accepted (record { bandwidth = b; profile = p; front = f }) ≡ measuresAnswer S N X W) × (zeroed (sizeOf S) W ≡ measuresScratch S N X W)
-    unfolding measuresAnswer measuresScratch measureFigures scratchAfter outcome
-    measured l q b p f eb ep ef =
+    pub measured : sizeOf S ≤ length W → isNumbering (sizeOf S) X ≡ true → (accepted h ≡ measuresAnswer S N X W) × (zeroed (sizeOf S) W ≡ measuresScratch S N X W)
+    unfolding measuresAnswer measuresScratch scratchAfter outcome
+    measured l q =
         let e : measuresRefusal S N X W ≡ 0 = refusal (le-ltb (length W) (sizeOf S) l) q in (
-          rw (eb, ep, ef) (ap (λ (d : ℕ). outcome d h) (sym e)),
+          ap (λ (d : ℕ). outcome d h) (sym e),
           ap (λ (d : ℕ). scratchAfter (eqb d 0 || eqb d 7) (sizeOf S) W) (sym e),
         )
+
+-- the three measures as one
+pub the-three : (g : Graph) (b p f : ℕ) → b ≡ bandwidth g → p ≡ profile g → f ≡ front g → record { bandwidth = b; profile = p; front = f } ≡ measureFigures g
+unfolding measureFigures
+the-three g b p f eb ep ef = rw (eb, ep, ef)
 
 -- the words that were lent come back as zeros, before the excess
 pub zeros-back : (n : ℕ) (o W w v : List ℕ) → length o ≡ n → w ≡ replicate n 0 → v ≡ overwrite o W → w ++ drop n v ≡ zeroed n W

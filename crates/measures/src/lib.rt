@@ -6,6 +6,7 @@ ghost use Rattle.measures.specs.Answer.{meaning};
 mod answer;
 mod band;
 mod fronts;
+pub mod legal;
 
 pub use answer::Measures;
 pub use answer::MeasuresAnswer;
@@ -30,14 +31,8 @@ pub fn measures(
         return MeasuresAnswer::Refused(5);
     }
     if envelope::legal::numbered(numbering, n, scratch) {
-        let widest = band::bandwidth(starts, neighbours, numbering);
-        let sum = envelope::legal::profile(starts, neighbours, numbering);
-        let most = fronts::front(starts, neighbours, numbering, &mut scratch[..n]);
-        MeasuresAnswer::Accepted(Measures {
-            bandwidth: widest,
-            profile: sum,
-            front: most,
-        })
+        let m = legal::figures(starts, neighbours, numbering, &mut scratch[..n]);
+        MeasuresAnswer::Accepted(m)
     } else {
         MeasuresAnswer::Refused(7)
     }

@@ -9,7 +9,7 @@ use lib.ListN.{length, take}
 use lib.Seq.{length-take-le}
 use Rattle.basis.specs.Lists.{overwrite}
 use Rattle.spec.specs.Graph.{sizeOf}
-use Rattle.spec.specs.Lent.{zeroed}
+use Rattle.spec.specs.Lent.{accepted, zeroed}
 use Rattle.spec.specs.Measures.{isNumbering, orderOf}
 use Rattle.laws.proofs.Numberings.{numbering-length}
 use Rattle.graph.specs.Facts.{LegalLists}
@@ -51,33 +51,26 @@ returns-2 c =
 numbered-requires : tie.Need-numbered-requires
 numbered-requires c κs = (legal (c .before .before) .starts .few, c .before .if1 .left)
 
-bandwidth-requires : tie.Need-bandwidth-requires
-bandwidth-requires c κs = (legal (c .before .before .before .before .before .before), numbered c)
-
-profile-requires : tie.Need-profile-requires
-profile-requires c κs = (legal (c .before .before .before .before .before .before .before) .starts, (legal (c .before .before .before .before .before .before .before) .graph, numbered (c .before)))
-
 -- as many words as nodes are lent
-part : (c : tie.After-front-arg) → length (take (sizeOf (now (entry (c .before .before .before .before .before .before .before .before .before) .args .starts))) (c .before .before .before .before .before .before .numbered .last .1 .1 .0)) ≡ sizeOf (now (entry (c .before .before .before .before .before .before .before .before .before) .args .starts))
+part : (c : tie.After-figures-arg) → length (take (sizeOf (now (entry (c .before .before .before .before .before .before .before) .args .starts))) (c .before .before .before .before .numbered .last .1 .1 .0)) ≡ sizeOf (now (entry (c .before .before .before .before .before .before .before) .args .starts))
 part c =
-    length-take-le (sizeOf (now (entry (c .before .before .before .before .before .before .before .before .before) .args .starts))) (c .before .before .before .before .before .before .numbered .last .1 .1 .0)
-    (omega (arith, c .before .before .before .before .before .before .numbered .kept .1 .1 .0, room (c .before .before .before .before .before .before)))
+    length-take-le (sizeOf (now (entry (c .before .before .before .before .before .before .before) .args .starts))) (c .before .before .before .before .numbered .last .1 .1 .0)
+    (omega (arith, c .before .before .before .before .numbered .kept .1 .1 .0, room (c .before .before .before .before)))
 
-front-requires : tie.Need-front-requires
-front-requires c κs = (legal (c .before .before .before .before .before .before .before .before .before), (numbered (c .before .before .before), part c))
+figures-requires : tie.Need-figures-requires
+figures-requires c κs = (legal (c .before .before .before .before .before .before .before), (numbered (c .before), part c))
 
 returns-3 : tie.Need-returns-3
 returns-3 c =
-    let a = entry (c .before .before .before .before .before .before .before .before .before .before .before .before) .args in
+    let a = entry (c .before .before .before .before .before .before .before .before .before .before) .args in
     let S = now (a .starts) in
     let X = now (a .numbering) in
-    let ok = numbered (c .before .before .before .before .before .before) in
-    let r = measured S (now (a .neighbours)) X (now (a .scratch)) (legal (c .before .before .before .before .before .before .before .before .before .before .before .before)) (room (c .before .before .before .before .before .before .before .before .before)) ok _ _ _
-    (c .before .before .before .before .before .bandwidth .ensures) (c .before .before .before .before .profile .ensures) (c .before .before .front .ensures .0) in (
-      r .0,
-      zeros-back (sizeOf S) (orderOf X) (now (a .scratch)) (c .before .before .front .last .1 .1 .1 .0) (c .before .before .before .before .before .before .before .before .before .numbered .last .1 .1 .0)
-          (length-orderOf X ∙ numbering-length _ _ ok) (c .before .before .front .ensures .1)
-          (c .before .before .before .before .before .before .before .before .before .numbered .ensures .1 ∙ ap (λ (t : Bool). cond t (overwrite (orderOf X) (now (a .scratch))) (zeroed (sizeOf S) (now (a .scratch)))) (c .before .before .before .before .before .before .if2 .taken))
+    let ok = numbered (c .before .before .before .before) in
+    let r = measured S (now (a .neighbours)) X (now (a .scratch)) (legal (c .before .before .before .before .before .before .before .before .before .before)) (room (c .before .before .before .before .before .before .before)) ok in (
+      ap accepted (c .before .before .figures .ensures .0) ∙ r .0,
+      zeros-back (sizeOf S) (orderOf X) (now (a .scratch)) (c .before .before .figures .last .1 .1 .1 .0) (c .before .before .before .before .before .before .before .numbered .last .1 .1 .0)
+          (length-orderOf X ∙ numbering-length _ _ ok) (c .before .before .figures .ensures .1)
+          (c .before .before .before .before .before .before .before .numbered .ensures .1 ∙ ap (λ (t : Bool). cond t (overwrite (orderOf X) (now (a .scratch))) (zeroed (sizeOf S) (now (a .scratch)))) (c .before .before .before .before .if2 .taken))
           ∙ r .1,
     )
 
@@ -104,11 +97,9 @@ measures-spec =
     sub-n
     returns-2
     numbered-requires
-    bandwidth-requires
-    profile-requires
     (λ c. search needs)
     (λ c. sym (part c))
-    front-requires
+    figures-requires
     (λ c. search needs)
     returns-3
     (λ c. search needs)

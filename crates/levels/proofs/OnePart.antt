@@ -1,0 +1,217 @@
+-- One part: from its members to the searches from its ends, and from those to what `combine` asks. Assumes nothing.
+use mathlib.Core.Path.{_≡_, refl, sym, ap, _∙_, subst}
+use mathlib.Core.Bool.{true}
+use mathlib.Core.List.{List, _++_}
+use Prim.Native.Nat.{ℕ, zero, suc, _+_, _-_, _*_, _≤_, _<_}
+use native.Mathlib.Omega.{arith}
+use lib.ListN.{length, getD, take, drop, replicate, length-append, length-drop, length-map, length-replicate, getD-replicate, take-append-drop, List·getD-append}
+use lib.Seq.{slice, ext-getD, length-take-le, take-append-le, take-take, getD-take, getD-drop}
+use borrow.Rule.Slice.PartMut.{postOf, mid-len}
+use Rattle.basis.specs.Lists.{memb, upFrom}
+use Rattle.basis.proofs.Index.{getD-right, getD-map-upFrom}
+use Rattle.basis.proofs.Lists.{filter-in, map-cong, length-upFrom}
+use Rattle.spec.specs.Combined.{combined, widthOf}
+use Rattle.spec.specs.Ends.{Ends, ends}
+use Rattle.spec.specs.Graph.{Graph, graphOf, sizeOf, graphRefusal, firstInE, nodes}
+use Rattle.spec.specs.Lent.{zeroed}
+use Rattle.spec.specs.Levels.{levels, reached, levelList, part}
+use Rattle.laws.specs.Legal.{Node, LegalGraph, Starts}
+use Rattle.laws.specs.Structure.{EndsOf}
+use Rattle.laws.proofs.Ends.{ends-of}
+use Rattle.laws.proofs.Figures.{reached-part}
+use Rattle.laws.proofs.Legal.{node-in}
+use Rattle.laws.proofs.Lent.{zeroed-is}
+use Rattle.laws.proofs.Levels.{part-listed, part-node, part-same}
+use Rattle.laws.proofs.Refused.{passed, starts-of, not-refused}
+use Rattle.search.specs.Answer.{Searched}
+use Rattle.search.specs.Queue.{Queued}
+use Rattle.search.proofs.Stores.{take-replicate}
+use Rattle.sorting.specs.Nodes.{Nodes}
+use Rattle.ends.specs.Answer.{foundOf, Ended}
+use Rattle.ends.specs.Passes.{half}
+use Rattle.ends.specs.declared.shape.Found.{Found}
+use Rattle.ends.proofs.Areas.{front-lent, front-back, slice-front, slice-shift}
+use Rattle.piecing.specs.Given.{Given, firstOf, endsOf, merged}
+use Rattle.piecing.specs.Seek.{at}
+use Rattle.piecing.specs.Starts.{membersOf}
+use Rattle.piecing.proofs.Storing.{member-in}
+use Rattle.levels.specs.Part.{PartGiven, partLevelsOf}
+use Rattle.levels.specs.declared.shape.PartLevels.{PartLevels}
+use Rattle.levels.proofs.Firsts.{first-range, first-own, same-ends}
+use Rattle.levels.proofs.Scratch.{behind-front}
+
+-- a word of zeros, or past them
+zeros-at : (k i : ℕ) → getD {A = ℕ} (replicate k 0) i 0 ≡ 0
+zeros-at zero i = refl
+zeros-at (suc k) zero = refl
+zeros-at (suc k) (suc i) = zeros-at k i
+
+-- the words of a search past its queue are 0
+past-queue : {n count : ℕ} {W : List ℕ} → Queued n count W → (i : ℕ) → n + count ≤ i → getD W i 0 ≡ 0
+past-queue {n} {count} {W} Q i h =
+    let e : n + (count + (i - (n + count))) ≡ i = omega arith in
+    ap (λ (j : ℕ). getD W j 0) (sym e) ∙ sym (getD-drop n W (count + (i - (n + count))) 0)
+    ∙ sym (getD-drop count (drop n W) (i - (n + count)) 0) ∙ ap (λ (l : List ℕ). getD l (i - (n + count)) 0) (Q .rest)
+    ∙ zeros-at (n - count) (i - (n + count))
+
+-- the members as they are lent
+members-lent : (n from to : ℕ) (W : List ℕ) → from ≤ to → 5 * n + to ≤ length W → take (5 * n + to - (5 * n + from)) (drop (5 * n + from) W) ≡ membersOf n from to W
+members-lent n from to W l h =
+    ext-getD 0 (take (5 * n + to - (5 * n + from)) (drop (5 * n + from) W)) (membersOf n from to W)
+    (omega (arith, size, length-map (upFrom from (to - from)) (λ i. getD W (5 * n + i) 0), length-upFrom from (to - from)))
+    (λ i k.
+    let e : 5 * n + from + i ≡ 5 * n + (from + i) = omega arith in
+    getD-take (5 * n + to - (5 * n + from)) (drop (5 * n + from) W) i 0 (omega (arith, size)) ∙ getD-drop (5 * n + from) W i 0
+    ∙ ap (λ (j : ℕ). getD W j 0) e ∙ sym (getD-map-upFrom (λ j. getD W (5 * n + j) 0) from (to - from) i 0 (omega (arith, size))))
+  where
+    size : length (take (5 * n + to - (5 * n + from)) (drop (5 * n + from) W)) ≡ 5 * n + to - (5 * n + from)
+    size = mid-len (5 * n + from) (5 * n + to) W h
+
+module _ (S N : List ℕ) (ok : graphRefusal S N ≡ 0) {from to : ℕ} {W L : List ℕ} (A : PartGiven (graphOf S N) from to W L) where
+  abbrev g : Graph
+  g = graphOf S N
+
+  abbrev n : ℕ
+  n = sizeOf S
+
+  abbrev z : ℕ
+  z = firstOf n from W
+
+  abbrev lent : List ℕ
+  lent = take (5 * n + to - (5 * n + from)) (drop (5 * n + from) W)
+
+  G : LegalGraph g
+  G = not-refused S N ok
+
+  z-node : Node g z
+  z-node = node-in g z (filter-in _ (nodes g) z (ap (memb z) (part-listed g z ∙ sym (A .members)) ∙ member-in n from to W from (omega arith) (A .order)) .0)
+
+  lent-is : lent ≡ part g z
+  lent-is = members-lent n from to W (omega (arith, A .order)) (omega (arith, A .words, A .most)) ∙ A .members
+
+  part-size : length (part g z) ≡ to - from
+  part-size = ap length (sym (A .members)) ∙ length-map (upFrom from (to - from)) (λ i. getD W (5 * n + i) 0) ∙ length-upFrom from (to - from)
+
+  -- ---- the first node
+
+  pub first-ask : ((neighbours : List ℕ) × Starts S neighbours) × (Nodes n lent × (1 ≤ length lent))
+  first-ask = (
+    (N, starts-of (passed S N ok)),
+    (
+      (λ q m. let B = part-node G z-node q (sym (ap (memb q) lent-is) ∙ m) in (B .low, B .high)),
+      omega (arith, ap length lent-is, part-size, A .order),
+    ),
+  )
+
+  module _ {v : ℕ} (learnt : (neighbours : List ℕ) → Starts S neighbours → v ≡ firstInE (graphOf S neighbours) lent) where
+    v-first : v ≡ firstInE g (part g z)
+    v-first = learnt N (starts-of (passed S N ok)) ∙ ap (firstInE g) lent-is
+
+    -- ---- the ends
+
+    front : take (4 * n - 0) W ≡ replicate (half S + half S) 0
+    front =
+        let e : 4 * n ≡ half S + half S = omega arith in
+        let f : 5 * n ≡ 4 * n + n = omega arith in
+        front-lent (4 * n) W ∙ sym (take-take (4 * n) (5 * n) W (omega arith)) ∙ ap (take (4 * n)) (A .blank)
+        ∙ ap (λ (j : ℕ). take (4 * n) (replicate j 0)) f ∙ take-replicate (4 * n) n 0 ∙ ap (λ (j : ℕ). replicate j 0) e
+
+    pub ends-ask : (graphRefusal S N ≡ 0) × (((1 ≤ v) × (v ≤ sizeOf S)) × ((v ≡ firstInE g (part g v)) × (take (4 * n - 0) W ≡ replicate (half S + half S) 0)))
+    ends-ask = (ok, (first-range S N ok z-node v-first, (first-own S N ok z-node v-first, front)))
+
+    module _ {f : Found} (found : f ≡ foundOf (ends g v)) {Y : List ℕ} (ended : Ended S N (ends g v) Y) where
+      abbrev e : Ends
+      e = ends g z
+
+      -- the words as they come back
+      abbrev W₁ : List ℕ
+      W₁ = Y ++ postOf 0 (4 * n - 0) W
+
+      same : ends g v ≡ e
+      same = same-ends S N ok z-node v-first
+
+      E : Ended S N e Y
+      E = subst (λ (x : Ends). Ended S N x Y) same ended
+
+      is : W₁ ≡ Y ++ drop (4 * n) W
+      is = front-back (4 * n) W Y
+
+      Y-size : length Y ≡ 4 * n
+      Y-size = E .full ∙ omega arith
+
+      in-front : (i : ℕ) → i < 4 * n → getD W₁ i 0 ≡ getD Y i 0
+      in-front i h = List·getD-append Y (postOf 0 (4 * n - 0) W) 0 i (omega (arith, Y-size))
+
+      behind : (i : ℕ) → 4 * n ≤ i → getD W₁ i 0 ≡ getD W i 0
+      behind i h =
+          let q : 4 * n + (i - length Y) ≡ i = omega (arith, Y-size) in
+          ap (λ (l : List ℕ). getD l i 0) is ∙ getD-right 0 Y (drop (4 * n) W) i (omega (arith, Y-size))
+          ∙ getD-drop (4 * n) W (i - length Y) 0 ∙ ap (λ (j : ℕ). getD W j 0) q
+
+      z-same : firstOf n from W₁ ≡ z
+      z-same = behind (5 * n + from) (omega arith)
+
+      ends-same : endsOf g from W₁ ≡ e
+      ends-same = ap (ends g) z-same
+
+      found-is : f ≡ foundOf e
+      found-is = found ∙ ap foundOf same
+
+      -- a search from a node of the part reaches as many nodes
+      reaches : (x : ℕ) → memb x (part g z) ≡ true → reached (levels g x) ≡ to - from
+      reaches x m = reached-part G (part-node G z-node x m) ∙ ap length (part-same G x z-node m) ∙ part-size
+
+      O : EndsOf g z e
+      O = ends-of G z-node
+
+      given : Given g from to (f .k) (f .widthv) (f .widthu) W₁ L
+      given = record {
+        words = omega (arith, ap length is, length-append Y (drop (4 * n) W), Y-size, length-drop (4 * n) W, A .words);
+        room = A .room;
+        order = A .order;
+        most = A .most;
+        members =
+            map-cong (λ i. getD W₁ (5 * n + i) 0) (λ i. getD W (5 * n + i) 0) (upFrom from (to - from)) (λ i m. behind (5 * n + i) (omega arith))
+            ∙ A .members ∙ ap (part g) (sym z-same);
+        depth = ap (λ (x : Found). x .k) found-is ∙ ap (λ (x : Ends). x .k) (sym ends-same);
+        width-v = ap (λ (x : Found). x .widthv) found-is ∙ ap (λ (x : Ends). x .widthV) (sym ends-same);
+        width-u = ap (λ (x : Found). x .widthu) found-is ∙ ap (λ (x : Ends). x .widthU) (sym ends-same);
+        firsts =
+            take-append-le n Y (postOf 0 (4 * n - 0) W) (omega (arith, Y-size)) ∙ sym (take-take n (half S) Y (omega arith)) ∙ E .first .listed
+            ∙ ap (λ (x : Ends). levelList g (levels g (x .v))) (sym ends-same);
+        seconds =
+            let a : 2 * n ≡ half S + 0 = omega arith in
+            let b : 3 * n ≡ half S + n = omega arith in
+            slice-front (2 * n) (3 * n) Y (postOf 0 (4 * n - 0) W) (omega (arith, Y-size)) ∙ (λ i. slice (a i) (b i) Y)
+            ∙ slice-shift (half S) 0 n Y ∙ E .second .listed ∙ ap (λ (x : Ends). levelList g (levels g (x .u))) (sym ends-same);
+        queue-v = λ i l h.
+            in-front i (omega arith) ∙ sym (getD-take (half S) Y i 0 (omega arith))
+            ∙ past-queue (E .first .holds) i (omega (arith, reaches (e .v) (O .v-part)));
+        queue-u = λ i l h.
+            let q : half S + (i - half S) ≡ i = omega arith in
+            in-front i (omega arith) ∙ ap (λ (j : ℕ). getD Y j 0) (sym q) ∙ sym (getD-drop (half S) Y (i - half S) 0)
+            ∙ past-queue (E .second .holds) (i - half S) (omega (arith, reaches (e .u) (O .u-part)));
+        counts = λ i l h.
+            behind i l ∙ sym (getD-take (5 * n) W i 0 h) ∙ ap (λ (x : List ℕ). getD x i 0) (A .blank) ∙ zeros-at (5 * n) i;
+        clean = λ q m. A .clean q (ap (λ (x : ℕ). memb q (part g x)) (sym z-same) ∙ m);
+      }
+
+      pub combine-ask : (graphRefusal S N ≡ 0) × Given g from to (f .k) (f .widthv) (f .widthu) W₁ L
+      combine-ask = (ok, given)
+
+      -- ---- what is returned and left
+
+      module _ {w : ℕ} (wide : w ≡ widthOf (f .k) (combined g (endsOf g from W₁))) where
+        pub figures : _≡_ {A = PartLevels} (record { v = f .v; u = f .u; k = f .k; width = w; passes = f .passes }) (partLevelsOf g e)
+        figures =
+            let q : w ≡ widthOf (e .k) (combined g e) = wide ∙ (λ i. widthOf (found-is i .k) (combined g (ends-same i))) in
+            λ i. record { v = found-is i .v; u = found-is i .u; k = found-is i .k; width = q i; passes = found-is i .passes }
+
+      pub words-again : {X : List ℕ} → X ≡ zeroed (5 * n) W₁ → X ≡ W
+      words-again x =
+          x ∙ zeroed-is (5 * n) W₁
+          ∙ (λ i. sym (A .blank) i ++ (ap (drop (5 * n)) is ∙ behind-front (4 * n) (5 * n) Y W Y-size (omega arith)) i)
+          ∙ take-append-drop (5 * n) W
+
+      pub levels-merged : {X : List ℕ} → X ≡ merged g (firstOf n from W₁) (endsOf g from W₁) L → X ≡ merged g z e L
+      levels-merged x = x ∙ ap (λ (y : ℕ). merged g y (ends g y) L) z-same

@@ -1,0 +1,29 @@
+-- One part in the lent words: what its ends and combined levels ask, and what is returned of them. Assumes nothing.
+use mathlib.Core.Path.{_≡_}
+use mathlib.Core.Bool.{true}
+use mathlib.Core.List.{List}
+use Prim.Native.Nat.{ℕ, _*_, _≤_, _<_}
+use lib.ListN.{length, take, replicate}
+use Rattle.basis.specs.Lists.{memb}
+use Rattle.spec.specs.Combined.{combined, widthOf}
+use Rattle.spec.specs.Ends.{Ends}
+use Rattle.spec.specs.Graph.{Graph}
+use Rattle.spec.specs.Levels.{part}
+use Rattle.piecing.specs.Given.{firstOf}
+use Rattle.piecing.specs.Seek.{at}
+use Rattle.piecing.specs.Starts.{membersOf}
+use Rattle.levels.specs.declared.shape.PartLevels.{PartLevels}
+
+-- the members of one part stand from..to in the sixth area of n words, the five in front are 0, and so are the levels of its nodes
+pub record PartGiven (g : Graph) (from to : ℕ) (W L : List ℕ) : Type 0 where
+  pub words : 6 * g .size ≤ length W
+  pub room : length L ≡ g .size
+  pub order : from < to
+  pub most : to ≤ g .size
+  pub members : membersOf (g .size) from to W ≡ part g (firstOf (g .size) from W)
+  pub blank : take (5 * g .size) W ≡ replicate (5 * g .size) 0
+  pub clean : (q : ℕ) → memb q (part g (firstOf (g .size) from W)) ≡ true → at L q ≡ 0
+
+-- the ends, k, the greatest level count and the passes
+abbrev pub partLevelsOf : Graph → Ends → PartLevels
+partLevelsOf g e = record { v = e .v; u = e .u; k = e .k; width = widthOf (e .k) (combined g e); passes = e .passes }
