@@ -1,5 +1,5 @@
 #!/usr/bin/env python3
-"""The second table of crate `spec`: a dozen graphs, one for each slip and each tie rule of document 01, and an order of refusals.
+"""The second table of crate `spec`: a dozen graphs, one for each slip and each tie rule of document 01, and the order of the refusals.
 
   examples.py            print crates/spec/proofs/Examples.antt; `rt fmt` lays it out
   examples.py --check    say whether the file stands as this script prints it, layout aside
@@ -15,6 +15,7 @@ TOP = os.path.dirname(os.path.dirname(HERE))
 sys.path[:0] = [os.path.join(TOP, 'tests', 'reference'), HERE]
 
 import calls
+import program
 from antt import ELIMINATION_FIGURES, ENDS, FIGURES, PART_REPORT, figures, outcome, words
 from graph import from_edges
 
@@ -59,6 +60,20 @@ REFUSALS = [
     ('8: no mark byte', [0, 1, 2], [2, 1], 1, [2, 1], 8),
 ]
 
+# what it shows, mark, the words after it, bytes after these
+FILES = [
+    ('a wrong mark, and no node: 12 before 1', b'GRX', [1, 0, 0], b''),
+    ('a wrong version, and a node too many', b'GRD', [2, 4097, 0], b''),
+    ('no node, and an unknown kind: 1 before 9', b'GRD', [1, 0, 1, 0], b''),
+    ('an unknown kind as the last word', b'GRD', [1, 2, 1, 11], b''),
+    ('a record past the end, seen before its node 0', b'GRD', [1, 2, 1, 1, 0], b''),
+    ('nodes that are none, then an unknown kind', b'GRD', [1, 2, 2, 1, 0, 1, 11], b''),
+    ('a repeated node, and a byte left over: 10 before 12', b'GRD', [1, 2, 1, 1, 2, 2], b'\0'),
+    ('a byte left over', b'GRD', [1, 2, 1, 1, 1, 2], b'\0'),
+    ('half a kind word', b'GRD', [1, 2, 1], b'\1'),
+    ('none of these', b'GRD', [1, 2, 1, 1, 1, 2], b''),
+]
+
 HEAD = '''-- A second table by computation: graphs chosen so that each slip of document 01 and each tie rule shows, and the order of the refusals.
 -- Made by tests/definitions/examples.py: every expected value is the independent program's, tests/reference. Assumes nothing.
 use Prim.Native.Nat.{ℕ, _*_}
@@ -69,6 +84,7 @@ use Rattle.spec.specs.Graph.{sizeOf}
 use Rattle.spec.specs.Ends.{Ends}
 use Rattle.spec.specs.Numbering.{Forward, Reversed, PartReport, Figures}
 use Rattle.spec.specs.Lent.{Outcome, refused, accepted}
+use Rattle.spec.specs.File.{fileRefusal}
 use Rattle.spec.specs.CallsLevels.{adjacencyAnswer, rootedAnswer, endsAnswer}
 use Rattle.spec.specs.CallsNumbering.{runAnswer, measuresAnswer}
 use Rattle.spec.specs.CallsStore.{EliminationFigures, eliminationAnswer}
@@ -168,6 +184,22 @@ def refusal_rows():
     return fields, proofs
 
 
+def file_refusal(file):
+    """What the program refuses a file by, or 0."""
+    answer = program.text_for(file).split()
+    return int(answer[1]) if answer[0] == b'refused' else 0
+
+
+def file_rows():
+    """A field for each file, and its proof."""
+    fields, proofs = [], []
+    for number, (why, mark, values, more) in enumerate(FILES):
+        file = mark + b''.join(value.to_bytes(2, 'little') for value in values) + more
+        fields.append('  -- %s\n  file-%d : fileRefusal %s ≡ %d' % (why, number + 1, words(file), file_refusal(file)))
+        proofs.append('  file-%d = refl;' % (number + 1))
+    return fields, proofs
+
+
 REFUSED = '''-- a refusal's number, 0 for an accepted call
 numberOf : {A : Type 0} → Outcome A → ℕ
 numberOf (refused c) = c
@@ -190,13 +222,14 @@ refusals S N node x k =
 def text():
     lists, fields, proofs = graph_rows()
     more, refused = refusal_rows()
+    files, read = file_rows()
     names = ' '.join('%s %s-found' % (name, name) for name, *_ in GRAPHS)
     return '\n'.join([
         HEAD,
-        REFUSED, *lists, 'record ExampleTable : Type 0 where', *fields, *more,
+        REFUSED, *lists, 'record ExampleTable : Type 0 where', *fields, *more, *files,
         '\n-- the whole table\nexample-table : ExampleTable',
         'unfolding computes found numberOf refusals ' + names,
-        'example-table = record {', *proofs, *refused, '}', ''])
+        'example-table = record {', *proofs, *refused, *read, '}', ''])
 
 
 def main():

@@ -4,8 +4,8 @@ use mathlib.Core.Bool.{true}
 use mathlib.Core.List.{List, _++_}
 use Prim.Native.Nat.{ℕ, zero, suc, _+_, _-_, _*_, _≤_, _<_}
 use native.Mathlib.Omega.{arith}
-use lib.ListN.{length, getD, take, drop, replicate, length-append, length-drop, length-map, length-replicate, getD-replicate, take-append-drop, List·getD-append}
-use lib.Seq.{slice, ext-getD, length-take-le, take-append-le, take-take, getD-take, getD-drop}
+use lib.ListN.{length, getD, take, drop, replicate, length-append, length-drop, length-map, take-append-drop, List·getD-append}
+use lib.Seq.{slice, ext-getD, take-append-le, take-take, getD-take, getD-drop}
 use borrow.Rule.Slice.PartMut.{postOf, mid-len}
 use Rattle.basis.specs.Lists.{memb, upFrom}
 use Rattle.basis.proofs.Index.{getD-right, getD-map-upFrom}
@@ -23,7 +23,6 @@ use Rattle.laws.proofs.Legal.{node-in}
 use Rattle.laws.proofs.Lent.{zeroed-is}
 use Rattle.laws.proofs.Levels.{part-listed, part-node, part-same}
 use Rattle.laws.proofs.Refused.{passed, starts-of, not-refused}
-use Rattle.search.specs.Answer.{Searched}
 use Rattle.search.specs.Queue.{Queued}
 use Rattle.search.proofs.Stores.{take-replicate}
 use Rattle.sorting.specs.Nodes.{Nodes}
@@ -32,7 +31,6 @@ use Rattle.ends.specs.Passes.{half}
 use Rattle.ends.specs.declared.shape.Found.{Found}
 use Rattle.ends.proofs.Areas.{front-lent, front-back, slice-front, slice-shift}
 use Rattle.piecing.specs.Given.{Given, firstOf, endsOf, merged}
-use Rattle.piecing.specs.Seek.{at}
 use Rattle.piecing.specs.Starts.{membersOf}
 use Rattle.piecing.proofs.Storing.{member-in}
 use Rattle.levels.specs.Part.{PartGiven, partLevelsOf}
@@ -41,7 +39,7 @@ use Rattle.levels.proofs.Firsts.{first-range, first-own, same-ends}
 use Rattle.levels.proofs.Scratch.{behind-front}
 
 -- a word of zeros, or past them
-zeros-at : (k i : ℕ) → getD {A = ℕ} (replicate k 0) i 0 ≡ 0
+pub zeros-at : (k i : ℕ) → getD {A = ℕ} (replicate k 0) i 0 ≡ 0
 zeros-at zero i = refl
 zeros-at (suc k) zero = refl
 zeros-at (suc k) (suc i) = zeros-at k i

@@ -1,24 +1,34 @@
 -- The tests of the calls as they run, and what a refused and an accepted call answers and leaves. Assumes nothing.
 use mathlib.Core.Path.{_≡_, refl, sym, ap, _∙_}
-use mathlib.Core.Bool.{true, false}
+use mathlib.Core.Bool.{Bool, true, false, _||_}
 use mathlib.Core.List.{List, _++_}
-use Prim.Native.Nat.{ℕ, zero, suc, _*_, _≤_, _<_}
+use Prim.Native.Nat.{ℕ, zero, suc, _-_, _*_, _≤_, _<_}
 use native.Mathlib.Omega.{arith}
 use lib.ListN.{length, drop}
 use lib.Dec.{eqb, ltb}
+use borrow.Rule.Slice.PartMut.{postOf}
 use borrow.Author.Tests.{ne-eqb, lt-ltb, le-ltb, eqb-false, ltb-false}
-use Rattle.basis.proofs.Logic.{or-none}
+use Rattle.basis.proofs.Logic.{or-none, or-left, or-right, or-neither}
 use Rattle.spec.specs.CallsLevels.{levelFigures, rootedRefusal, rootedAnswer, rootedLevels, partScratch, partRefusal, endsAnswer, endsScratch}
+use Rattle.spec.specs.CallsLevels.{combinedFigures, combinedRefusal, combinedAnswer, combinedLevels, combinedScratch}
+use Rattle.spec.specs.Combined.{combined}
 use Rattle.spec.specs.Ends.{ends}
-use Rattle.spec.specs.Graph.{graphOf, sizeOf, outside}
-use Rattle.spec.specs.Lent.{accepted, refused, outcome, filled, zeroed, scratchAfter, wordsPerNode}
+use Rattle.spec.specs.Graph.{Graph, graphOf, sizeOf, graphRefusal, outside}
+use Rattle.spec.specs.Lent.{accepted, refused, outcome, filled, zeroed, scratchAfter, wordsPerNode, short}
 use Rattle.spec.specs.Levels.{levels, levelList}
+use Rattle.spec.specs.Refusal.{refuse, _orElse_}
+use Rattle.laws.specs.Legal.{Node}
+use Rattle.laws.proofs.Combined.{combined-of}
+use Rattle.laws.proofs.Ends.{ends-of}
 use Rattle.laws.proofs.Figures.{length-levelList}
 use Rattle.laws.proofs.Lent.{filled-none}
 use Rattle.graph.specs.Facts.{LegalLists, RefusedLists}
 use Rattle.graph.proofs.Answers.{refused-first, legal-next}
+use Rattle.ends.proofs.Areas.{front-back}
+use Rattle.levels.specs.Part.{partLevelsOf}
+use Rattle.levels.specs.declared.shape.PartLevels.{PartLevels}
 
--- ---- a call that is refused by c: its answer, and a buffer untouched
+-- ---- a call that is refused by c, or accepted: its answer, a buffer, the scratch
 
 answer-refused : {A : Type 0} (code c : ℕ) (a : A) → code ≡ c → 1 ≤ c → refused c ≡ outcome code a
 unfolding outcome
@@ -34,6 +44,45 @@ answer-accepted : {A : Type 0} (code : ℕ) (a : A) → code ≡ 0 → accepted 
 unfolding outcome
 answer-accepted code a e = rw e
 
+filled-accepted : (code n : ℕ) (new old : List ℕ) → code ≡ 0 → length new ≡ n → new ++ drop n old ≡ filled code new old
+filled-accepted code n new old e l = sym (filled-none code new old e ∙ ap (λ (k : ℕ). new ++ drop k old) l)
+
+scratch-refused : (code c : ℕ) (S W : List ℕ) → code ≡ c → 1 ≤ c → W ≡ partScratch code S W
+unfolding partScratch scratchAfter
+scratch-refused zero c S W e l = absurd (omega arith)
+scratch-refused (suc d) c S W e l = rw (ne-eqb (suc d) 0 (λ q. omega arith))
+
+scratch-accepted : (code : ℕ) (S W : List ℕ) → code ≡ 0 → zeroed (wordsPerNode * sizeOf S) W ≡ partScratch code S W
+unfolding partScratch scratchAfter
+scratch-accepted code S W e = rw e
+
+-- ---- a node that was tested
+
+pub node-inside : (n p : ℕ) → outside n p ≡ false → (1 ≤ p) × (p ≤ n)
+node-inside n p h =
+    let w = or-none (eqb p 0) (ltb n p) h in
+    let z = eqb-false p 0 (w .0) in
+    (omega arith, ltb-false n p (w .1))
+
+-- ---- the order of the tests: 1 to 4, then 5 for a short buffer, then 6 for a node outside
+
+record Tests (S N : List ℕ) (b o : Bool) (code : ℕ) : Type 0 where
+  is : code ≡ graphRefusal S N orElse refuse b 5 orElse refuse o 6
+
+module _ {S N : List ℕ} {b o : Bool} {code : ℕ} (T : Tests S N b o code) where
+  by-lists : {c : ℕ} → RefusedLists S N c → code ≡ c
+  by-lists R = T .is ∙ refused-first R (refuse b 5 orElse refuse o 6)
+
+  module _ (G : LegalLists S N) where
+    by-short : b ≡ true → code ≡ 5
+    by-short s = T .is ∙ legal-next G (refuse b 5 orElse refuse o 6) ∙ rw s
+
+    by-outside : b ≡ false → o ≡ true → code ≡ 6
+    by-outside s h = T .is ∙ legal-next G (refuse b 5 orElse refuse o 6) ∙ rw (s, h)
+
+    by-none : b ≡ false → o ≡ false → code ≡ 0
+    by-none s h = T .is ∙ legal-next G (refuse b 5 orElse refuse o 6) ∙ rw (s, h)
+
 -- ---- rooted levels
 
 module _ (S N : List ℕ) (root : ℕ) (B : List ℕ) where
@@ -45,42 +94,36 @@ module _ (S N : List ℕ) (root : ℕ) (B : List ℕ) where
   unfolding rootedAnswer rootedLevels
   refusal c e l = record { answer = answer-refused (rootedRefusal S N root B) c _ e l; untouched = filled-refused (rootedRefusal S N root B) c _ B e l }
 
+  rooted-tests : Tests S N (short B (sizeOf S)) (outside (sizeOf S) root) (rootedRefusal S N root B)
+  unfolding rootedRefusal
+  rooted-tests = record { is = refl }
+
   -- 1 to 4
   pub rooted-lists : {c : ℕ} → RefusedLists S N c → RootedRefused c
-  unfolding rootedRefusal
-  rooted-lists {c} R = refusal c (refused-first R _) (R .some)
+  rooted-lists {c} R = refusal c (by-lists rooted-tests R) (R .some)
 
   module _ (G : LegalLists S N) where
     pub rooted-short : length B < sizeOf S → RootedRefused 5
-    unfolding rootedRefusal
-    rooted-short h = refusal 5 (legal-next G _ ∙ rw (lt-ltb (length B) (sizeOf S) h)) (omega arith)
+    rooted-short h = refusal 5 (by-short rooted-tests G (lt-ltb (length B) (sizeOf S) h)) (omega arith)
 
     module _ (room : sizeOf S ≤ length B) where
       pub rooted-outside : outside (sizeOf S) root ≡ true → RootedRefused 6
-      unfolding rootedRefusal
-      rooted-outside o = refusal 6 (legal-next G _ ∙ rw (le-ltb (length B) (sizeOf S) room, o)) (omega arith)
+      rooted-outside h = refusal 6 (by-outside rooted-tests G (le-ltb (length B) (sizeOf S) room) h) (omega arith)
 
       rooted-none : outside (sizeOf S) root ≡ false → rootedRefusal S N root B ≡ 0
-      unfolding rootedRefusal
-      rooted-none o = legal-next G _ ∙ rw (le-ltb (length B) (sizeOf S) room, o)
+      rooted-none h = by-none rooted-tests G (le-ltb (length B) (sizeOf S) room) h
 
       pub rooted-answer : outside (sizeOf S) root ≡ false → accepted (levelFigures (levels (graphOf S N) root)) ≡ rootedAnswer S N root B
       unfolding rootedAnswer
-      rooted-answer o = answer-accepted (rootedRefusal S N root B) _ (rooted-none o)
+      rooted-answer h = answer-accepted (rootedRefusal S N root B) _ (rooted-none h)
 
       pub rooted-levels : outside (sizeOf S) root ≡ false → levelList (graphOf S N) (levels (graphOf S N) root) ++ drop (sizeOf S) B ≡ rootedLevels S N root B
       unfolding rootedLevels
-      rooted-levels o =
+      rooted-levels h =
           let g = graphOf S N in
-          sym (filled-none (rootedRefusal S N root B) (levelList g (levels g root)) B (rooted-none o)
-          ∙ ap (λ (n : ℕ). levelList g (levels g root) ++ drop n B) (length-levelList g (levels g root)))
+          filled-accepted (rootedRefusal S N root B) (sizeOf S) (levelList g (levels g root)) B (rooted-none h) (length-levelList g (levels g root))
 
 -- ---- the ends
-
-scratch-refused : (code c : ℕ) (S W : List ℕ) → code ≡ c → 1 ≤ c → W ≡ partScratch code S W
-unfolding partScratch scratchAfter
-scratch-refused zero c S W e l = absurd (omega arith)
-scratch-refused (suc d) c S W e l = rw (ne-eqb (suc d) 0 (λ q. omega arith))
 
 module _ (S N : List ℕ) (node : ℕ) (W : List ℕ) where
   pub record EndsRefused (c : ℕ) : Type 0 where
@@ -91,37 +134,90 @@ module _ (S N : List ℕ) (node : ℕ) (W : List ℕ) where
   unfolding endsAnswer endsScratch
   ends-refusal c e l = record { answer = answer-refused (partRefusal S N node W) c _ e l; untouched = scratch-refused (partRefusal S N node W) c S W e l }
 
+  ends-tests : Tests S N (short W (wordsPerNode * sizeOf S)) (outside (sizeOf S) node) (partRefusal S N node W)
+  unfolding partRefusal
+  ends-tests = record { is = refl }
+
   -- 1 to 4
   pub ends-lists : {c : ℕ} → RefusedLists S N c → EndsRefused c
-  unfolding partRefusal
-  ends-lists {c} R = ends-refusal c (refused-first R _) (R .some)
+  ends-lists {c} R = ends-refusal c (by-lists ends-tests R) (R .some)
 
   module _ (G : LegalLists S N) where
     pub ends-short : length W < wordsPerNode * sizeOf S → EndsRefused 5
-    unfolding partRefusal
-    ends-short h = ends-refusal 5 (legal-next G _ ∙ rw (lt-ltb (length W) (wordsPerNode * sizeOf S) h)) (omega arith)
+    ends-short h = ends-refusal 5 (by-short ends-tests G (lt-ltb (length W) (wordsPerNode * sizeOf S) h)) (omega arith)
 
     module _ (room : wordsPerNode * sizeOf S ≤ length W) where
       pub ends-outside : outside (sizeOf S) node ≡ true → EndsRefused 6
-      unfolding partRefusal
-      ends-outside o = ends-refusal 6 (legal-next G _ ∙ rw (le-ltb (length W) (wordsPerNode * sizeOf S) room, o)) (omega arith)
+      ends-outside h = ends-refusal 6 (by-outside ends-tests G (le-ltb (length W) (wordsPerNode * sizeOf S) room) h) (omega arith)
 
       ends-none : outside (sizeOf S) node ≡ false → partRefusal S N node W ≡ 0
-      unfolding partRefusal
-      ends-none o = legal-next G _ ∙ rw (le-ltb (length W) (wordsPerNode * sizeOf S) room, o)
+      ends-none h = by-none ends-tests G (le-ltb (length W) (wordsPerNode * sizeOf S) room) h
 
       pub ends-answer : outside (sizeOf S) node ≡ false → accepted (ends (graphOf S N) node) ≡ endsAnswer S N node W
       unfolding endsAnswer
-      ends-answer o = answer-accepted (partRefusal S N node W) _ (ends-none o)
+      ends-answer h = answer-accepted (partRefusal S N node W) _ (ends-none h)
 
       pub ends-scratch : outside (sizeOf S) node ≡ false → zeroed (wordsPerNode * sizeOf S) W ≡ endsScratch S N node W
-      unfolding endsScratch partScratch scratchAfter
-      ends-scratch o = rw (ends-none o)
+      unfolding endsScratch
+      ends-scratch h = scratch-accepted (partRefusal S N node W) S W (ends-none h)
 
--- ---- what was tested
+-- ---- combined levels
 
-pub node-inside : (n p : ℕ) → outside n p ≡ false → (1 ≤ p) × (p ≤ n)
-node-inside n p h =
-    let w = or-none (eqb p 0) (ltb n p) h in
-    let z = eqb-false p 0 (w .0) in
-    (omega arith, ltb-false n p (w .1))
+module _ (S N : List ℕ) (node : ℕ) (B W : List ℕ) where
+  pub record CombinedRefused (c : ℕ) : Type 0 where
+    pub answer : refused c ≡ combinedAnswer S N node B W
+    pub untouched : B ≡ combinedLevels S N node B W
+    pub kept : W ≡ combinedScratch S N node B W
+
+  combined-refusal : (c : ℕ) → combinedRefusal S N node B W ≡ c → 1 ≤ c → CombinedRefused c
+  unfolding combinedAnswer combinedLevels combinedScratch
+  combined-refusal c e l =
+      let code = combinedRefusal S N node B W in
+      record { answer = answer-refused code c _ e l; untouched = filled-refused code c _ B e l; kept = scratch-refused code c S W e l }
+
+  abbrev g : Graph
+  g = graphOf S N
+
+  combined-tests : Tests S N (short B (sizeOf S) || short W (wordsPerNode * sizeOf S)) (outside (sizeOf S) node) (combinedRefusal S N node B W)
+  unfolding combinedRefusal
+  combined-tests = record { is = refl }
+
+  -- 1 to 4
+  pub combined-lists : {c : ℕ} → RefusedLists S N c → CombinedRefused c
+  combined-lists {c} R = combined-refusal c (by-lists combined-tests R) (R .some)
+
+  module _ (G : LegalLists S N) where
+    pub combined-short-levels : length B < sizeOf S → CombinedRefused 5
+    combined-short-levels h = combined-refusal 5 (by-short combined-tests G (or-left (short W (wordsPerNode * sizeOf S)) (lt-ltb (length B) (sizeOf S) h))) (omega arith)
+
+    pub combined-short-scratch : length W < wordsPerNode * sizeOf S → CombinedRefused 5
+    combined-short-scratch h = combined-refusal 5 (by-short combined-tests G (or-right (short B (sizeOf S)) (lt-ltb (length W) (wordsPerNode * sizeOf S) h))) (omega arith)
+
+    module _ (room : sizeOf S ≤ length B) (words : wordsPerNode * sizeOf S ≤ length W) where
+      enough : short B (sizeOf S) || short W (wordsPerNode * sizeOf S) ≡ false
+      enough = or-neither (le-ltb (length B) (sizeOf S) room) (le-ltb (length W) (wordsPerNode * sizeOf S) words)
+
+      pub combined-outside : outside (sizeOf S) node ≡ true → CombinedRefused 6
+      combined-outside h = combined-refusal 6 (by-outside combined-tests G enough h) (omega arith)
+
+      module _ (h : outside (sizeOf S) node ≡ false) where
+        combined-none : combinedRefusal S N node B W ≡ 0
+        combined-none = by-none combined-tests G enough h
+
+        pub combined-answer : {f : PartLevels} → f ≡ partLevelsOf g (ends g node) → accepted (record { k = f .k; width = f .width }) ≡ combinedAnswer S N node B W
+        unfolding combinedAnswer combinedFigures
+        combined-answer e = ap (λ (f : PartLevels). accepted (record { k = f .k; width = f .width })) e ∙ answer-accepted (combinedRefusal S N node B W) _ combined-none
+
+        -- the front is new, the excess stays
+        pub combined-levels : {X : List ℕ} → X ≡ combined g (ends g node) → X ++ postOf 0 (sizeOf S - 0) B ≡ combinedLevels S N node B W
+        unfolding combinedLevels
+        combined-levels {X} x =
+            let r = node-inside (sizeOf S) node h in
+            let M : Node g node = record { low = r .0; high = r .1 } in
+            front-back (sizeOf S) B X ∙ ap (λ (l : List ℕ). l ++ drop (sizeOf S) B) x
+            ∙ filled-accepted (combinedRefusal S N node B W) (sizeOf S) (combined g (ends g node)) B combined-none
+            (combined-of (G .graph) M (ends-of (G .graph) M) .size)
+
+        pub combined-scratch : {X : List ℕ} → X ≡ zeroed (wordsPerNode * sizeOf S) W → X ≡ combinedScratch S N node B W
+        unfolding combinedScratch
+        combined-scratch x = x ∙ scratch-accepted (combinedRefusal S N node B W) S W combined-none

@@ -4,15 +4,20 @@ use mathlib.Core.Bool.{true}
 use mathlib.Core.List.{List}
 use Prim.Native.Nat.{ℕ, _*_, _≤_, _<_}
 use lib.ListN.{length, take, replicate}
-use Rattle.basis.specs.Lists.{memb}
+use lib.Dec.{ltb}
+use Rattle.basis.specs.Lists.{filterb, memb, upFrom}
 use Rattle.spec.specs.Combined.{combined, widthOf}
 use Rattle.spec.specs.Ends.{Ends}
-use Rattle.spec.specs.Graph.{Graph}
+use Rattle.spec.specs.Graph.{Graph, ofNode}
 use Rattle.spec.specs.Levels.{part}
 use Rattle.piecing.specs.Given.{firstOf}
 use Rattle.piecing.specs.Seek.{at}
 use Rattle.piecing.specs.Starts.{membersOf}
 use Rattle.levels.specs.declared.shape.PartLevels.{PartLevels}
+
+-- the nodes that have a level in the first n of the words W, rising
+abbrev pub placed : ℕ → List ℕ → List ℕ
+placed n W = filterb (λ q. ltb 0 (ofNode W q)) (upFrom 1 n)
 
 -- the members of one part stand from..to in the sixth area of n words, the five in front are 0, and so are the levels of its nodes
 pub record PartGiven (g : Graph) (from to : ℕ) (W L : List ℕ) : Type 0 where

@@ -19,3 +19,8 @@ pub enum EndsAnswer {
         passes: u16,
     },
 }
+
+pub enum CombinedAnswer {
+    Refused(u16),
+    Levels { k: u16, width: u16 },
+}

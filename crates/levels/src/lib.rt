@@ -7,8 +7,9 @@ pub mod shape;
 
 ghost use mathlib.Core.Path.{_≡_};
 ghost use Rattle.spec.specs.Graph.{outside};
-ghost use Rattle.spec.specs.CallsLevels.{rootedAnswer, rootedLevels, endsAnswer, endsScratch};
-ghost use Rattle.levels.specs.Answers.{rootedMeaning, endsMeaning};
+ghost use Rattle.spec.specs.CallsLevels.{rootedAnswer, rootedLevels, endsAnswer, endsScratch, combinedAnswer, combinedLevels, combinedScratch};
+ghost use Rattle.levels.specs.Answers.{rootedMeaning, endsMeaning, combinedMeaning};
+use answer::CombinedAnswer;
 use answer::EndsAnswer;
 use answer::RootedAnswer;
 use graph::Adjacency;
@@ -77,6 +78,40 @@ pub fn ends(starts: &[u16], neighbours: &[u16], node: u16, scratch: &mut [u16]) 
                 widthv: f.widthv,
                 widthu: f.widthu,
                 passes: f.passes,
+            }
+        }
+    }
+}
+
+// The combined levels of the part of `node`: k and the greatest level count; the levels by old number in the n words lent.
+pub fn combined_levels(
+    starts: &[u16],
+    neighbours: &[u16],
+    node: u16,
+    levels: &mut [u16],
+    scratch: &mut [u16],
+) -> CombinedAnswer
+    ensures { λ r. ⌜ combinedMeaning r ≡ combinedAnswer (now (starts .entry)) (now (neighbours .entry)) node (now (levels .entry)) (now (scratch .entry)) ⌝ }
+    ensures { λ _. ⌜ now (levels .exit) ≡ combinedLevels (now (starts .entry)) (now (neighbours .entry)) node (now (levels .entry)) (now (scratch .entry)) ⌝ }
+    ensures { λ _. ⌜ now (scratch .exit) ≡ combinedScratch (now (starts .entry)) (now (neighbours .entry)) node (now (levels .entry)) (now (scratch .entry)) ⌝ }
+{
+    match graph::test_adjacency(starts, neighbours) {
+        Adjacency::Refused(c) => CombinedAnswer::Refused(c),
+        Adjacency::Legal => {
+            let n = starts.len() - 1;
+            if levels.len() < n {
+                return CombinedAnswer::Refused(5);
+            }
+            if scratch.len() < part::WORDS_PER_NODE * n {
+                return CombinedAnswer::Refused(5);
+            }
+            if no_node(n, node) {
+                return CombinedAnswer::Refused(6);
+            }
+            let f = part::find_levels(starts, neighbours, node, &mut levels[0..n], scratch);
+            CombinedAnswer::Levels {
+                k: f.k,
+                width: f.width,
             }
         }
     }

@@ -2,10 +2,15 @@
 ghost use mathlib.Core.Path.{_≡_};
 ghost use Prim.Native.Nat.{_*_, _≤_};
 ghost use lib.ListN.{length};
+ghost use Rattle.spec.specs.Combined.{combined};
 ghost use Rattle.spec.specs.Ends.{ends};
 ghost use Rattle.spec.specs.Graph.{graphOf, sizeOf, graphRefusal};
 ghost use Rattle.spec.specs.Lent.{zeroed, wordsPerNode};
 ghost use Rattle.ends.specs.Answer.{foundOf};
+ghost use Rattle.levels.specs.Part.{partLevelsOf};
+use crate::legal::combine_part;
+use crate::legal::gather_part;
+use crate::shape::PartLevels;
 use ends::legal::ends_from;
 use ends::legal::first_of_part;
 use ends::shape::Found;
@@ -27,6 +32,31 @@ pub(crate) fn find_ends(starts: &[u16], neighbours: &[u16], node: u16, scratch: 
     clear(scratch, WORDS_PER_NODE * n);
     let v = first_of_part(starts, neighbours, node, &mut scratch[0..half]);
     let f = ends_from(starts, neighbours, v, &mut scratch[0..half + half]);
+    clear(scratch, WORDS_PER_NODE * n);
+    f
+}
+
+// The combined levels of the part of `node`, in scratch and n levels that are set to 0 before; the scratch is afterwards too.
+pub(crate) fn find_levels(
+    starts: &[u16],
+    neighbours: &[u16],
+    node: u16,
+    levels: &mut [u16],
+    scratch: &mut [u16],
+) -> PartLevels
+    requires { ⌜ graphRefusal (now starts) (now neighbours) ≡ 0 ⌝ }
+    requires { ⌜ (1 ≤ node) × (node ≤ sizeOf (now starts)) ⌝ }
+    requires { ⌜ length (now levels) ≡ sizeOf (now starts) ⌝ }
+    requires { ⌜ wordsPerNode * sizeOf (now starts) ≤ length (now scratch) ⌝ }
+    ensures { λ r. ⌜ r ≡ partLevelsOf (graphOf (now (starts .entry)) (now (neighbours .entry))) (ends (graphOf (now (starts .entry)) (now (neighbours .entry))) node) ⌝ }
+    ensures { λ _. ⌜ now (levels .exit) ≡ combined (graphOf (now (starts .entry)) (now (neighbours .entry))) (ends (graphOf (now (starts .entry)) (now (neighbours .entry))) node) ⌝ }
+    ensures { λ _. ⌜ now (scratch .exit) ≡ zeroed (wordsPerNode * sizeOf (now (starts .entry))) (now (scratch .entry)) ⌝ }
+{
+    let n = starts.len() - 1;
+    clear(levels, n);
+    clear(scratch, WORDS_PER_NODE * n);
+    let count = gather_part(starts, neighbours, node, scratch);
+    let f = combine_part(starts, neighbours, scratch, levels, 0, count);
     clear(scratch, WORDS_PER_NODE * n);
     f
 }

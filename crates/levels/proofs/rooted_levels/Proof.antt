@@ -7,13 +7,13 @@ use native.Mathlib.Omega.{arith}
 use lib.ListN.{length, drop}
 use lib.Seq.{length-take-le}
 use borrow.Author.Needs.{needs}
-use borrow.Rule.Slice.PartMut.{postOf, post-is}
 use Rattle.spec.specs.CallsLevels.{levelFigures}
 use Rattle.spec.specs.Graph.{sizeOf, outside}
 use Rattle.spec.specs.Lent.{accepted}
 use Rattle.spec.specs.Levels.{levels}
 use Rattle.graph.specs.Facts.{LegalLists}
 use Rattle.graph.proofs.Answers.{legal-lists, refused-lists}
+use Rattle.ends.proofs.Areas.{front-back}
 use Rattle.levels.proofs.Refusals.{rooted-lists, rooted-short, rooted-outside, rooted-answer, rooted-levels, node-inside}
 use Rattle.levels.proofs.rooted_levels.Statement.{statement}
 use Rattle.levels.proofs.rooted_levels.Tie as tie
@@ -86,10 +86,6 @@ returns-3 c =
 same-length : tie.Need-same-length
 same-length c = search needs
 
--- the front is new, the excess stays
-excess : (n : ℕ) (l new : List ℕ) → new ++ postOf 0 (n - 0) l ≡ new ++ drop n l
-excess n l new = ap (λ (m : List ℕ). new ++ m) (post-is 0 n l (omega arith))
-
 returns-4 : tie.Need-returns-4
 unfolding levelFigures
 returns-4 c =
@@ -102,7 +98,7 @@ returns-4 c =
     let new = c .before .before .scan .last .1 .1 .1 .0 in (
       ap (λ f. accepted (record { depth = f .depth; width = f .width; reached = f .reached })) (w .0)
           ∙ rooted-answer (s .args .starts .now) (s .args .neighbours .now) (s .args .root) (s .args .levels .now) L (e .if1 .left) o,
-      excess n (s .args .levels .now) new ∙ ap (λ (l : List ℕ). l ++ drop n (s .args .levels .now)) (w .1)
+      front-back n (s .args .levels .now) new ∙ ap (λ (l : List ℕ). l ++ drop n (s .args .levels .now)) (w .1)
           ∙ rooted-levels (s .args .starts .now) (s .args .neighbours .now) (s .args .root) (s .args .levels .now) L (e .if1 .left) o,
     )
 

@@ -1,0 +1,5 @@
+pub mod Stored
+pub mod Mirrored
+pub mod Members
+pub mod Arranged
+pub mod Sequenced

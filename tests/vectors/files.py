@@ -1,0 +1,291 @@
+#!/usr/bin/env python3
+"""Files for the program `reading_test`, valid and damaged, and what the reading of each must answer and leave.
+
+  files.py            write crates/reading_test/stdin and crates/reading_test/stdout
+  files.py --check    say whether the two stand as this script makes them
+  files.py --show K   print file K (line K of stdout), its kind and its line
+
+The input has for each file its length, four bytes low byte first, and its bytes. A line has 'entries' and their count or 'refused' and the
+number, then for each of the four lent lists (words, starts, neighbours, scratch) its words up to the last that isn't as it was lent. All
+expected lines come from tests/reference.
+"""
+
+import os
+import sys
+
+HERE = os.path.dirname(os.path.abspath(__file__))
+TOP = os.path.dirname(os.path.dirname(HERE))
+sys.path[:0] = [os.path.join(TOP, 'tests', 'reference'), HERE]
+
+import calls
+from listing import element_refusal, header_refusal, nodes_of_file, words_after_header
+from mesh import NODE_COUNT
+from vectors import Draw, changed, keep, number, of_words, pattern, shown, tally
+
+CRATE = os.path.join(TOP, 'crates', 'reading_test')
+
+# What the program lends: a little more than any file needs.
+LENT = [pattern(size) for size in (35000, 4100, 32780, 4100)]
+
+
+# What is expected.
+
+def read(file, words, starts, neighbours, scratch):
+    """The listing's steps up to the two lists; 5 can't be, as enough is lent."""
+    refusal = header_refusal(file)
+    if refusal:
+        return calls.refused(refusal)
+    calls.put(words, words_after_header(file))
+    refusal = element_refusal(file)
+    if refusal:
+        return calls.refused(refusal)
+    return calls.mesh(nodes_of_file(file), words_after_header(file), starts, neighbours, scratch)
+
+
+def expected(file):
+    """The answer, as 'refused 9' or 'entries 8', and the whole line."""
+    lent = [list(buffer) for buffer in LENT]
+    state, value = read(file, *lent)
+    answer = 'refused %d' % value if state == 'refused' else 'entries %d' % value[0]
+    return answer, answer + ''.join(shown(changed(now, then)) for now, then in zip(lent, LENT))
+
+
+# Files.
+
+def header(n, count, mark=b'GRD', version=1):
+    return mark + of_words([version, n, count])
+
+
+def file_of(n, elements, **words):
+    """A file of the elements, each a kind and its nodes."""
+    return header(n, len(elements), **words) + b''.join(of_words(element) for element in elements)
+
+
+def bars(edges):
+    return [[1, p, q] for p, q in edges]
+
+
+SAMPLE = file_of(5, bars([(1, 2), (1, 4), (2, 3), (3, 5)]))
+MIXED = file_of(10, [[10, 3, 1, 4, 10, 5, 9, 2, 6, 8, 7], [2, 10, 1, 9], [9, 1, 2, 3, 4, 5, 6, 7, 8]])
+ALONE = file_of(3, [])
+
+
+def changed_bytes():
+    for file in (SAMPLE, MIXED):
+        for at in range(len(file)):
+            old = file[at]
+            values = {0, 1, 4, 6, 9, 11, 255, (old + 1) % 256, (old - 1) % 256, old ^ 128}
+            for value in sorted(values - {old}):
+                yield file[:at] + bytes([value]) + file[at + 1:]
+
+
+def truncations():
+    for file in (SAMPLE, MIXED, ALONE):
+        for size in range(len(file)):
+            yield file[:size]
+
+
+def extensions():
+    for file in (SAMPLE, MIXED, ALONE):
+        yield file
+        for value in (0, 1, 255):
+            for size in range(1, 9):
+                yield file + bytes([value]) * size
+        yield file + of_words([1, 1, 3])
+        yield file + of_words([1, 1, 3, 0])
+
+
+def counts():
+    """Wrong and right element counts."""
+    for file in (SAMPLE, MIXED, ALONE):
+        for count in list(range(10)) + [255, 256, 1025, 65535]:
+            yield file[:7] + of_words([count]) + file[9:]
+
+
+def kinds():
+    """Each kind as the only element: whole, short, long, at the file's end; nodes at the limit and beyond."""
+    for kind in list(range(13)) + [255, 256, 257, 266, 65535]:
+        size = NODE_COUNT.get(kind, 4)
+        nodes = list(range(1, size + 1))
+        yield file_of(size, [[kind] + nodes])
+        yield file_of(size + 2, [[kind] + nodes[::-1]])
+        yield file_of(4096, [[kind] + [4097 - p for p in nodes]])
+        yield file_of(size - 1, [[kind] + nodes])
+        yield file_of(size, [[kind] + nodes[:-1]])
+        yield file_of(size, [[kind] + nodes])[:-1]
+        yield file_of(size, [[kind] + nodes + [1]])
+        yield file_of(size, [[kind]])
+        yield file_of(size, [[kind]])[:-1]
+        yield file_of(size, [[kind] + nodes, [kind] + nodes])
+
+
+def wrong_nodes():
+    """Each kind with one node 0, above n or repeated, at each place."""
+    for kind, size in NODE_COUNT.items():
+        nodes = list(range(1, size + 1))
+        for i in range(size):
+            for value in [0, size + 1, 256 + nodes[i], 65535] + nodes[:i]:
+                yield file_of(size, [[kind] + nodes[:i] + [value] + nodes[i + 1:]])
+
+
+def sizes():
+    """n at the limits, with and without elements that reach to it."""
+    for n in (0, 1, 2, 255, 256, 257, 4095, 4096, 4097, 4352, 32768, 65535):
+        yield file_of(n, [])
+        yield file_of(n, bars([(1, 2)]))
+        yield file_of(n, bars([(1, n)]))
+        yield file_of(n, bars([(n, 1), (max(n, 1) - 1, n)]))
+        yield file_of(n, bars([(1, 2), (n, min(n + 1, 65535))]))
+
+
+# The last two have words or bytes behind their elements; their counts say how many elements there are.
+BODIES = [
+    ([[1, 1, 2], [2, 3, 4, 5]], b''),
+    ([], b''),
+    ([[0, 1, 2]], b''),
+    ([[1, 0, 2]], b''),
+    ([[1, 1, 2], [1, 2]], b''),
+    ([[1, 1]], b'\x02'),
+    ([[11, 0, 0]], b''),
+    ([[1, 3, 3], [12, 1, 2]], b''),
+    ([[12, 1, 2], [1, 3, 3]], b''),
+    ([[3, 1, 1, 0]], b''),
+    ([[1, 1, 2], [10, 0]], b''),
+    ([[1, 1, 2]], of_words([1, 9, 9])),
+    ([[1, 2, 2]], b'\0'),
+]
+
+
+def orders():
+    """Two or more faults at once: which is found first."""
+    for mark in (b'GRD', b'GRX'):
+        for version in (1, 0, 257):
+            for n in (5, 0, 4097):
+                for elements, more in BODIES:
+                    yield file_of(n, elements, mark=mark, version=version) + more
+
+
+def grid_blocks():
+    """Node lists of ten that share at most one node two by two: 64 by 64 nodes, along rows, then along columns."""
+    for across in (0, 1):
+        for line in range(64):
+            for at in range(0, 60, 10):
+                places = [(line, at + t) if across == 0 else (at + t, line) for t in range(10)]
+                yield [64 * r + c + 1 for r, c in places]
+
+
+def loose_pairs():
+    """Pairs of nodes that no block has."""
+    for line in range(64):
+        for c in (60, 62):
+            yield (64 * line + c + 1, 64 * line + c + 2)
+
+
+def with_entries(count):
+    """Elements with exactly this many neighbour entries in 4,096 nodes: 90 to a block, 2 to a pair."""
+    blocks = min(count // 90, 768)
+    ten = [[10] + nodes for nodes in list(grid_blocks())[:blocks]]
+    return ten + bars(list(loose_pairs())[:(count - 90 * blocks) // 2])
+
+
+def full():
+    """Entry counts about 32,768, and such as a 16-bit counter would take for fewer."""
+    for count in (32766, 32768, 32770, 65534, 65536, 65538, 65628):
+        yield file_of(4096, with_entries(count))
+    most = with_entries(32768)
+    # met again, they count once
+    yield file_of(4096, most + most[:100] + [[1, 2, 1], [1, 1, 2]])
+    yield file_of(4096, most + [[1, 1, 2]])
+    yield file_of(4096, most + [[1, 1, 4096]])
+    # 9, 10 and 12 come before 11
+    over = with_entries(32770)
+    yield file_of(4096, over) + b'\0'
+    yield file_of(4096, over)[:-1]
+    yield file_of(4096, over + [[1, 7, 7]])
+    yield file_of(4096, over + [[0, 7, 7]])
+
+
+def long():
+    """At the limit of 65,535 bytes and beyond it."""
+    edges = [(p, p + d) for d in (1, 64, 65) for p in range(1, 4097 - d)][:10921]
+    most = file_of(4096, bars(edges))
+    yield most
+    yield most[:-1]
+    yield most + b'\0'
+    yield file_of(4096, bars(edges[:-1]) + [[1, 5, 5]])
+    yield header(4096, 0) + bytes(65536 - 9)
+    yield header(4096, 0)[:8] + bytes(70000 - 8)
+
+
+def element(draw, n):
+    kind = draw.one([k for k in NODE_COUNT if NODE_COUNT[k] <= n])
+    return [kind] + draw.some(range(1, n + 1), NODE_COUNT[kind])
+
+
+def mesh_file(draw):
+    n = 1 + draw.below(40)
+    return file_of(n, [] if n == 1 else [element(draw, n) for _ in range(draw.below(9))])
+
+
+def random_valid(draw):
+    for _ in range(500):
+        yield mesh_file(draw)
+
+
+def large_valid(draw):
+    for n, count in ((200, 300), (1000, 700), (4096, 500), (100, 1500)):
+        yield file_of(n, [element(draw, n) for _ in range(count)])
+
+
+def damaged(draw, file):
+    """One damage at a random place."""
+    at, way = draw.below(len(file)), draw.below(6)
+    if way == 0:
+        return file[:at] + bytes([draw.below(256)]) + file[at + 1:]
+    if way == 1:
+        return file[:at] + bytes([draw.below(13)]) + file[at + 1:]
+    if way == 2:
+        return file[:at] + file[at + 1:]
+    if way == 3:
+        return file[:at] + bytes([draw.below(4)]) + file[at:]
+    if way == 4:
+        return file[:at]
+    # two words exchanged
+    words = max(1, (len(file) - 9) // 2)
+    i, j = 9 + 2 * draw.below(words), 9 + 2 * draw.below(words)
+    i, j = min(i, j), max(i, j)
+    return file if i == j else file[:i] + file[j:j + 2] + file[i + 2:j] + file[i:i + 2] + file[j + 2:]
+
+
+def random_damaged(draw):
+    for _ in range(700):
+        file = damaged(draw, mesh_file(draw))
+        yield damaged(draw, file) if file and draw.chance(0.3) else file
+
+
+def all_files():
+    """Pairs of a kind of vector and a file."""
+    draw = Draw(1976)
+    made = [('byte changed', changed_bytes()), ('truncated', truncations()), ('extended', extensions()), ('element count', counts()),
+            ('kind', kinds()), ('node', wrong_nodes()), ('n', sizes()), ('two faults', orders()), ('entries', full()), ('length', long()),
+            ('random valid', random_valid(draw)), ('large valid', large_valid(draw)), ('random damaged', random_damaged(draw))]
+    return [(kind, file) for kind, files in made for file in files]
+
+
+def main(words):
+    vectors = all_files()
+    if words[:1] == ['--show']:
+        kind, file = vectors[int(words[1]) - 1]
+        print('%s, %d bytes: %s\n%s' % (kind, len(file), file[:200].hex(' '), expected(file)[1]))
+        return 0
+    lines = [expected(file) for _, file in vectors]
+    answers = ['accepted' if answer.startswith('entries') else answer for answer, _ in lines]
+    status = keep([(os.path.join(CRATE, 'stdin'), b''.join(number(len(file)) + file for _, file in vectors)),
+                   (os.path.join(CRATE, 'stdout'), ''.join(line + '\n' for _, line in lines).encode('ascii'))], '--check' in words)
+    tally('kinds', [kind for kind, _ in vectors])
+    tally('%d files' % len(vectors), sorted(answers))
+    return status
+
+
+if __name__ == '__main__':
+    sys.exit(main(sys.argv[1:]))

@@ -1,0 +1,101 @@
+"""What the scripts of vectors share: the pattern in lent buffers, their end contents as text, random draws, and the two committed files.
+
+The crate `vectors` writes buffers in the same form.
+"""
+
+import random
+
+MOST_SHOWN = 120
+MODULUS = 4294967291
+
+
+# Lent buffers.
+
+def pattern(count):
+    """Words as a buffer of this length has them before a call; no list of a mesh has a word above 32,768."""
+    return [60000 + i % 5000 for i in range(count)]
+
+
+def changed(buffer, lent):
+    """Words up to the last one that isn't as it was lent."""
+    size, step = len(buffer), 1024
+    while size >= step and buffer[size - step:size] == lent[size - step:size]:
+        size -= step
+    while size > 0 and buffer[size - 1] == lent[size - 1]:
+        size -= 1
+    return buffer[:size]
+
+
+def checksum(words):
+    total = 1
+    for word in words:
+        total = (31 * total + word) % MODULUS
+    return total
+
+
+def shown(words):
+    """Count of the words, then the words, or a checksum of many."""
+    if len(words) > MOST_SHOWN:
+        return '; %d sum %d' % (len(words), checksum(words))
+    return '; ' + ' '.join(str(word) for word in [len(words)] + words)
+
+
+# Numbers of the input.
+
+def number(value):
+    """Four bytes, low byte first."""
+    return value.to_bytes(4, 'little')
+
+
+def of_words(words):
+    """Two bytes a word, low byte first."""
+    return b''.join(word.to_bytes(2, 'little') for word in words)
+
+
+class Draw:
+    """Random draws by random() alone, which stays the same from one Python to the next."""
+
+    def __init__(self, seed):
+        self.source = random.Random(seed)
+
+    def below(self, count):
+        return int(self.source.random() * count)
+
+    def chance(self, part):
+        return self.source.random() < part
+
+    def one(self, values):
+        return values[self.below(len(values))]
+
+    def some(self, values, count):
+        """This many of the values, in random order."""
+        values = list(values)
+        for i in range(count):
+            j = i + self.below(len(values) - i)
+            values[i], values[j] = values[j], values[i]
+        return values[:count]
+
+
+# The two committed files.
+
+def tally(title, names):
+    """One line: how many of each name."""
+    counts = {}
+    for name in names:
+        counts[name] = counts.get(name, 0) + 1
+    print('%s: %s' % (title, ', '.join('%s %d' % item for item in counts.items())))
+
+
+def keep(files, check):
+    """Write the files, or say whether they stand so; the exit status."""
+    status = 0
+    for path, content in files:
+        if check:
+            with open(path, 'rb') as f:
+                if f.read() != content:
+                    print('%s is not what this script makes' % path)
+                    status = 1
+        else:
+            with open(path, 'wb') as f:
+                f.write(content)
+    return status
