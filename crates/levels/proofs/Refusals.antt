@@ -190,12 +190,12 @@ module _ (S N : List ℕ) (node : ℕ) (B W : List ℕ) where
     pub combined-short-levels : length B < sizeOf S → CombinedRefused 5
     combined-short-levels h = combined-refusal 5 (by-short combined-tests G (or-left (short W (wordsPerNode * sizeOf S)) (lt-ltb (length B) (sizeOf S) h))) (omega arith)
 
-    pub combined-short-scratch : length W < wordsPerNode * sizeOf S → CombinedRefused 5
-    combined-short-scratch h = combined-refusal 5 (by-short combined-tests G (or-right (short B (sizeOf S)) (lt-ltb (length W) (wordsPerNode * sizeOf S) h))) (omega arith)
+    pub combined-short-scratch : short W (wordsPerNode * sizeOf S) ≡ true → CombinedRefused 5
+    combined-short-scratch h = combined-refusal 5 (by-short combined-tests G (or-right (short B (sizeOf S)) h)) (omega arith)
 
-    module _ (room : sizeOf S ≤ length B) (words : wordsPerNode * sizeOf S ≤ length W) where
+    module _ (room : sizeOf S ≤ length B) (words : short W (wordsPerNode * sizeOf S) ≡ false) where
       enough : short B (sizeOf S) || short W (wordsPerNode * sizeOf S) ≡ false
-      enough = or-neither (le-ltb (length B) (sizeOf S) room) (le-ltb (length W) (wordsPerNode * sizeOf S) words)
+      enough = or-neither (le-ltb (length B) (sizeOf S) room) words
 
       pub combined-outside : outside (sizeOf S) node ≡ true → CombinedRefused 6
       combined-outside h = combined-refusal 6 (by-outside combined-tests G enough h) (omega arith)

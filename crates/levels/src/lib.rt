@@ -99,10 +99,7 @@ pub fn combined_levels(
         Adjacency::Refused(c) => CombinedAnswer::Refused(c),
         Adjacency::Legal => {
             let n = starts.len() - 1;
-            if levels.len() < n {
-                return CombinedAnswer::Refused(5);
-            }
-            if scratch.len() < part::WORDS_PER_NODE * n {
+            if levels.len() < n || scratch.len() < part::WORDS_PER_NODE * n {
                 return CombinedAnswer::Refused(5);
             }
             if no_node(n, node) {

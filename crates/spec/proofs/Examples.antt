@@ -8,6 +8,7 @@ use Rattle.spec.specs.Graph.{sizeOf}
 use Rattle.spec.specs.Ends.{Ends}
 use Rattle.spec.specs.Numbering.{Forward, Reversed, PartReport, Figures}
 use Rattle.spec.specs.Lent.{Outcome, refused, accepted}
+use Rattle.spec.specs.File.{fileRefusal}
 use Rattle.spec.specs.CallsLevels.{adjacencyAnswer, rootedAnswer, endsAnswer}
 use Rattle.spec.specs.CallsNumbering.{runAnswer, measuresAnswer}
 use Rattle.spec.specs.CallsStore.{EliminationFigures, eliminationAnswer}
@@ -335,6 +336,26 @@ record ExampleTable : Type 0 where
   refusals-9 : refusals (0 ∷ 1 ∷ 2 ∷ []) (2 ∷ 1 ∷ []) 1 (0 ∷ 1 ∷ []) 8 ≡ (0 ∷ 0 ∷ 0 ∷ 0 ∷ 7 ∷ 7 ∷ [])
   -- 8: no mark byte
   refusals-10 : refusals (0 ∷ 1 ∷ 2 ∷ []) (2 ∷ 1 ∷ []) 1 (2 ∷ 1 ∷ []) 8 ≡ (0 ∷ 0 ∷ 0 ∷ 0 ∷ 0 ∷ 8 ∷ [])
+  -- a wrong mark, and no node: 12 before 1
+  file-1 : fileRefusal (71 ∷ 82 ∷ 88 ∷ 1 ∷ 0 ∷ 0 ∷ 0 ∷ 0 ∷ 0 ∷ []) ≡ 12
+  -- a wrong version, and a node too many
+  file-2 : fileRefusal (71 ∷ 82 ∷ 68 ∷ 2 ∷ 0 ∷ 1 ∷ 16 ∷ 0 ∷ 0 ∷ []) ≡ 12
+  -- no node, and an unknown kind: 1 before 9
+  file-3 : fileRefusal (71 ∷ 82 ∷ 68 ∷ 1 ∷ 0 ∷ 0 ∷ 0 ∷ 1 ∷ 0 ∷ 0 ∷ 0 ∷ []) ≡ 1
+  -- an unknown kind as the last word
+  file-4 : fileRefusal (71 ∷ 82 ∷ 68 ∷ 1 ∷ 0 ∷ 2 ∷ 0 ∷ 1 ∷ 0 ∷ 11 ∷ 0 ∷ []) ≡ 9
+  -- a record past the end, seen before its node 0
+  file-5 : fileRefusal (71 ∷ 82 ∷ 68 ∷ 1 ∷ 0 ∷ 2 ∷ 0 ∷ 1 ∷ 0 ∷ 1 ∷ 0 ∷ 0 ∷ 0 ∷ []) ≡ 12
+  -- nodes that are none, then an unknown kind
+  file-6 : fileRefusal (71 ∷ 82 ∷ 68 ∷ 1 ∷ 0 ∷ 2 ∷ 0 ∷ 2 ∷ 0 ∷ 1 ∷ 0 ∷ 0 ∷ 0 ∷ 1 ∷ 0 ∷ 11 ∷ 0 ∷ []) ≡ 10
+  -- a repeated node, and a byte left over: 10 before 12
+  file-7 : fileRefusal (71 ∷ 82 ∷ 68 ∷ 1 ∷ 0 ∷ 2 ∷ 0 ∷ 1 ∷ 0 ∷ 1 ∷ 0 ∷ 2 ∷ 0 ∷ 2 ∷ 0 ∷ 0 ∷ []) ≡ 10
+  -- a byte left over
+  file-8 : fileRefusal (71 ∷ 82 ∷ 68 ∷ 1 ∷ 0 ∷ 2 ∷ 0 ∷ 1 ∷ 0 ∷ 1 ∷ 0 ∷ 1 ∷ 0 ∷ 2 ∷ 0 ∷ 0 ∷ []) ≡ 12
+  -- half a kind word
+  file-9 : fileRefusal (71 ∷ 82 ∷ 68 ∷ 1 ∷ 0 ∷ 2 ∷ 0 ∷ 1 ∷ 0 ∷ 1 ∷ []) ≡ 12
+  -- none of these
+  file-10 : fileRefusal (71 ∷ 82 ∷ 68 ∷ 1 ∷ 0 ∷ 2 ∷ 0 ∷ 1 ∷ 0 ∷ 1 ∷ 0 ∷ 1 ∷ 0 ∷ 2 ∷ 0 ∷ []) ≡ 0
 
 -- the whole table
 example-table : ExampleTable
@@ -363,4 +384,14 @@ example-table = record {
   refusals-8 = refl;
   refusals-9 = refl;
   refusals-10 = refl;
+  file-1 = refl;
+  file-2 = refl;
+  file-3 = refl;
+  file-4 = refl;
+  file-5 = refl;
+  file-6 = refl;
+  file-7 = refl;
+  file-8 = refl;
+  file-9 = refl;
+  file-10 = refl;
 }

@@ -1,11 +1,13 @@
 -- `levels::combined_levels` meets its contract: each refusal by its test, and the figures and levels of `find_levels`. Assumes nothing.
 use mathlib.Core.Path.{_≡_, sym, _∙_}
+use mathlib.Core.Logic.{⊎-elim}
 use mathlib.Core.Bool.{false}
 use Prim.Native.Nat.{ℕ, _-_, _≤_}
 use native.Mathlib.Omega.{arith}
 use lib.ListN.{length}
 use lib.Seq.{length-take-le}
 use borrow.Author.Needs.{needs}
+use borrow.Author.Tests.{ltb-false}
 use Rattle.spec.specs.Graph.{sizeOf, outside}
 use Rattle.graph.specs.Facts.{LegalLists}
 use Rattle.graph.proofs.Answers.{legal-lists, refused-lists}
@@ -31,26 +33,24 @@ legal c =
 sub-n : tie.Need-sub-n
 sub-n c = omega (arith, legal c .starts .count)
 
-returns : tie.Need-returns
-returns c =
-    let s = c .before .before .before .before .before .before .before .before in
-    let R = combined-short-levels (s .args .starts .now) (s .args .neighbours .now) (s .args .node) (s .args .levels .now) (s .args .scratch .now) (legal (c .before)) (c .if1 .taken) in
-    (R .answer, (R .untouched, R .kept))
-
 mul-if2 : tie.Need-mul-if2
 mul-if2 c = omega (arith, legal (c .before) .starts .few)
 
-returns-2 : tie.Need-returns-2
-returns-2 c =
-    let s = c .before .before .before .before .before .before .before .before .before in
-    let R = combined-short-scratch (s .args .starts .now) (s .args .neighbours .now) (s .args .node) (s .args .levels .now) (s .args .scratch .now) (legal (c .before .before)) (c .if2 .taken) in
+returns : tie.Need-returns
+returns c =
+    let s = c .before .before .before .before .before .before .before .before in
+    let L = legal (c .before) in
+    let R = ⊎-elim
+    (λ w. combined-short-levels (s .args .starts .now) (s .args .neighbours .now) (s .args .node) (s .args .levels .now) (s .args .scratch .now) L (w .taken))
+    (λ w. combined-short-scratch (s .args .starts .now) (s .args .neighbours .now) (s .args .node) (s .args .levels .now) (s .args .scratch .now) L (w .1 .taken))
+    (c .if1 .came) in
     (R .answer, (R .untouched, R .kept))
 
 no-node-requires : tie.Need-no-node-requires
 no-node-requires c κs = search needs
 
-returns-3 : tie.Need-returns-3
-returns-3 c =
+returns-2 : tie.Need-returns-2
+returns-2 c =
     let s = c .before .before .before .before .before .before .before .before .before .before .before in
     let R = combined-outside (s .args .starts .now) (s .args .neighbours .now) (s .args .node) (s .args .levels .now) (s .args .scratch .now) (legal (c .before .before .before .before)) (c .before .before .before .if1 .left) (c .before .before .if2 .left) (sym (c .before .no-node .ensures) ∙ c .if3 .taken) in
     (R .answer, (R .untouched, R .kept))
@@ -77,12 +77,12 @@ find-levels-requires c κs =
       legal (c .before .before .before .before .before .before) .refusal,
       (
         node-inside n (s .args .node) (inside (c .before .before)),
-        (length-take-le (n - 0) (s .args .levels .now) h ∙ z, c .before .before .before .before .if2 .left),
+        (length-take-le (n - 0) (s .args .levels .now) h ∙ z, ltb-false _ _ (c .before .before .before .before .if2 .left)),
       ),
     )
 
-returns-4 : tie.Need-returns-4
-returns-4 c =
+returns-3 : tie.Need-returns-3
+returns-3 c =
     let s = c .before .before .before .before .before .before .before .before in
     let R = combined-lists (s .args .starts .now) (s .args .neighbours .now) (s .args .node) (s .args .levels .now) (s .args .scratch .now)
     (refused-lists (s .args .starts .now) (s .args .neighbours .now) (c .before .before .before .test-adjacency .ensures) (c .before .c .given .1)) in
@@ -94,8 +94,8 @@ same-length c = search needs
 same-length-2 : tie.Need-same-length-2
 same-length-2 c = search needs
 
-returns-5 : tie.Need-returns-5
-returns-5 c =
+returns-4 : tie.Need-returns-4
+returns-4 c =
     let s = c .before .before .before .before .before .before .before .before .before .before .before .before .before .before .before .before .before .before in
     let o = inside (c .before .before .before .before .before .before .before) in
     let L = legal (c .before .before .before .before .before .before .before .before .before .before .before) in
@@ -114,16 +114,15 @@ combined-levels-spec =
     enum-known-c
     enum-told
     sub-n
-    returns
     mul-if2
-    returns-2
+    returns
     no-node-requires
-    returns-3
+    returns-2
     sub-find-levels
     part-find-levels-start
     part-find-levels-end
     find-levels-requires
-    returns-4
+    returns-3
     same-length
     same-length-2
-    returns-5)
+    returns-4)

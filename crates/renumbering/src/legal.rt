@@ -1,0 +1,128 @@
+// One part of a legal graph, for a caller that has its members. The scratch has areas of n words: four to work in, the second of them for
+// the part's order, one for its levels by old number, and the members of the parts. Linear in the part's nodes and entries: nothing here is n.
+ghost use mathlib.Core.Path.{_≡_};
+ghost use Prim.Native.Nat.{_+_, _*_, _≤_};
+ghost use lib.ListN.{length, take, replicate};
+ghost use lib.Seq.{sets};
+ghost use Rattle.spec.specs.Graph.{graphOf, sizeOf, graphRefusal, ofNode};
+ghost use Rattle.spec.specs.Levels.{part};
+ghost use Rattle.spec.specs.Numbering.{partResult};
+ghost use Rattle.combining.specs.Model.{numberAt, written};
+ghost use Rattle.piecing.specs.Given.{firstOf};
+ghost use Rattle.piecing.specs.Members.{Members, stored, nought};
+ghost use Rattle.piecing.specs.Seek.{at};
+ghost use Rattle.piecing.specs.Starts.{membersOf};
+ghost use Rattle.levels.specs.Part.{PartGiven};
+ghost use Rattle.renumbering.specs.Part.{orderAt, renewed, numbered, numberFrom, partFiguresOf, Numberable};
+use crate::shape::PartFigures;
+use levels::legal::combine_part;
+use search::legal::search;
+use search::legal::wipe;
+use sequence::legal::sequence;
+use words::wide;
+
+// How many nodes the part of p has. The scratch is as before.
+pub fn part_size(starts: &[u16], neighbours: &[u16], scratch: &mut [u16], p: u16) -> u16
+    requires { ⌜ graphRefusal (now starts) (now neighbours) ≡ 0 ⌝ }
+    requires { ⌜ (1 ≤ p) × (p ≤ sizeOf (now starts)) ⌝ }
+    requires { ⌜ sizeOf (now starts) + sizeOf (now starts) ≤ length (now scratch) ⌝ }
+    requires { ⌜ take (sizeOf (now starts) + sizeOf (now starts)) (now scratch) ≡ replicate (sizeOf (now starts) + sizeOf (now starts)) 0 ⌝ }
+    ensures { λ r. ⌜ r ≡ length (part (graphOf (now (starts .entry)) (now (neighbours .entry))) p) ⌝ }
+    ensures { λ _. ⌜ now (scratch .exit) ≡ now (scratch .entry) ⌝ }
+{
+    let n = starts.len() - 1;
+    let half = n + n;
+    let s = search(starts, neighbours, p, &mut scratch[..half]);
+    let count = wide(s.reached);
+    wipe(&mut scratch[..half], n, count);
+    s.reached
+}
+
+// Puts the members' levels into the area for levels.
+fn lay_levels(scratch: &mut [u16], levels: &[u16], n: usize, from: usize, to: usize)
+    requires { ⌜ Members n from to (now scratch) ⌝ }
+    requires { ⌜ length (now levels) ≡ n ⌝ }
+    ensures { λ _. ⌜ now (scratch .exit) ≡ stored (4 * n) (at (now (levels .entry))) (now (scratch .entry)) (membersOf n from to (now (scratch .entry))) ⌝ }
+{
+    let mut i = from;
+    while i < to {
+        let z = wide(scratch[5 * n + i]);
+        scratch[4 * n + z - 1] = levels[z - 1];
+        i += 1;
+    }
+}
+
+// "take the next free numbers": those after a, in the part's order, whose words it clears.
+fn give_numbers(scratch: &mut [u16], numbers: &mut [u16], n: usize, m: usize, a: usize)
+    requires { ⌜ Numberable n m a (now scratch) (now numbers) ⌝ }
+    ensures { λ _. ⌜ now (scratch .exit) ≡ sets (now (scratch .entry)) n (replicate m 0) ⌝ }
+    ensures { λ _. ⌜ now (numbers .exit) ≡ numbered a (orderAt n m (now (scratch .entry))) (now (numbers .entry)) ⌝ }
+{
+    let mut i = 0;
+    while i < m {
+        let z = wide(scratch[n + i]);
+        scratch[n + i] = 0;
+        i += 1;
+        let number = a + i;
+        numbers[z - 1] = number as u16;
+    }
+}
+
+// Hands the members' levels over, and clears the area for levels.
+fn give_levels(scratch: &mut [u16], levels: &mut [u16], n: usize, from: usize, to: usize)
+    requires { ⌜ Members n from to (now scratch) ⌝ }
+    requires { ⌜ length (now levels) ≡ n ⌝ }
+    ensures { λ _. ⌜ now (scratch .exit) ≡ stored (4 * n) nought (now (scratch .entry)) (membersOf n from to (now (scratch .entry))) ⌝ }
+    ensures { λ _. ⌜ now (levels .exit) ≡ written (numberAt (4 * n) (now (scratch .entry))) (now (levels .entry)) (membersOf n from to (now (scratch .entry))) ⌝ }
+{
+    let mut i = from;
+    while i < to {
+        let z = wide(scratch[5 * n + i]);
+        levels[z - 1] = scratch[4 * n + z - 1];
+        scratch[4 * n + z - 1] = 0;
+        i += 1;
+    }
+}
+
+// The part whose members stand from..to: its nodes get the numbers after `from` in `numbers`, and their levels in `levels`, n words each by
+// old number. The scratch is as before.
+pub fn number_part(
+    starts: &[u16],
+    neighbours: &[u16],
+    scratch: &mut [u16],
+    numbers: &mut [u16],
+    levels: &mut [u16],
+    from: usize,
+    to: usize,
+) -> PartFigures
+    requires { ⌜ graphRefusal (now starts) (now neighbours) ≡ 0 ⌝ }
+    requires { ⌜ PartGiven (graphOf (now starts) (now neighbours)) from to (now scratch) (now levels) ⌝ }
+    requires { ⌜ length (now numbers) ≡ sizeOf (now starts) ⌝ }
+    ensures { λ r. ⌜ r ≡ partFiguresOf (partResult (graphOf (now (starts .entry)) (now (neighbours .entry))) (firstOf (sizeOf (now (starts .entry))) from (now (scratch .entry))) .report) ⌝ }
+    ensures { λ _. ⌜ now (scratch .exit) ≡ now (scratch .entry) ⌝ }
+    ensures { λ _. ⌜ now (numbers .exit) ≡ renewed (graphOf (now (starts .entry)) (now (neighbours .entry))) (firstOf (sizeOf (now (starts .entry))) from (now (scratch .entry))) (numberFrom from (partResult (graphOf (now (starts .entry)) (now (neighbours .entry))) (firstOf (sizeOf (now (starts .entry))) from (now (scratch .entry))) .order)) (now (numbers .entry)) ⌝ }
+    ensures { λ _. ⌜ now (levels .exit) ≡ renewed (graphOf (now (starts .entry)) (now (neighbours .entry))) (firstOf (sizeOf (now (starts .entry))) from (now (scratch .entry))) (ofNode (partResult (graphOf (now (starts .entry)) (now (neighbours .entry))) (firstOf (sizeOf (now (starts .entry))) from (now (scratch .entry))) .levels)) (now (levels .entry)) ⌝ }
+{
+    let n = starts.len() - 1;
+    let m = to - from;
+    let f = combine_part(starts, neighbours, scratch, levels, from, to);
+    lay_levels(scratch, levels, n, from, to);
+    sequence(
+        starts,
+        neighbours,
+        scratch,
+        4 * n,
+        5 * n + from,
+        m,
+        f.k,
+        f.v,
+        f.u,
+    );
+    give_numbers(scratch, numbers, n, m, from);
+    give_levels(scratch, levels, n, from, to);
+    PartFigures {
+        k: f.k,
+        width: f.width,
+        passes: f.passes,
+    }
+}

@@ -1,0 +1,229 @@
+#!/usr/bin/env python3
+"""The example meshes: NAME.grd, the listing NAME.txt, the picture NAME.svg, and the table in README.md.
+
+  make.py            write them
+  make.py --check    say whether the committed files are those that this script makes
+
+A mesh is drawn as elements on points of a lattice. As a mesh tool does, it numbers corners first, then edges, then the inside, and middle
+nodes last: by kind of node, then by how many elements meet in it, then by place. So the old numbers have a wide band. The listings are those
+of tests/reference.
+"""
+
+import os
+import sys
+
+HERE = os.path.dirname(os.path.abspath(__file__))
+TOP = os.path.dirname(HERE)
+sys.path[:0] = [os.path.join(TOP, 'tools'), os.path.join(TOP, 'tests', 'reference')]
+
+import figures
+import grd
+import picture
+import program
+import result
+
+BAR, TRIANGLE, QUADRILATERAL, TETRAHEDRON, PYRAMID, WEDGE, BRICK, TRIANGLE_6, QUADRILATERAL_8, TETRAHEDRON_10 = range(1, 11)
+CORNERS = {TRIANGLE_6: 3, QUADRILATERAL_8: 4, TETRAHEDRON_10: 4}
+
+
+# From a drawing to a mesh. A drawing is a list of (kind, points); points are tuples of whole numbers.
+
+def numbered(drawing):
+    """The mesh with nodes numbered as a mesh tool does."""
+    corners, meets = set(), {}
+    for kind, points in drawing:
+        corners.update(points[:CORNERS.get(kind, len(points))])
+        for point in points:
+            meets[point] = meets.get(point, 0) + 1
+    order = sorted(meets, key=lambda point: (point not in corners, meets[point], point))
+    number = {point: i for i, point in enumerate(order, 1)}
+    return grd.Mesh(len(order), [(kind, [number[point] for point in points]) for kind, points in drawing])
+
+
+def doubled(point):
+    return tuple(2 * x for x in point)
+
+
+def middle(p, q):
+    """The point halfway between two doubled points."""
+    return tuple((x + y) // 2 for x, y in zip(p, q))
+
+
+def with_middles(kind, points, edges):
+    """An element on doubled points: its corners, then the middle of each edge."""
+    corners = [doubled(point) for point in points]
+    return kind, corners + [middle(corners[i], corners[j]) for i, j in edges]
+
+
+def box(x, y, z):
+    """The eight corners of a unit cube: bottom, then top, each around."""
+    return [(x + i, y + j, z + k) for k in (0, 1) for i, j in ((0, 0), (1, 0), (1, 1), (0, 1))]
+
+
+def square(x, y):
+    return [(x, y), (x + 1, y), (x + 1, y + 1), (x, y + 1)]
+
+
+def around(drawing, axis, count):
+    """The drawing closed to a ring: places along one axis counted modulo this many."""
+    def turned(point):
+        return point[:axis] + (point[axis] % count,) + point[axis + 1:]
+    return [(kind, [turned(point) for point in points]) for kind, points in drawing]
+
+
+# The six meshes.
+
+def bracket():
+    """An angle bracket: foot with two bolt holes, upright, and a rib whose slope is made of wedges."""
+    foot = [(x, y, 0) for x in range(12) for y in range(5) if (x, y) not in ((8, 1), (8, 3))]
+    upright = [(0, y, z) for y in range(5) for z in range(1, 9)]
+    rib = [(x, 2, z) for x in range(1, 6) for z in range(1, 6 - x)]
+    drawing = [(BRICK, box(*cell)) for cell in foot + upright + rib]
+    for x in range(1, 6):
+        z = 6 - x
+        ends = [[(x, y, z), (x + 1, y, z), (x, y, z + 1)] for y in (2, 3)]
+        drawing.append((WEDGE, ends[0] + ends[1]))
+    return drawing
+
+
+def encoder_plate():
+    """A round plate with a ring of windows; towards the bore triangles halve the count of sectors."""
+    sectors = 64
+    cells = [(r, a) for r in range(1, 8) for a in range(sectors) if r not in (4, 5) or a % 4 < 2]
+    drawing = [(QUADRILATERAL, square(*cell)) for cell in cells]
+    for a in range(0, sectors, 2):
+        inner, outer = [(0, a), (0, a + 2)], [(1, a), (1, a + 1), (1, a + 2)]
+        drawing += [(TRIANGLE, [inner[0], outer[0], outer[1]]), (TRIANGLE, [inner[0], outer[1], inner[1]]),
+                    (TRIANGLE, [inner[1], outer[1], outer[2]])]
+    return around(drawing, 1, sectors)
+
+
+def hub_sector():
+    """A sector of a hub casting, barrel and flange, of 10-node tetrahedra: six to a cube, about its long diagonal."""
+    barrel = [(r, a, z) for r in range(2) for a in range(6) for z in range(4)]
+    flange = [(r, a, 0) for r in range(2, 4) for a in range(6)]
+    edges = ((0, 1), (1, 2), (0, 2), (0, 3), (1, 3), (2, 3))
+    drawing = []
+    for r, a, z in barrel + flange:
+        for i, j in ((0, 1), (0, 2), (1, 0), (1, 2), (2, 0), (2, 1)):
+            steps = [(r, a, z)]
+            for axis in (i, j, 3 - i - j):
+                last = steps[-1]
+                steps.append(last[:axis] + (last[axis] + 1,) + last[axis + 1:])
+            drawing.append(with_middles(TETRAHEDRON_10, steps, edges))
+    return drawing
+
+
+def switch_arm():
+    """The arm of a limit switch of 6-node triangles, wide at the pivot, with a return spring of bars."""
+    edges = ((0, 1), (1, 2), (2, 0))
+    cells = [(x, y) for x in range(26) for y in range(4) if 1 <= y <= 2 or x < 6 or x > 22]
+    drawing = []
+    for x, y in cells:
+        a, b, c, d = square(x, y)
+        drawing += [with_middles(TRIANGLE_6, points, edges) for points in ([a, b, c], [a, c, d])]
+    spring = [(12, 2)] + [(12 + i % 2, -i) for i in range(1, 9)]
+    return drawing + [(BAR, pair) for pair in zip(spring, spring[1:])]
+
+
+def ring():
+    """A closed ring of 8-node quadrilaterals, two across."""
+    edges = ((0, 1), (1, 2), (2, 3), (3, 0))
+    drawing = [with_middles(QUADRILATERAL_8, square(r, a), edges) for r in range(2) for a in range(36)]
+    return around(drawing, 1, 72)
+
+
+def two_parts():
+    """A cover plate with a stiffened rim, and a pin that doesn't touch it: six pyramids to a cube, tetrahedra at its tip."""
+    plate = [(QUADRILATERAL, [(0, x, y, 0) for x, y in square(*cell)]) for cell in ((x, y) for x in range(10) for y in range(6))]
+    rim = [(BAR, [(0, x, y, 0), (0, x + 1, y, 0)]) for y in (0, 6) for x in range(10)]
+    pin = []
+    for z in range(5):
+        for x in range(2):
+            for y in range(2):
+                corners = [(1,) + doubled(point) for point in box(x, y, z)]
+                centre = middle(corners[0], corners[6])
+                faces = ((0, 1, 2, 3), (4, 5, 6, 7), (0, 1, 5, 4), (1, 2, 6, 5), (2, 3, 7, 6), (3, 0, 4, 7))
+                pin += [(PYRAMID, [corners[i] for i in face] + [centre]) for face in faces]
+    tip = (1, 2, 2, 12)
+    for x in range(2):
+        for y in range(2):
+            a, b, c, d = [(1,) + doubled(point) + (10,) for point in square(x, y)]
+            pin += [(TETRAHEDRON, face + [tip]) for face in ([a, b, c], [a, c, d])]
+    return plate + rim + pin
+
+
+# file name, drawing, what it is
+MESHES = [
+    ('bracket', bracket, 'angle bracket with a rib and two bolt holes; bricks and wedges'),
+    ('encoder_plate', encoder_plate, 'round plate with a ring of windows; quadrilaterals, triangles at the bore'),
+    ('hub_sector', hub_sector, 'sixth of a hub casting, barrel and flange; 10-node tetrahedra'),
+    ('switch_arm', switch_arm, 'arm of a limit switch with its return spring; 6-node triangles and bars'),
+    ('ring', ring, 'closed ring, two elements across; 8-node quadrilaterals'),
+    ('two_parts', two_parts, 'cover plate and a pin that do not touch; quadrilaterals, bars, pyramids, tetrahedra'),
+]
+
+PAGE = '''# Examples
+
+Six small meshes, their listings and their pictures. `make.py` makes them all, this page too; `make.py --check` says whether they are what it makes.
+Old numbers are given as a mesh tool gives them: corners first, then edges, then the inside, middle nodes last.
+
+| Mesh | What it is | Nodes | Elements | Bandwidth | Profile | Front | Parts | Levels | Width |
+|---|---|---|---|---|---|---|---|---|---|
+%s
+
+Bandwidth, profile and front are before → after the renumbering. `NAME.grd` is the mesh, `NAME.txt` the listing that the program must print
+for it, and `NAME.svg` the matrix before and after. The listings come from `tests/reference`, the independent program.
+
+    tools/grd.py examples/bracket.grd
+    tools/picture.py examples/bracket.grd examples/bracket.txt bracket.svg
+'''
+
+
+def table_row(name, what, mesh, listed):
+    before = figures.figures(grd.neighbours(mesh))
+    after = listed.figures
+    changes = ['%d → %d' % pair for pair in zip(before, (after.bandwidth, after.profile, after.front))]
+    cells = ['[`%s`](%s.svg)' % (name, name), what, mesh.n, len(mesh.elements)] + changes + [after.parts, after.levels, after.width]
+    return '| %s |' % ' | '.join(str(cell) for cell in cells)
+
+
+def all_files():
+    """Pairs of a file name and its bytes."""
+    files, rows = [], []
+    for name, drawing, what in MESHES:
+        mesh = numbered(drawing())
+        data = grd.write(mesh)
+        text = program.text_for(data)
+        listed = result.read(text.decode('ascii').splitlines())
+        picture.test_match(mesh, listed)
+        files += [(name + '.grd', data), (name + '.txt', text), (name + '.svg', picture.svg(name, mesh, listed).encode('utf-8'))]
+        rows.append(table_row(name, what, mesh, listed))
+    return files + [('README.md', (PAGE % '\n'.join(rows)).encode('utf-8'))]
+
+
+def stands(name, data):
+    path = os.path.join(HERE, name)
+    if not os.path.exists(path):
+        return False
+    with open(path, 'rb') as file:
+        return file.read() == data
+
+
+def main(words):
+    files = all_files()
+    if words != ['--check']:
+        for name, data in files:
+            with open(os.path.join(HERE, name), 'wb') as file:
+                file.write(data)
+        print('%d files written' % len(files))
+        return 0
+    wrong = [name for name, data in files if not stands(name, data)]
+    for name in wrong:
+        print('examples/%s is not what examples/make.py makes' % name)
+    print('%d files, %d wrong' % (len(files), len(wrong)))
+    return 1 if wrong else 0
+
+
+if __name__ == '__main__':
+    sys.exit(main(sys.argv[1:]))

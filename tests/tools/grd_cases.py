@@ -1,0 +1,83 @@
+"""GRD files: what is written and read, and the refusals held against tests/reference."""
+
+from harness import grd_file, run, words
+
+import grd
+from listing import element_refusal, header_refusal, nodes_of_file, words_after_header
+from mesh import mesh_rows, read_elements, too_many_entries
+
+SAMPLE = grd_file(5, (1, 1, 2), (1, 1, 4), (1, 2, 3), (1, 3, 5))
+BRICK = grd_file(8, (7, 1, 2, 3, 4, 5, 6, 7, 8), (2, 3, 1, 2))
+
+
+def refusal(data):
+    """The number by which grd.read refuses, or 0."""
+    try:
+        grd.read(data)
+        return 0
+    except grd.Refusal as refused:
+        return refused.number
+
+
+def reference_refusal(data):
+    """The same by the steps of tests/reference, without its run."""
+    number = header_refusal(data) or element_refusal(data)
+    if number:
+        return number
+    n = nodes_of_file(data)
+    return 11 if too_many_entries(mesh_rows(n, read_elements(n, words_after_header(data))[1])) else 0
+
+
+def damaged():
+    """Files with one byte changed, cut short or gone on."""
+    for file in (SAMPLE, BRICK):
+        for at in range(len(file)):
+            for value in sorted({0, 1, 2, 6, 11, 16, 255} - {file[at]}):
+                yield file[:at] + bytes([value]) + file[at + 1:]
+        for size in range(len(file)):
+            yield file[:size]
+        for more in (b'\0', b'\1\0', words(1, 1, 3)):
+            yield file + more
+
+
+def limits():
+    """Each limit, and one beyond it."""
+    for n in (0, 1, 4096, 4097, 65535):
+        yield grd_file(n)
+    bars = [(1, p, p + 1) for p in range(1, 4096)]
+    for count in (10921, 10922):
+        yield grd_file(4096, *(bars * 3)[:count])
+    # 90 entries to a group of ten, 2 to a pair; no two of them share a pair
+    tens = [(10,) + tuple(range(64 * r + at + 1, 64 * r + at + 11)) for r in range(64) for at in range(0, 60, 10)]
+    pairs = [(1, 64 * r + 61, 64 * r + 62) for r in range(64)]
+    for count in (3, 4, 5):
+        yield grd_file(4096, *(tens[:364] + pairs[:count]))
+
+
+def cases(c):
+    c.equal('grd: sample read', grd.read(SAMPLE), (5, [(1, [1, 2]), (1, [1, 4]), (1, [2, 3]), (1, [3, 5])]))
+    c.equal('grd: written as read', grd.write(grd.read(SAMPLE)), SAMPLE)
+    c.equal('grd: written as read, two kinds', grd.write(grd.read(BRICK)), BRICK)
+    files = list(damaged()) + list(limits())
+    c.equal('grd: refusals as tests/reference has them', [refusal(file) for file in files], [reference_refusal(file) for file in files])
+    c.equal('grd: every refusal of the program was met', sorted({refusal(file) for file in files}), [0, 1, 9, 10, 11, 12])
+    c.equal('grd: every refusal has words', sorted(grd.MEANING), list(range(1, 13)))
+    told = [
+        ('legal', SAMPLE, 0, '5 nodes, 4 elements (bar 4)'),
+        ('no node', grd_file(0), 1, '1: %s; the file says 0 nodes' % grd.MEANING[1]),
+        ('kind', grd_file(3, (2, 1, 2, 3), (11, 1, 2)), 1, '9: %s; element 2 (byte 17) has kind 11' % grd.MEANING[9]),
+        ('above n', grd_file(3, (2, 1, 2, 4)), 1, '10: %s; element 1 (byte 9), a triangle, has node 4, and the nodes are 1 to 3' % grd.MEANING[10]),
+        ('repeated', grd_file(3, (2, 1, 2, 1)), 1, '10: %s; element 1 (byte 9), a triangle, has node 1 twice' % grd.MEANING[10]),
+        ('cut', SAMPLE[:-1], 1, '12: %s; the file ends within element 4 (byte 27), a bar' % grd.MEANING[12]),
+        ('missing', SAMPLE[:-6], 1, '12: %s; the file ends before element 4 (byte 27)' % grd.MEANING[12]),
+        ('left over', SAMPLE + b'\0', 1, '12: %s; bytes left over after the last element: 1' % grd.MEANING[12]),
+        ('mark', b'X' + SAMPLE[1:], 1, '12: %s; the file does not begin with the letters GRD' % grd.MEANING[12]),
+        ('version', SAMPLE[:3] + b'\2' + SAMPLE[4:], 1, '12: %s; the file has version 2' % grd.MEANING[12]),
+        ('short', b'GRD', 1, '12: %s; the file has only 3 bytes' % grd.MEANING[12]),
+        ('long', SAMPLE + bytes(70000), 1, '12: %s; the file is too long' % grd.MEANING[12]),
+    ]
+    for name, file, status, text in told:
+        line = 'a.grd: %s%s\n' % ('refused ' if status else '', text)
+        wanted = (status, '' if status else line, line if status else '', {})
+        c.equal('grd.py: ' + name, run(grd.main, ['a.grd'], {'a.grd': file}), wanted)
+    c.equal('grd.py: no file', run(grd.main, ['b.grd'], {}), (1, '', 'b.grd: No such file or directory\n', {}))

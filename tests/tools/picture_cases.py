@@ -1,0 +1,112 @@
+"""The picture: its figures against tests/reference, its drawing against a count of cells, and what it refuses."""
+
+import random
+import re
+import xml.etree.ElementTree as tree
+
+from harness import grd_file, run
+from grd_cases import SAMPLE
+from seqgp_cases import SAMPLE as LISTING
+
+import calls
+import figures
+import grd
+import picture
+import program
+
+SVG = '{http://www.w3.org/2000/svg}'
+
+
+def random_mesh(source, n):
+    return grd.Mesh(n, [(1, source.sample(range(1, n + 1), 2)) for _ in range(source.randrange(2 * n))])
+
+
+def reference_figures(mesh, numbers):
+    """Bandwidth, profile and front as tests/reference has them."""
+    rows = grd.neighbours(mesh)
+    starts, neighbours = calls.from_edges(mesh.n, [(p, q) for p in range(1, mesh.n + 1) for q in rows[p]])
+    return calls.measures(starts, neighbours, numbers, [0] * mesh.n)[1]
+
+
+def cases(c):
+    measured(c)
+    for name, mesh in (('sample', SAMPLE), ('one node', grd_file(1)), ('quads', quads(9)), ('several rows to a cell', quads(25))):
+        drawn(c, name, mesh)
+    largest(c)
+    refused(c)
+
+
+def measured(c):
+    source = random.Random(7)
+    got, wanted = [], []
+    for n in list(range(2, 20)) * 3:
+        mesh = random_mesh(source, n)
+        numbers = source.sample(range(1, n + 1), n)
+        got.append(figures.figures(figures.renumbered(grd.neighbours(mesh), [0] + numbers)))
+        wanted.append(tuple(reference_figures(mesh, numbers)))
+    c.equal('figures: as tests/reference has them', got, wanted)
+
+
+def quads(side):
+    """A square of quadrilaterals, its nodes numbered in leaps."""
+    def number(r, column):
+        return (r * side + column) * 1237 % (side * side) + 1
+    return grd_file(side * side, *[(3, number(r, q), number(r, q + 1), number(r + 1, q + 1), number(r + 1, q))
+                                   for r in range(side - 1) for q in range(side - 1)])
+
+
+def drawn(c, name, data):
+    """Well-formed, of a sane size, with the six figures, and as many dark cells and envelope cells as there are."""
+    mesh = grd.read(data)
+    listing = program.text_for(data)
+    status, out, err, made = run(picture.main, ['a.grd', 'a.txt', 'a.svg'], {'a.grd': data, 'a.txt': listing})
+    text = made.get('a.svg', b'').decode('utf-8')
+    c.equal('picture: %s: printed' % name, (status, out, err), (0, 'a.svg: %d bytes\n' % len(text), ''))
+    c.holds('picture: %s: under 200,000 bytes' % name, len(text) < 200000)
+    bold = [span.text.replace(',', '') for span in tree.fromstring(text).iter(SVG + 'tspan')]
+    head = listing.decode('ascii').split()
+    before = reference_figures(mesh, list(range(1, mesh.n + 1)))
+    c.equal('picture: %s: figures' % name, bold, [str(value) for value in before] + [head[5], head[7], head[9]])
+    if mesh.n <= picture.MOST_CELLS:
+        dark = sum(int(count) for count in re.findall(r'M\d+ \d+h(\d+)v1', text))
+        entries = sum(len(row) for row in grd.neighbours(mesh))
+        c.equal('picture: %s: dark cells, both sides' % name, dark, 2 * (entries + mesh.n))
+        areas = [area(path) for path in re.findall(r'd="(M0 0[^"]*)" fill="' + picture.ENVELOPE, text)]
+        c.equal('picture: %s: envelope cells' % name, areas, [before[1] + mesh.n, int(head[7]) + mesh.n])
+
+
+def largest(c):
+    """4,096 nodes; the listing keeps the old numbers."""
+    data = quads(64)
+    head = 'nodes 4096 parts 1 bandwidth %d profile %d front %d levels 1 width 1 passes 1\n'
+    listing = head % figures.figures(grd.neighbours(grd.read(data))) + ''.join('%d %d 1\n' % (p, p) for p in range(1, 4097))
+    status, _, err, made = run(picture.main, ['a.grd', 'a.txt', 'a.svg'], {'a.grd': data, 'a.txt': listing})
+    text = made.get('a.svg', b'')
+    c.equal('picture: 4,096 nodes', (status, err, tree.fromstring(text).tag), (0, '', SVG + 'svg'))
+    c.holds('picture: 4,096 nodes: under 200,000 bytes', len(text) < 200000)
+
+
+def area(path):
+    """Area inside a path of level and upright lines."""
+    x = y = total = 0
+    for letter, value in re.findall(r'([HV])(\d+)', path):
+        if letter == 'H':
+            total += (int(value) - x) * y
+            x = int(value)
+        else:
+            y = int(value)
+    return abs(total)
+
+
+def refused(c):
+    def fails(name, files, message):
+        got = run(picture.main, ['a.grd', 'a.txt', 'a.svg'], files)
+        c.equal('picture: ' + name, got, (1, '', message + '\n', {}))
+    fails('broken mesh', {'a.grd': SAMPLE[:-1], 'a.txt': LISTING},
+          'a.grd: refused 12: %s; the file ends within element 4 (byte 27), a bar' % grd.MEANING[12])
+    fails('broken listing', {'a.grd': SAMPLE, 'a.txt': LISTING.replace('4 1 1', '4 2 1')}, 'a.txt:5: new number 2 is given twice, first on line 2')
+    fails('no listing', {'a.grd': SAMPLE}, 'a.txt: No such file or directory')
+    fails('another mesh, by its nodes', {'a.grd': grd_file(4), 'a.txt': LISTING},
+          'a.grd: the listing has 5 nodes, the mesh 4: they do not belong together')
+    fails('another mesh, by its figures', {'a.grd': grd_file(5), 'a.txt': LISTING},
+          "a.grd: the listing's figures are not those of its numbers on this mesh: they do not belong together")

@@ -1,0 +1,28 @@
+#!/usr/bin/env python3
+"""Tests of the tools: each wrong case is printed, then one line, 'N cases, M wrong'. Status 1 where one is wrong."""
+
+import sys
+
+import harness
+import abaqus_cases
+import command_cases
+import gmsh_cases
+import grd_cases
+import nastran_cases
+import picture_cases
+import readme_cases
+import seqgp_cases
+
+
+def main():
+    counted = harness.Cases()
+    for module in (grd_cases, gmsh_cases, abaqus_cases, nastran_cases, command_cases, seqgp_cases, picture_cases, readme_cases):
+        try:
+            module.cases(counted)
+        except Exception as error:
+            counted.equal('%s runs to its end' % module.__name__, repr(error), 'no exception')
+    return counted.report()
+
+
+if __name__ == '__main__':
+    sys.exit(main())

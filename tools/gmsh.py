@@ -1,0 +1,155 @@
+"""Gmsh .msh files, versions 2.2 and 4.1 as text."""
+
+from model import Fault, Model, integer
+
+# Gmsh's element type: GRD kind, node count, name. Node order within an element does not matter: all its nodes adjoin.
+TYPES = {1: (1, 2, '2-node line'), 2: (2, 3, '3-node triangle'), 3: (3, 4, '4-node quadrangle'), 4: (4, 4, '4-node tetrahedron'),
+         5: (7, 8, '8-node hexahedron'), 6: (6, 6, '6-node prism'), 7: (5, 5, '5-node pyramid'), 9: (8, 6, '6-node triangle'),
+         16: (9, 8, '8-node quadrangle'), 11: (10, 10, '10-node tetrahedron')}
+
+# A point joins nothing.
+POINT = 15
+
+# Types that GRD has no kind for, by name; others are named by their number.
+NO_KIND = {8: '3-node line', 10: '9-node quadrangle', 12: '27-node hexahedron', 13: '18-node prism', 14: '14-node pyramid',
+           17: '20-node hexahedron', 18: '15-node prism', 19: '13-node pyramid', 20: '9-node triangle', 21: '10-node triangle',
+           22: '12-node triangle', 23: '15-node triangle', 26: '4-node line', 27: '5-node line', 28: '6-node line',
+           29: '20-node tetrahedron', 30: '35-node tetrahedron', 31: '56-node tetrahedron', 92: '64-node hexahedron', 93: '125-node hexahedron'}
+
+
+class Lines:
+    """The lines of the file, taken one by one."""
+
+    def __init__(self, lines):
+        self.lines = lines
+        self.number = 0
+
+    def ended(self):
+        return self.number == len(self.lines)
+
+    def take(self):
+        if self.ended():
+            raise Fault(self.number, 'the file ends too early')
+        self.number += 1
+        return self.lines[self.number - 1].strip()
+
+    def words(self, what, least, most=None):
+        """The words of the next line, which has at least and at most this many."""
+        words = self.take().split()
+        if len(words) < least or most and len(words) > most or words[0].startswith('$'):
+            raise Fault(self.number, '%s expected' % what)
+        return words
+
+    def integers(self, what, least, most=None):
+        return [integer(word, self.number, what) for word in self.words(what, least, most)]
+
+    def end(self, section):
+        if self.take() != '$End' + section:
+            raise Fault(self.number, '$End%s expected: the section is longer than it says' % section)
+
+    def skip(self, section):
+        start = self.number
+        while not self.ended():
+            if self.take() == '$End' + section:
+                return
+        raise Fault(start, '$%s has no $End%s' % (section, section))
+
+
+def read(texts):
+    """The model of the file's lines."""
+    lines, model = Lines(texts), Model()
+    readers = {}
+    while not lines.ended():
+        line = lines.take()
+        if line == '$MeshFormat':
+            readers = READERS[version(lines)]
+        elif line.startswith('$') and not line.startswith('$End'):
+            section = line[1:]
+            if section in ('Nodes', 'Elements') and not readers:
+                raise Fault(lines.number, '$%s comes before $MeshFormat' % section)
+            if section in readers:
+                readers[section](lines, model)
+                lines.end(section)
+            else:
+                lines.skip(section)
+        elif line:
+            raise Fault(lines.number, 'a section was expected, such as $Nodes')
+    if not readers:
+        raise Fault(0, 'no $MeshFormat: this is no Gmsh file of version 2.2 or 4.1')
+    return model
+
+
+def version(lines):
+    words = lines.words('version and file type', 3)
+    if words[0] not in READERS:
+        raise Fault(lines.number, 'Gmsh version %s is not read, only 2.2 and 4.1' % words[0])
+    if words[1] != '0':
+        raise Fault(lines.number, 'a binary Gmsh file is not read; save the mesh as text')
+    lines.end('MeshFormat')
+    return words[0]
+
+
+def add_element(lines, model, kind, number, nodes):
+    """One element, or none for a point."""
+    if kind == POINT:
+        model.points += 1
+        return
+    if kind not in TYPES:
+        name = NO_KIND.get(kind, 'type %d' % kind)
+        raise Fault(lines.number, 'element %d (%s): GRD has no kind for it' % (number, name))
+    grd_kind, count, name = TYPES[kind]
+    name = 'element %d (%s)' % (number, name)
+    if len(nodes) != count:
+        raise Fault(lines.number, '%s: %d nodes, and it needs %d' % (name, len(nodes), count))
+    model.add_element(grd_kind, nodes, lines.number, name)
+
+
+# Version 2.2.
+
+def nodes_22(lines, model):
+    for _ in range(lines.integers('count of nodes', 1, 1)[0]):
+        words = lines.words('node number and three coordinates', 4, 4)
+        model.add_node(integer(words[0], lines.number, 'node number'), lines.number)
+
+
+def elements_22(lines, model):
+    for _ in range(lines.integers('count of elements', 1, 1)[0]):
+        # number, type, count of tags, tags, nodes
+        words = lines.integers('element number, type, tags and nodes', 4)
+        if words[2] < 0:
+            raise Fault(lines.number, 'element %d: %d tags' % (words[0], words[2]))
+        add_element(lines, model, words[1], words[0], words[3 + words[2]:])
+
+
+# Version 4.1: blocks, one for each entity of the drawing.
+
+def blocks_41(lines, what):
+    """The four words before each block; at the end the counts must add up."""
+    blocks, total = lines.integers('counts of blocks and ' + what, 4, 4)[:2]
+    start, found = lines.number, 0
+    for _ in range(blocks):
+        head = lines.integers('head of a block of ' + what, 4, 4)
+        found += head[3]
+        yield head
+    if found != total:
+        raise Fault(start, '%d %s announced, %d found' % (total, what, found))
+
+
+def nodes_41(lines, model):
+    for _, _, _, count in blocks_41(lines, 'nodes'):
+        # all numbers of the block, then all coordinates
+        for _ in range(count):
+            model.add_node(lines.integers('node number', 1, 1)[0], lines.number)
+        for _ in range(count):
+            lines.words('three coordinates', 3)
+
+
+def elements_41(lines, model):
+    for _, _, kind, count in blocks_41(lines, 'elements'):
+        for _ in range(count):
+            words = lines.integers('element number and nodes', 2)
+            add_element(lines, model, kind, words[0], words[1:])
+
+
+READERS = {'2.2': {'Nodes': nodes_22, 'Elements': elements_22},
+           '4.1': {'Nodes': nodes_41, 'Elements': elements_41}}

@@ -1,0 +1,177 @@
+#!/usr/bin/env python3
+"""GRD files: reading with document 01's tests, writing, and each refusal in words.
+
+  grd.py FILE.grd    say what is in the file, or why the program refuses it
+"""
+
+import sys
+from collections import namedtuple
+
+MARK = b'GRD'
+VERSION = 1
+HEADER_BYTES = 9
+MOST_BYTES = 65535
+MOST_NODES = 4096
+MOST_ENTRIES = 32768
+
+# kind: its name and node count
+KINDS = {1: ('bar', 2), 2: ('triangle', 3), 3: ('quadrilateral', 4), 4: ('tetrahedron', 4), 5: ('pyramid', 5),
+         6: ('wedge', 6), 7: ('brick', 8), 8: ('6-node triangle', 6), 9: ('8-node quadrilateral', 8), 10: ('10-node tetrahedron', 10)}
+
+# Document 01's table of refusals in plain words. The program answers 1, 9, 10, 11 and 12; the others are the libraries'.
+MEANING = {
+    1: 'there are no nodes, or more than 4,096',
+    2: 'the start list is broken: it must begin with 0, never fall, and end with the length of the neighbour list, at most 32,768',
+    3: 'a row of neighbours names a node outside 1 to n or its own node, or does not rise',
+    4: 'one node has another as its neighbour, but not the other way round',
+    5: 'a lent buffer is too short',
+    6: 'the given node is 0 or above n',
+    7: 'the given numbering does not have n words with each of 1 to n once',
+    8: 'the buffer for the marks is too short',
+    9: 'an element has an unknown kind, or runs past the end of the element list',
+    10: 'an element has a node that is 0, above n or there twice',
+    11: 'the elements give more than 32,768 neighbour entries',
+    12: 'this is no GRD file of version 1: wrong first letters or version, more than 65,535 bytes or fewer than 9, or bytes missing or left over',
+}
+
+# elements: a list of (kind, nodes)
+Mesh = namedtuple('Mesh', 'n elements')
+
+
+class Refusal(Exception):
+    """A refusal of document 01: its number, and what was met where."""
+
+    def __init__(self, number, where):
+        super().__init__('refused %d: %s; %s' % (number, MEANING[number], where))
+        self.number = number
+        self.where = where
+
+
+# Reading.
+
+def read(data):
+    """The mesh of a file's bytes; the tests come in the program's order."""
+    test_header(data)
+    n, count = word_at(data, 5), word_at(data, 7)
+    if n == 0 or n > MOST_NODES:
+        raise Refusal(1, 'the file says %d nodes' % n)
+    elements, at = [], HEADER_BYTES
+    for position in range(1, count + 1):
+        element, at = element_at(data, n, at, 'element %d (byte %d)' % (position, at))
+        elements.append(element)
+    if at < len(data):
+        raise Refusal(12, 'bytes left over after the last element: %d' % (len(data) - at))
+    test_entries(Mesh(n, elements))
+    return Mesh(n, elements)
+
+
+def word_at(data, at):
+    return data[at] + 256 * data[at + 1]
+
+
+def test_header(data):
+    if len(data) > MOST_BYTES:
+        raise Refusal(12, 'the file is too long')
+    if len(data) < HEADER_BYTES:
+        raise Refusal(12, 'the file has only %d bytes' % len(data))
+    if data[:3] != MARK:
+        raise Refusal(12, 'the file does not begin with the letters GRD')
+    if word_at(data, 3) != VERSION:
+        raise Refusal(12, 'the file has version %d' % word_at(data, 3))
+
+
+def element_at(data, n, at, name):
+    """The element that begins at this byte, and the byte after it."""
+    if at + 2 > len(data):
+        raise Refusal(12, 'the file ends before ' + name)
+    kind = word_at(data, at)
+    if kind not in KINDS:
+        raise Refusal(9, '%s has kind %d' % (name, kind))
+    end = at + 2 + 2 * KINDS[kind][1]
+    if end > len(data):
+        raise Refusal(12, 'the file ends within %s, a %s' % (name, KINDS[kind][0]))
+    nodes = [word_at(data, t) for t in range(at + 2, end, 2)]
+    test_nodes(n, nodes, '%s, a %s,' % (name, KINDS[kind][0]))
+    return (kind, nodes), end
+
+
+def test_nodes(n, nodes, name):
+    for place, p in enumerate(nodes):
+        if p == 0 or p > n:
+            raise Refusal(10, '%s has node %d, and the nodes are 1 to %d' % (name, p, n))
+        if p in nodes[:place]:
+            raise Refusal(10, '%s has node %d twice' % (name, p))
+
+
+def test_entries(mesh):
+    entries = sum(len(row) for row in neighbours(mesh))
+    if entries > MOST_ENTRIES:
+        raise Refusal(11, 'they give %d' % entries)
+
+
+def neighbours(mesh):
+    """The neighbours of each node by number; place 0 is empty. All nodes of an element adjoin one another."""
+    rows = [set() for _ in range(mesh.n + 1)]
+    for _, nodes in mesh.elements:
+        for p in nodes:
+            rows[p].update(nodes)
+    for p, row in enumerate(rows):
+        row.discard(p)
+    return rows
+
+
+# Writing.
+
+def element_bytes(kind):
+    return 2 + 2 * KINDS[kind][1]
+
+
+def write(mesh):
+    """The file's bytes. Nothing is tested here: read does that."""
+    words = [VERSION, mesh.n, len(mesh.elements)]
+    for kind, nodes in mesh.elements:
+        words.append(kind)
+        words.extend(nodes)
+    return MARK + b''.join(word.to_bytes(2, 'little') for word in words)
+
+
+# Words for people.
+
+def counted(value, name):
+    """Such as '1 node' or '4,096 nodes'."""
+    return '%s %s' % (format(value, ','), name if value == 1 else name + 's')
+
+
+def summary(mesh):
+    """One line: nodes, elements and how many of each kind."""
+    counts = {}
+    for kind, _ in mesh.elements:
+        counts[kind] = counts.get(kind, 0) + 1
+    kinds = ', '.join('%s %d' % (KINDS[kind][0], counts[kind]) for kind in sorted(counts))
+    return '%s, %s%s' % (counted(mesh.n, 'node'), counted(len(mesh.elements), 'element'), ' (%s)' % kinds if kinds else '')
+
+
+def explain(data):
+    """What is in the file, or why the program refuses it: a text, and whether it is legal."""
+    try:
+        return summary(read(data)), True
+    except Refusal as refusal:
+        return str(refusal), False
+
+
+def main(words):
+    if len(words) != 1:
+        print(__doc__.strip(), file=sys.stderr)
+        return 2
+    try:
+        with open(words[0], 'rb') as file:
+            # one byte more than is legal shows that a file is too long
+            text, legal = explain(file.read(MOST_BYTES + 1))
+    except OSError as error:
+        text, legal = error.strerror, False
+    print('%s: %s' % (words[0], text), file=sys.stdout if legal else sys.stderr)
+    return 0 if legal else 1
+
+
+if __name__ == '__main__':
+    sys.exit(main(sys.argv[1:]))

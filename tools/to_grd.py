@@ -1,0 +1,73 @@
+#!/usr/bin/env python3
+"""Gmsh, CalculiX, Abaqus and NASTRAN meshes to GRD.
+
+  to_grd.py IN OUT.grd              by IN's ending: .msh, .inp, or .bdf .nas .dat .fem
+  to_grd.py --from gmsh|abaqus|nastran IN OUT.grd
+  to_grd.py --compact IN OUT.grd    close gaps in the node numbers; OUT.nodes has the map
+"""
+
+import argparse
+import os
+import sys
+
+import abaqus
+import gmsh
+import grd
+import nastran
+from files import command, read_lines, write_all
+from model import Fault, mesh_of
+
+READERS = {'gmsh': gmsh.read, 'abaqus': abaqus.read, 'nastran': nastran.read}
+ENDINGS = {'.msh': 'gmsh', '.inp': 'abaqus', '.bdf': 'nastran', '.nas': 'nastran', '.dat': 'nastran', '.fem': 'nastran'}
+
+
+def format_of(path):
+    ending = os.path.splitext(path)[1].lower()
+    if ending not in ENDINGS:
+        raise Fault(0, 'the ending %r tells no format: say --from gmsh, abaqus or nastran' % ending)
+    return ENDINGS[ending]
+
+
+def map_path(out):
+    return os.path.splitext(out)[0] + '.nodes'
+
+
+def map_bytes(numbers):
+    """A line for each node: its number in GRD, its number in the input."""
+    return ''.join('%d %d\n' % pair for pair in enumerate(numbers, 1)).encode('ascii')
+
+
+def convert(arguments):
+    read = READERS[arguments.format or format_of(arguments.input)]
+    model = read(read_lines(arguments.input))
+    mesh, numbers = mesh_of(model, arguments.compact)
+    outputs = [(arguments.output, grd.write(mesh))]
+    if arguments.compact:
+        outputs.append((map_path(arguments.output), map_bytes(numbers)))
+    write_all(outputs)
+    report(arguments, model, mesh)
+
+
+def report(arguments, model, mesh):
+    print('%s: %s' % (arguments.output, grd.summary(mesh)))
+    if arguments.compact:
+        print('%s: the numbers before and after closing gaps' % map_path(arguments.output))
+    if model.points:
+        print('one-node elements left out, as they join nothing: %d' % model.points)
+    alone = sum(1 for row in grd.neighbours(mesh)[1:] if not row)
+    if alone:
+        print('nodes in no element, each a part of its own: %d' % alone)
+
+
+def main(words):
+    parser = argparse.ArgumentParser(prog='to_grd.py', description='Gmsh, CalculiX, Abaqus and NASTRAN meshes to GRD')
+    parser.add_argument('--from', dest='format', choices=sorted(READERS), help="the input's format; otherwise its ending tells")
+    parser.add_argument('--compact', action='store_true', help='renumber nodes by rising number; OUT.nodes has the map')
+    parser.add_argument('input', metavar='IN')
+    parser.add_argument('output', metavar='OUT.grd')
+    arguments = parser.parse_args(words)
+    return command(lambda: convert(arguments), arguments.input)
+
+
+if __name__ == '__main__':
+    sys.exit(main(sys.argv[1:]))
