@@ -5,7 +5,7 @@
   files.py --check    say whether the two stand as this script makes them
   files.py --show K   print file K (line K of stdout), its kind and its line
 
-The input has for each file its length, four bytes low byte first, and its bytes. A line has 'entries' and their count or 'refused' and the
+The input has for each file its length, four bytes low byte first, and its bytes. A line has 'accepted' and the entry count or 'refused' and the
 number, then for each of the four lent lists (words, starts, neighbours, scratch) its words up to the last that isn't as it was lent. All
 expected lines come from tests/reference.
 """
@@ -20,12 +20,12 @@ sys.path[:0] = [os.path.join(TOP, 'tests', 'reference'), HERE]
 import calls
 from listing import element_refusal, header_refusal, nodes_of_file, words_after_header
 from mesh import NODE_COUNT
-from vectors import Draw, changed, keep, number, of_words, pattern, shown, tally
+from vectors import Draw, answer_text, changed, keep, number, of_words, pattern, shown, tally
 
 CRATE = os.path.join(TOP, 'crates', 'reading_test')
 
-# What the program lends: a little more than any file needs.
-LENT = [pattern(size) for size in (35000, 4100, 32780, 4100)]
+# How many words the program lends: some more than any file needs.
+LENT = (35000, 4100, 32780, 4100)
 
 
 # What is expected.
@@ -43,11 +43,10 @@ def read(file, words, starts, neighbours, scratch):
 
 
 def expected(file):
-    """The answer, as 'refused 9' or 'entries 8', and the whole line."""
-    lent = [list(buffer) for buffer in LENT]
-    state, value = read(file, *lent)
-    answer = 'refused %d' % value if state == 'refused' else 'entries %d' % value[0]
-    return answer, answer + ''.join(shown(changed(now, then)) for now, then in zip(lent, LENT))
+    """The answer, as 'refused 9' or 'accepted 8', and the whole line."""
+    lent = [pattern(size) for size in LENT]
+    answer = answer_text(read(file, *lent))
+    return answer, answer + ''.join(shown(changed(buffer)) for buffer in lent)
 
 
 # Files.
@@ -279,7 +278,7 @@ def main(words):
         print('%s, %d bytes: %s\n%s' % (kind, len(file), file[:200].hex(' '), expected(file)[1]))
         return 0
     lines = [expected(file) for _, file in vectors]
-    answers = ['accepted' if answer.startswith('entries') else answer for answer, _ in lines]
+    answers = [answer if answer.startswith('refused') else 'accepted' for answer, _ in lines]
     status = keep([(os.path.join(CRATE, 'stdin'), b''.join(number(len(file)) + file for _, file in vectors)),
                    (os.path.join(CRATE, 'stdout'), ''.join(line + '\n' for _, line in lines).encode('ascii'))], '--check' in words)
     tally('kinds', [kind for kind, _ in vectors])

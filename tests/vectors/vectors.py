@@ -7,21 +7,27 @@ import random
 
 MOST_SHOWN = 120
 MODULUS = 4294967291
+PATTERN = [60000 + i % 5000 for i in range(40000)]
+BYTE_PATTERN = [100 + i % 100 for i in range(40000)]
 
 
 # Lent buffers.
 
 def pattern(count):
     """Words as a buffer of this length has them before a call; no list of a mesh has a word above 32,768."""
-    return [60000 + i % 5000 for i in range(count)]
+    return PATTERN[:count]
 
 
-def changed(buffer, lent):
+def byte_pattern(count):
+    return BYTE_PATTERN[:count]
+
+
+def changed(buffer):
     """Words up to the last one that isn't as it was lent."""
     size, step = len(buffer), 1024
-    while size >= step and buffer[size - step:size] == lent[size - step:size]:
+    while size >= step and buffer[size - step:size] == PATTERN[size - step:size]:
         size -= step
-    while size > 0 and buffer[size - 1] == lent[size - 1]:
+    while size > 0 and buffer[size - 1] == PATTERN[size - 1]:
         size -= 1
     return buffer[:size]
 
@@ -38,6 +44,14 @@ def shown(words):
     if len(words) > MOST_SHOWN:
         return '; %d sum %d' % (len(words), checksum(words))
     return '; ' + ' '.join(str(word) for word in [len(words)] + words)
+
+
+def answer_text(answer):
+    """'refused' and the number, or 'accepted' and the figures."""
+    words = []
+    for part in answer:
+        words += answer_text(part).split() if isinstance(part, tuple) else [str(part)]
+    return ' '.join(words)
 
 
 # Numbers of the input.

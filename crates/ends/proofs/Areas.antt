@@ -1,5 +1,5 @@
 -- Searches in areas: the parts of a list that are lent, and a search whose last level was put into another order. Assumes nothing.
-use mathlib.Core.Path.{_≡_, refl, sym, ap, _∙_}
+use mathlib.Core.Path.{_≡_, sym, ap, _∙_}
 use mathlib.Core.Bool.{true}
 use mathlib.Core.List.{List, [], _∷_, _++_, append-assoc, append-nil}
 use Prim.Native.Nat.{ℕ, _+_, _-_, _≤_, _<_}
@@ -12,8 +12,8 @@ use lib.Dec.{eqb, ltb}
 use Rattle.basis.specs.Lists.{memb}
 use Rattle.basis.specs.Perm.{times, Perm}
 use Rattle.basis.proofs.Count.{count-append, bit-most}
-use Rattle.basis.proofs.Lists.{memb-append}
-use Rattle.basis.proofs.Logic.{clash, or-right}
+use Rattle.basis.proofs.Lists.{memb-append, memb-length}
+use Rattle.basis.proofs.Logic.{or-right}
 use Rattle.basis.proofs.Perm.{perm-refl, perm-append, perm-trans, perm-memb, perm-length}
 use Rattle.spec.specs.Graph.{graphOf, sizeOf, graphRefusal, ofNode}
 use Rattle.spec.specs.Levels.{levels, reached, part}
@@ -168,11 +168,7 @@ module _ {S N : List ℕ} {v : ℕ} {W : List ℕ} (z : graphRefusal S N ≡ 0) 
   tail-nodes q m = queue-nodes q (memb-drop q (rootedOf (levels (graphOf S N) v) .last) (take (reached (levels (graphOf S N) v)) (drop (sizeOf S) W)) m)
 
   pub some-reached : 1 ≤ reached (levels (graphOf S N) v)
-  some-reached = omega (arith, reached-part G M, memb-length (part (graphOf S N) v) v (part-self G M))
-    where
-      memb-length : (l : List ℕ) (q : ℕ) → memb q l ≡ true → 1 ≤ length l
-      memb-length [] q m = clash m refl
-      memb-length (x ∷ l) q m = omega arith
+  some-reached = omega (arith, reached-part G M, memb-length v (part (graphOf S N) v) (part-self G M))
 
   pub tail-once : (q : ℕ) → times q (slice (rootedOf (levels (graphOf S N) v) .last) (reached (levels (graphOf S N) v)) (drop (sizeOf S) W)) ≤ 1
   tail-once q =

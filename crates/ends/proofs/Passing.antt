@@ -1,7 +1,7 @@
 -- One pass: the sorted last level is S in E, and what going through it gives is the next v or u. Assumes nothing.
-use mathlib.Core.Path.{_≡_, refl, sym, ap, _∙_, subst}
+use mathlib.Core.Path.{_≡_, sym, ap, _∙_, subst}
 use mathlib.Core.Bool.{true}
-use mathlib.Core.List.{List, [], _∷_, _++_}
+use mathlib.Core.List.{List, _++_}
 use Prim.Native.Nat.{ℕ, _+_, _-_, _≤_, _<_}
 use native.Mathlib.Omega.{arith}
 use lib.ListN.{length, take, drop, length-append, length-drop}
@@ -10,7 +10,7 @@ use lib.Dec.{ltb}
 use borrow.Rule.Slice.PartMut.{postOf}
 use Rattle.basis.specs.Lists.{chainb, filterb, memb}
 use Rattle.basis.specs.Perm.{times}
-use Rattle.basis.proofs.Logic.{clash}
+use Rattle.basis.proofs.Lists.{memb-length}
 use Rattle.basis.proofs.Sort.{sorted-chain}
 use Rattle.spec.specs.Ends.{depthAt, farthest, deeper, otherEnd}
 use Rattle.spec.specs.Graph.{graphOf, sizeOf, beforeE}
@@ -56,11 +56,7 @@ module _ {S N : List ℕ} {v : ℕ} {r : Rooted} {W : List ℕ} (A : At S N v r 
   T-some =
       let e : length (slice (sizeOf S + m) (sizeOf S + c) X) ≡ sizeOf S + c - (sizeOf S + m) = length-slice (sizeOf S + m) (sizeOf S + c) X (omega (arith, c-high, X-size)) in
       let f : slice (sizeOf S + m) (sizeOf S + c) X ≡ farthest (graphOf S N) v = (λ i. slice (sizeOf S + em i) (sizeOf S + ec i) X) ∙ K .tail in
-      omega (arith, e, ap length f, some (farthest (graphOf S N) v) (otherEnd (graphOf S N) v) (other-far G M))
-    where
-      some : (l : List ℕ) (q : ℕ) → memb q l ≡ true → 1 ≤ length l
-      some [] q k = clash k refl
-      some (x ∷ l) q k = omega arith
+      omega (arith, e, ap length f, memb-length (otherEnd (graphOf S N) v) (farthest (graphOf S N) v) (other-far G M))
 
   once : (q : ℕ) → times q (farthest (graphOf S N) v) ≤ 1
   once q =

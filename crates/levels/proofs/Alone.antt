@@ -1,26 +1,25 @@
 -- One part alone: its members, in words and levels that were set to 0. Assumes nothing.
-use mathlib.Core.Path.{_≡_, refl, sym, ap, _∙_}
-use mathlib.Core.Bool.{Bool, true}
-use mathlib.Core.List.{List, [], _∷_}
+use mathlib.Core.Path.{_≡_, sym, ap, _∙_}
+use mathlib.Core.Bool.{true}
+use mathlib.Core.List.{List}
 use Prim.Native.Nat.{ℕ, _+_, _-_, _*_, _≤_, _<_}
 use native.Mathlib.Omega.{arith}
 use lib.ListN.{length, getD, take, drop, replicate, length-map, length-replicate}
 use lib.Seq.{sets, length-sets, ext-getD, drop-drop}
-use Rattle.basis.specs.Lists.{joinAll, memb, upFrom}
-use Rattle.basis.proofs.Count.{length-filter, count-length}
+use Rattle.basis.specs.Lists.{memb, upFrom}
 use Rattle.basis.proofs.Index.{getD-map-upFrom, memb-getD}
-use Rattle.basis.proofs.Lists.{length-upFrom}
-use Rattle.basis.proofs.Logic.{clash}
+use Rattle.basis.proofs.Lists.{memb-length, length-upFrom}
 use Rattle.spec.specs.Combined.{combined}
 use Rattle.spec.specs.Ends.{ends}
-use Rattle.spec.specs.Graph.{Graph, graphOf, sizeOf, graphRefusal, nodes}
+use Rattle.spec.specs.Graph.{Graph, graphOf, sizeOf, graphRefusal}
 use Rattle.spec.specs.Lent.{zeroed}
-use Rattle.spec.specs.Levels.{levels, part}
+use Rattle.spec.specs.Levels.{part}
 use Rattle.laws.specs.Legal.{Node, LegalGraph}
 use Rattle.laws.proofs.Ends.{ends-of, ends-same}
-use Rattle.laws.proofs.Legal.{length-nodes, ofNode-at}
+use Rattle.laws.proofs.Legal.{ofNode-at}
 use Rattle.laws.proofs.Lent.{zeroed-all, zeroed-behind}
-use Rattle.laws.proofs.Levels.{part-listed, part-node, part-self, part-same}
+use Rattle.laws.proofs.Levels.{part-node, part-self, part-same}
+use Rattle.laws.proofs.Parts.{part-most}
 use Rattle.laws.proofs.Refused.{not-refused}
 use Rattle.search.proofs.Stores.{take-sets, drop-sets}
 use Rattle.piecing.specs.Given.{firstOf, endsOf, merged}
@@ -66,16 +65,10 @@ module _ (S N : List ℕ) (p : ℕ) (L W : List ℕ) (ok : graphRefusal S N ≡ 
   gather-ask = (ok, (range, (omega (arith, W₀-size), blank (2 * n) (omega arith))))
 
   P-some : 1 ≤ length P
-  P-some = some P (part-self G M)
-    where
-      some : (l : List ℕ) → memb p l ≡ true → 1 ≤ length l
-      some [] e = clash e refl
-      some (x ∷ l) e = omega arith
+  P-some = memb-length p P (part-self G M)
 
   P-most : length P ≤ n
-  P-most =
-      let t : ℕ → Bool = λ q. memb q (joinAll (levels g p)) in
-      omega (arith, ap length (part-listed g p), length-filter t (nodes g), count-length t (nodes g), length-nodes g)
+  P-most = part-most g p
 
   module _ {count : ℕ} (c : count ≡ length P) {U : List ℕ} (u : U ≡ sets W₀ (5 * n) P) where
     abbrev z : ℕ

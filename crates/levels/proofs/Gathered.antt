@@ -1,14 +1,14 @@
 -- The members of a part as a search finds them. Assumes nothing.
-use mathlib.Core.Path.{_≡_, refl, sym, ap, _∙_}
-use mathlib.Core.List.{List, [], _∷_, _++_}
-use Prim.Native.Nat.{ℕ, suc, _+_, _-_, _*_, _≤_}
+use mathlib.Core.Path.{_≡_, sym, ap, _∙_}
+use mathlib.Core.List.{List, _++_}
+use Prim.Native.Nat.{ℕ, _+_, _-_, _*_, _≤_}
 use native.Mathlib.Omega.{arith}
-use native.Mathlib.Nat.{add-suc}
-use lib.ListN.{length, getD, set, take, drop, replicate, length-append, length-drop, take-append-drop, List·getD-append}
-use lib.Seq.{sets, take-at, drop-at, drop-set-add, getD-take}
+use lib.ListN.{length, getD, take, drop, replicate, length-append, length-drop, take-append-drop, List·getD-append}
+use lib.Seq.{sets, take-at, drop-at, getD-take}
 use lib.Dec.{ltb}
 use borrow.Rule.Slice.PartMut.{postOf}
 use Rattle.basis.specs.Lists.{upFrom}
+use Rattle.basis.proofs.Next.{drop-sets-add}
 use Rattle.basis.proofs.Lists.{filter-cong}
 use Rattle.spec.specs.Graph.{Graph, graphOf, sizeOf, graphRefusal, nodes, ofNode}
 use Rattle.spec.specs.Levels.{levels, levelOf, levelList, reached, part}
@@ -21,13 +21,6 @@ use Rattle.search.specs.Queue.{Queued}
 use Rattle.search.proofs.Stores.{take-sets}
 use Rattle.ends.proofs.Areas.{front-lent, front-back}
 use Rattle.levels.specs.Part.{placed}
-
--- stores behind the first k words
-drop-sets-add : (k : ℕ) (W : List ℕ) (t : ℕ) (xs : List ℕ) → drop k (sets W (k + t) xs) ≡ sets (drop k W) t xs
-drop-sets-add k W t [] = refl
-drop-sets-add k W t (x ∷ xs) =
-    ap (λ (j : ℕ). drop k (sets (set W (k + t) x) j xs)) (sym (add-suc k t)) ∙ drop-sets-add k (set W (k + t) x) (suc t) xs
-    ∙ ap (λ (l : List ℕ). sets l (suc t) xs) (drop-set-add k W t x)
 
 -- ---- a search in the first 2n words, and its nodes collected
 

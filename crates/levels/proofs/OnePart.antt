@@ -9,19 +9,19 @@ use lib.Seq.{slice, ext-getD, take-append-le, take-take, getD-take, getD-drop}
 use borrow.Rule.Slice.PartMut.{postOf, mid-len}
 use Rattle.basis.specs.Lists.{memb, upFrom}
 use Rattle.basis.proofs.Index.{getD-right, getD-map-upFrom}
-use Rattle.basis.proofs.Lists.{filter-in, map-cong, length-upFrom}
+use Rattle.basis.proofs.Lists.{map-cong, length-upFrom}
 use Rattle.spec.specs.Combined.{combined, widthOf}
 use Rattle.spec.specs.Ends.{Ends, ends}
-use Rattle.spec.specs.Graph.{Graph, graphOf, sizeOf, graphRefusal, firstInE, nodes}
+use Rattle.spec.specs.Graph.{Graph, graphOf, sizeOf, graphRefusal, firstInE}
 use Rattle.spec.specs.Lent.{zeroed}
 use Rattle.spec.specs.Levels.{levels, reached, levelList, part}
 use Rattle.laws.specs.Legal.{Node, LegalGraph, Starts}
 use Rattle.laws.specs.Structure.{EndsOf}
 use Rattle.laws.proofs.Ends.{ends-of}
 use Rattle.laws.proofs.Figures.{reached-part}
-use Rattle.laws.proofs.Legal.{node-in}
 use Rattle.laws.proofs.Lent.{zeroed-is}
-use Rattle.laws.proofs.Levels.{part-listed, part-node, part-same}
+use Rattle.laws.proofs.Levels.{part-node, part-same}
+use Rattle.laws.proofs.Parts.{part-inside}
 use Rattle.laws.proofs.Refused.{passed, starts-of, not-refused}
 use Rattle.search.specs.Queue.{Queued}
 use Rattle.search.proofs.Stores.{take-replicate}
@@ -82,7 +82,7 @@ module _ (S N : List ℕ) (ok : graphRefusal S N ≡ 0) {from to : ℕ} {W L : L
   G = not-refused S N ok
 
   z-node : Node g z
-  z-node = node-in g z (filter-in _ (nodes g) z (ap (memb z) (part-listed g z ∙ sym (A .members)) ∙ member-in n from to W from (omega arith) (A .order)) .0)
+  z-node = part-inside g z z (ap (memb z) (sym (A .members)) ∙ member-in n from to W from (omega arith) (A .order))
 
   lent-is : lent ≡ part g z
   lent-is = members-lent n from to W (omega (arith, A .order)) (omega (arith, A .words, A .most)) ∙ A .members

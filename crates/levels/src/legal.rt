@@ -1,7 +1,7 @@
 // The combined levels of one part of a legal graph, for callers that have its members. The scratch has areas of n words: the levels and
 // queues of two searches, counts of levels, and the members of the parts.
 ghost use mathlib.Core.Path.{_≡_};
-ghost use Prim.Native.Nat.{_+_, _*_, _≤_};
+ghost use Prim.Native.Nat.{_*_, _≤_};
 ghost use lib.ListN.{length, take, replicate};
 ghost use lib.Seq.{sets};
 ghost use Rattle.spec.specs.Graph.{graphOf, sizeOf, graphRefusal};

@@ -21,7 +21,7 @@ use Rattle.spec.specs.Mesh.{entryCount, startList, neighbourList}
 use Rattle.laws.specs.Legal.{Node, LegalGraph}
 use Rattle.laws.proofs.Legal.{of-row}
 use Rattle.rows.specs.Rows.{entriesTo}
-use Rattle.rows.proofs.Next.{sum-next, join-length}
+use Rattle.basis.proofs.Next.{sum-next, join-length}
 use Rattle.rows.proofs.Blocks.{to-none, to-upto}
 
 module _ (g : Graph) where

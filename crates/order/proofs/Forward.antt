@@ -1,12 +1,12 @@
 -- The order of a part, level after level. Assumes nothing.
 use mathlib.Core.Path.{_≡_, refl, sym, ap, ap₂, _∙_}
 use mathlib.Core.Logic.{_⊎_, ⊎-elim}
-use mathlib.Core.Bool.{Bool, true, false}
+use mathlib.Core.Bool.{Bool, true, false, cond}
 use mathlib.Core.List.{List, [], _∷_, _++_, foldl, append-nil}
 use Prim.Native.Nat.{ℕ, zero, suc, _+_, _-_, _≤_, _<_}
 use native.Mathlib.Omega.{arith}
 use native.Mathlib.Numerals.{add-one}
-use lib.ListN.{length, take, drop, replicate, length-append, take-append-drop}
+use lib.ListN.{length, take, drop, replicate, length-append, length-map, take-append-drop}
 use lib.Seq.{take-at, drop-at}
 use lib.Dec.{eqb}
 use borrow.Author.Tests.{eqb-true}
@@ -15,18 +15,20 @@ use Rattle.basis.proofs.Count.{bit-one, bit-none, memb-times, times-memb}
 use Rattle.basis.proofs.Lists.{memb-append, memb-here, filter-none, filter-append}
 use Rattle.basis.proofs.Logic.{by-test, clash, fails, or-split, or-right}
 use Rattle.basis.proofs.Perm.{perm-memb}
-use Rattle.spec.specs.Graph.{Graph, graphOf, graphRefusal, sizeOf, ofNode}
+use Rattle.spec.specs.Graph.{Graph, nodes, graphOf, graphRefusal, sizeOf, ofNode}
 use Rattle.spec.specs.Numbering.{levelNodes, unnumberedBy, within, fromBefore, laterLevel, forwardOrder}
 use Rattle.laws.specs.Legal.{Node}
 use Rattle.laws.specs.Order.{Grown, Filled}
+use Rattle.laws.proofs.Legal.{length-nodes}
 use Rattle.laws.proofs.LevelOrder.{later-filled, first-filled, from-grown, within-grown, left-length}
 use Rattle.laws.proofs.PartOrder.{level-in, level-make, level-once}
 use Rattle.laws.proofs.Refused.{not-refused}
-use Rattle.order.specs.Model.{stand, orderIn, Listed, Open, Became, foundBy, addBy, membersIn, levelsIn, Behind, Begun, Levelled, Starting, filledIn, laterIn}
+use Rattle.order.specs.Model.{stand, orderIn, Listed, Open, Became, foundBy, addBy, ownLevels, Standing, Begun, Levelled, Starting, filledIn, laterIn}
 use Rattle.order.proofs.Stand.{open-at, at-order, at-next, at-became, stand-behind, listed-append, listed-none}
 use Rattle.order.proofs.Walk.{Walk, walk-begin}
 use Rattle.order.proofs.Part.{member-node, own-member, found-same, fold-same}
-use Rattle.order.proofs.Level.{push-walk, behind-on, levels-on}
+use Rattle.order.proofs.Stack.{standing-far}
+use Rattle.order.proofs.Level.{push-walk, standing-on, levels-on}
 use Rattle.order.proofs.Wipe.{marks-none}
 
 filter-every : (t : ℕ → Bool) (l : List ℕ) → ((x : ℕ) → memb x l ≡ true → t x ≡ true) → filterb t l ≡ l
@@ -138,50 +140,50 @@ within-longer g level o =
     omega (arith, ap length (G .is), length-append o (G .cur))
 
 -- one level: what the level before finds, and then the rest
-module _ (S N : List ℕ) {n at from m : ℕ} {W : List ℕ} {a b i : ℕ} (ok : graphRefusal S N ≡ 0) (q : n ≡ sizeOf S) (O : Open n b W)
-    (B : Behind (graphOf S N) n at from m W) (D : Levelled (graphOf S N) (levelsIn (graphOf S N) at from m W) i a (orderIn n b W)) where
+module _ (S N : List ℕ) {n at : ℕ} {P W : List ℕ} {a b i : ℕ} (ok : graphRefusal S N ≡ 0) (q : n ≡ sizeOf S) (O : Open n b W)
+    (B : Standing (graphOf S N) n at P W) (D : Levelled (graphOf S N) (ownLevels (graphOf S N) P (drop at W)) i a (orderIn n b W)) where
   abbrev gr : Graph
   gr = graphOf S N
 
   abbrev lv : List ℕ
-  lv = levelsIn (graphOf S N) at from m W
+  lv = ownLevels (graphOf S N) P (drop at W)
 
   abbrev ord : List ℕ
   ord = orderIn n b W
 
   abbrev mid : List ℕ
-  mid = fromBefore (graphOf S N) (levelNodes (graphOf S N) (levelsIn (graphOf S N) at from m W) (i - 1)) (levelNodes (graphOf S N) (levelsIn (graphOf S N) at from m W) i) (orderIn n b W)
+  mid = fromBefore (graphOf S N) (levelNodes (graphOf S N) (ownLevels (graphOf S N) P (drop at W)) (i - 1)) (levelNodes (graphOf S N) (ownLevels (graphOf S N) P (drop at W)) i) (orderIn n b W)
 
   -- the nodes from a on are those of the level before
   same-before : foldl (addBy (foundBy gr (drop at W) i)) ord (drop a ord) ≡ mid
   unfolding fromBefore
   same-before =
       fold-same (foundBy gr (drop at W) i) (unnumberedBy gr (levelNodes gr lv i)) (drop a ord) ord
-      (λ o w k. found-same (not-refused S N ok) (membersIn from m W) (drop at W) (B .rising) (B .closed) i (D .some) o w (member w k))
+      (λ o w k. found-same (not-refused S N ok) P (drop at W) (B .rising) (B .closed) i (D .some) o w (member w k))
       ∙ ap (foldl (addBy (unnumberedBy gr (levelNodes gr lv i))) ord) (sym (D .last))
     where
-      member : (w : ℕ) → memb w (drop a ord) ≡ true → memb w (membersIn from m W) ≡ true
+      member : (w : ℕ) → memb w (drop a ord) ≡ true → memb w P ≡ true
       member w k =
           let j : memb w ord ≡ true = ap (memb w) (sym (take-append-drop a ord)) ∙ memb-append w (take a ord) (drop a ord) ∙ or-right (memb w (take a ord)) k in
           let r = O .listed .inside w j in
-          own-member (not-refused S N ok) (membersIn from m W) (drop at W) (B .rising) (B .closed) w (record { low = r .0; high = rw (← q) (r .1) }) (D .low w j)
+          own-member (not-refused S N ok) P (drop at W) (B .rising) (B .closed) w (record { low = r .0; high = rw (← q) (r .1) }) (D .low w j)
 
   module _ {e : ℕ} {W₁ : List ℕ} (s : length W₁ ≡ length W) (X : Became n W (foldl (addBy (foundBy (graphOf S N) (drop at W) i)) (orderIn n b W) (drop a (orderIn n b W))) e W₁) where
-    pub level-walk : Walk S N n at W (fromBefore (graphOf S N) (levelNodes (graphOf S N) (levelsIn (graphOf S N) at from m W) (i - 1)) (levelNodes (graphOf S N) (levelsIn (graphOf S N) at from m W) i) (orderIn n b W)) W₁ e
+    pub level-walk : Walk S N n at W (fromBefore (graphOf S N) (levelNodes (graphOf S N) (ownLevels (graphOf S N) P (drop at W)) (i - 1)) (levelNodes (graphOf S N) (ownLevels (graphOf S N) P (drop at W)) i) (orderIn n b W)) W₁ e
     level-walk = record {
       ok = ok;
       sized = q;
       now = at-next (open-at O) (before-listed gr lv D q (O .listed)) (before-longer gr lv D) (rw same-before at X);
-      behind = B .levels;
+      behind = standing-far B;
       room = O .room;
       size = s;
     }
 
-    pub level-begun : Begun (graphOf S N) (levelsIn (graphOf S N) at from m W₁) i b (orderIn n e W₁)
+    pub level-begun : Begun (graphOf S N) (ownLevels (graphOf S N) P (drop at W₁)) i b (orderIn n e W₁)
     level-begun = rw (levels-on level-walk B, at-order (level-walk .now)) (begun-later gr lv D (open-at O .count))
 
-    pub level-done : {r : ℕ} {W₂ : List ℕ} → Became n W₁ (filledIn (graphOf S N) (levelsIn (graphOf S N) at from m W₁) i (orderIn n e W₁)) r W₂
-        → Became n W (laterIn (graphOf S N) (levelsIn (graphOf S N) at from m W) (orderIn n b W) i) r W₂
+    pub level-done : {r : ℕ} {W₂ : List ℕ} → Became n W₁ (filledIn (graphOf S N) (ownLevels (graphOf S N) P (drop at W₁)) i (orderIn n e W₁)) r W₂
+        → Became n W (laterIn (graphOf S N) (ownLevels (graphOf S N) P (drop at W)) (orderIn n b W) i) r W₂
     unfolding laterLevel
     level-done Y =
         at-became (at-next (level-walk .now) (later-listed gr lv D q (O .listed)) (within-longer gr (levelNodes gr lv i) mid)
@@ -190,31 +192,31 @@ module _ (S N : List ℕ) {n at from m : ℕ} {W : List ℕ} {a b i : ℕ} (ok :
 -- ---- level after level
 
 -- the levels up to i are numbered
-pub record Advancing (S N : List ℕ) (n at from m : ℕ) (W₀ : List ℕ) (t k : ℕ) (W : List ℕ) (a b i : ℕ) : Type 0 where
+pub record Advancing (S N : List ℕ) (n at : ℕ) (P W₀ : List ℕ) (t k : ℕ) (W : List ℕ) (a b i : ℕ) : Type 0 where
   pub order : List ℕ
   pub walk : Walk S N n at W₀ order W b
-  pub behind : Behind (graphOf S N) n at from m W₀
+  pub standing : Standing (graphOf S N) n at P W₀
   pub most : i ≤ k
-  pub levelled : Levelled (graphOf S N) (levelsIn (graphOf S N) at from m W₀) (suc i) a order
-  pub goes : foldl (laterIn (graphOf S N) (levelsIn (graphOf S N) at from m W₀)) order (upFrom (suc i) (k - i))
-      ≡ foldl (laterIn (graphOf S N) (levelsIn (graphOf S N) at from m W₀)) (orderIn n t W₀) (upFrom 2 (k - 1))
+  pub levelled : Levelled (graphOf S N) (ownLevels (graphOf S N) P (drop at W₀)) (suc i) a order
+  pub goes : foldl (laterIn (graphOf S N) (ownLevels (graphOf S N) P (drop at W₀))) order (upFrom (suc i) (k - i))
+      ≡ foldl (laterIn (graphOf S N) (ownLevels (graphOf S N) P (drop at W₀))) (orderIn n t W₀) (upFrom 2 (k - 1))
 
-pub advance-begin : {S N : List ℕ} {n at from m t k : ℕ} {W : List ℕ} → graphRefusal S N ≡ 0 → n ≡ sizeOf S → Open n t W → Behind (graphOf S N) n at from m W
-    → Levelled (graphOf S N) (levelsIn (graphOf S N) at from m W) 2 0 (orderIn n t W) → 1 ≤ k → Advancing S N n at from m W t k W 0 t 1
-advance-begin ok q O B D h = record { order = _; walk = walk-begin ok q O (B .levels); behind = B; most = h; levelled = D; goes = refl }
+pub advance-begin : {S N : List ℕ} {n at t k : ℕ} {P W : List ℕ} → graphRefusal S N ≡ 0 → n ≡ sizeOf S → Open n t W → Standing (graphOf S N) n at P W
+    → Levelled (graphOf S N) (ownLevels (graphOf S N) P (drop at W)) 2 0 (orderIn n t W) → 1 ≤ k → Advancing S N n at P W t k W 0 t 1
+advance-begin ok q O B D h = record { order = _; walk = walk-begin ok q O (standing-far B); standing = B; most = h; levelled = D; goes = refl }
 
-module _ {S N : List ℕ} {n at from m : ℕ} {W₀ : List ℕ} {t k : ℕ} {W : List ℕ} {a b i : ℕ} (I : Advancing S N n at from m W₀ t k W a b i) where
-  pub advance-behind : Behind (graphOf S N) n at from m W
-  advance-behind = behind-on (I .walk) (I .behind)
+module _ {S N : List ℕ} {n at : ℕ} {P W₀ : List ℕ} {t k : ℕ} {W : List ℕ} {a b i : ℕ} (I : Advancing S N n at P W₀ t k W a b i) where
+  pub advance-standing : Standing (graphOf S N) n at P W
+  advance-standing = standing-on (I .walk) (I .standing)
 
-  pub advance-levelled : Levelled (graphOf S N) (levelsIn (graphOf S N) at from m W) (i + 1) a (orderIn n b W)
-  advance-levelled = rw (levels-on (I .walk) (I .behind), at-order (I .walk .now), add-one i) (I .levelled)
+  pub advance-levelled : Levelled (graphOf S N) (ownLevels (graphOf S N) P (drop at W)) (i + 1) a (orderIn n b W)
+  advance-levelled = rw (levels-on (I .walk) (I .standing), at-order (I .walk .now), add-one i) (I .levelled)
 
   pub advance-step : i < k → {e : ℕ} {W′ : List ℕ} → length W′ ≡ length W
-      → Became n W (laterIn (graphOf S N) (levelsIn (graphOf S N) at from m W) (orderIn n b W) (i + 1)) e W′ → Advancing S N n at from m W₀ t k W′ b e (i + 1)
+      → Became n W (laterIn (graphOf S N) (ownLevels (graphOf S N) P (drop at W)) (orderIn n b W) (i + 1)) e W′ → Advancing S N n at P W₀ t k W′ b e (i + 1)
   advance-step h {e} {W′} s X =
       let g : Graph = graphOf S N in
-      let ls : List ℕ = levelsIn g at from m W₀ in
+      let ls : List ℕ = ownLevels g P (drop at W₀) in
       let c : k - i ≡ suc (k - suc i) = omega arith in
       rw (add-one i) (record {
         order = laterIn g ls (I .order) (suc i);
@@ -223,18 +225,18 @@ module _ {S N : List ℕ} {n at from m : ℕ} {W₀ : List ℕ} {t k : ℕ} {W :
           sized = I .walk .sized;
           now =
               at-next (I .walk .now) (later-listed g ls (I .levelled) (I .walk .sized) (I .walk .now .listed)) (later-longer g ls (I .levelled))
-              (rw (levels-on (I .walk) (I .behind), at-order (I .walk .now), add-one i) at X);
+              (rw (levels-on (I .walk) (I .standing), at-order (I .walk .now), add-one i) at X);
           behind = I .walk .behind;
           room = I .walk .room;
           size = s ∙ I .walk .size;
         };
-        behind = I .behind;
+        standing = I .standing;
         most = h;
         levelled = rw (I .walk .now .count) (levelled-next g ls (I .levelled));
         goes = ap (λ (d : ℕ). foldl (laterIn g ls) (I .order) (upFrom (suc i) d)) (sym c) ∙ I .goes;
       })
 
-  pub advance-done : k ≤ i → Became n W₀ (foldl (laterIn (graphOf S N) (levelsIn (graphOf S N) at from m W₀)) (orderIn n t W₀) (upFrom 2 (k - 1))) b W
+  pub advance-done : k ≤ i → Became n W₀ (foldl (laterIn (graphOf S N) (ownLevels (graphOf S N) P (drop at W₀))) (orderIn n t W₀) (upFrom 2 (k - 1))) b W
   advance-done h = let c : k - i ≡ 0 = omega arith in rw (← I .goes, c) (at-became (I .walk .now))
 
 -- the levels after level i, on lists
@@ -247,82 +249,87 @@ laters-listed g ls q (suc m) i a o D A =
 
 -- ---- the whole order of a part
 
-module _ (S N : List ℕ) {at from m k v : ℕ} {W : List ℕ} (ok : graphRefusal S N ≡ 0) (zeros : take (sizeOf S) W ≡ replicate (sizeOf S) 0)
-    (B : Behind (graphOf S N) (sizeOf S) at from m W) (T : Starting (levelsIn (graphOf S N) at from m W) (membersIn from m W) k v) where
-  abbrev size : ℕ
-  size = sizeOf S
-
+module _ (S N : List ℕ) {n at k v : ℕ} {P W : List ℕ} (ok : graphRefusal S N ≡ 0) (sized : n ≡ sizeOf S) (zeros : take n W ≡ replicate n 0)
+    (B : Standing (graphOf S N) n at P W) (T : Starting (ownLevels (graphOf S N) P (drop at W)) P k v) where
   abbrev graph : Graph
   graph = graphOf S N
 
   abbrev levels : List ℕ
-  levels = levelsIn (graphOf S N) at from m W
+  levels = ownLevels (graphOf S N) P (drop at W)
 
   -- no node is numbered yet
-  pub start-open : Open (sizeOf S) 0 W
+  pub start-open : Open n 0 W
   start-open = record {
-    marked = zeros ∙ sym (marks-none size);
-    listed = listed-none size;
+    marked = zeros ∙ sym (marks-none n);
+    listed = listed-none n;
     fits = omega arith;
-    room = omega (arith, B .levels .behind, B .levels .held);
+    room = omega (arith, B .behind, B .held);
   }
 
   node : Node graph v
-  node = member-node (not-refused S N ok) (membersIn from m W) (drop at W) (B .rising) (B .closed) v (T .member)
+  node = member-node (not-refused S N ok) P (drop at W) (B .rising) (B .closed) v (T .member)
 
-  pub start-range : (1 ≤ v) × (v ≤ sizeOf S)
-  start-range = (node .low, node .high)
+  pub start-range : (1 ≤ v) × (v ≤ n)
+  start-range = (node .low, rw sized (node .high))
+
+  pub start-levels : (1 ≤ k) × (k ≤ n)
+  unfolding ownLevels
+  start-levels = (T .some, omega (arith, T .few, length-map (nodes graph) (λ z. cond (memb z P) (ofNode (drop at W) z) 0), length-nodes graph, sized))
 
   in-first : memb v (levelNodes graph levels 1) ≡ true
   in-first = level-make graph levels 1 v node (T .first)
 
   -- the order is a list of nodes
-  pub forward-listed : Listed (sizeOf S) (forwardOrder (graphOf S N) (levelsIn (graphOf S N) at from m W) k v)
+  pub forward-listed : Listed n (forwardOrder (graphOf S N) (ownLevels (graphOf S N) P (drop at W)) k v)
   unfolding forwardOrder
   forward-listed =
-      laters-listed graph levels refl (k - 1) 2 0 (filledIn graph levels 1 (v ∷ [])) (levelled-first graph levels v in-first) (first-listed graph levels refl v in-first) .0
+      laters-listed graph levels sized (k - 1) 2 0 (filledIn graph levels 1 (v ∷ [])) (levelled-first graph levels v in-first) (first-listed graph levels sized v in-first) .0
 
   -- v is numbered
-  module _ {W₁ : List ℕ} (s₁ : length W₁ ≡ length W) (e₁ : W₁ ≡ stand (sizeOf S) (orderIn (sizeOf S) 0 W ++ (v ∷ [])) (drop (sizeOf S) W)) where
-    pub walk-one : Walk S N (sizeOf S) at W (v ∷ []) W₁ 1
-    walk-one = push-walk ok refl start-open (B .levels) v start-range refl s₁ e₁
+  module _ {W₁ : List ℕ} (s₁ : length W₁ ≡ length W) (e₁ : W₁ ≡ stand n (orderIn n 0 W ++ (v ∷ [])) (drop n W)) where
+    pub walk-one : Walk S N n at W (v ∷ []) W₁ 1
+    walk-one = push-walk ok sized start-open (standing-far B) v start-range refl s₁ e₁
 
-    pub begun-one : Begun (graphOf S N) (levelsIn (graphOf S N) at from m W₁) 1 0 (orderIn (sizeOf S) 1 W₁)
+    pub begun-one : Begun (graphOf S N) (ownLevels (graphOf S N) P (drop at W₁)) 1 0 (orderIn n 1 W₁)
     begun-one = rw (levels-on walk-one B, at-order (walk-one .now)) (begun-first graph levels v in-first)
 
     -- level 1 is numbered
-    module _ {b : ℕ} {W₂ : List ℕ} (s₂ : length W₂ ≡ length W₁) (X : Became (sizeOf S) W₁ (filledIn (graphOf S N) (levelsIn (graphOf S N) at from m W₁) 1 (orderIn (sizeOf S) 1 W₁)) b W₂) where
-      pub walk-two : Walk S N (sizeOf S) at W (filledIn (graphOf S N) (levelsIn (graphOf S N) at from m W) 1 (v ∷ [])) W₂ b
+    module _ {b : ℕ} {W₂ : List ℕ} (s₂ : length W₂ ≡ length W₁)
+        (F : (Q : List ℕ) → Standing (graphOf S N) n at Q W₁ → Begun (graphOf S N) (ownLevels (graphOf S N) Q (drop at W₁)) 1 0 (orderIn n 1 W₁)
+        → Became n W₁ (filledIn (graphOf S N) (ownLevels (graphOf S N) Q (drop at W₁)) 1 (orderIn n 1 W₁)) b W₂) where
+      pub walk-two : Walk S N n at W (filledIn (graphOf S N) (ownLevels (graphOf S N) P (drop at W)) 1 (v ∷ [])) W₂ b
       walk-two = record {
         ok = ok;
-        sized = refl;
+        sized = sized;
         now =
-            at-next (walk-one .now) (first-listed graph levels refl v in-first) (within-longer graph (levelNodes graph levels 1) (v ∷ []))
-            (rw (levels-on walk-one B, at-order (walk-one .now)) at X);
-        behind = B .levels;
+            at-next (walk-one .now) (first-listed graph levels sized v in-first) (within-longer graph (levelNodes graph levels 1) (v ∷ []))
+            (rw (levels-on walk-one B, at-order (walk-one .now)) at (F P (standing-on walk-one B) begun-one));
+        behind = standing-far B;
         room = start-open .room;
         size = s₂ ∙ s₁;
       }
 
-      pub levelled-two : Levelled (graphOf S N) (levelsIn (graphOf S N) at from m W₂) 2 0 (orderIn (sizeOf S) b W₂)
+      pub levelled-two : Levelled (graphOf S N) (ownLevels (graphOf S N) P (drop at W₂)) 2 0 (orderIn n b W₂)
       levelled-two = rw (levels-on walk-two B, at-order (walk-two .now)) (levelled-first graph levels v in-first)
 
       -- all levels are numbered
-      module _ {t : ℕ} {W₃ : List ℕ} (s₃ : length W₃ ≡ length W₂) (Y : Became (sizeOf S) W₂ (foldl (laterIn (graphOf S N) (levelsIn (graphOf S N) at from m W₂)) (orderIn (sizeOf S) b W₂) (upFrom 2 (k - 1))) t W₃) where
-        pub walk-all : Walk S N (sizeOf S) at W (forwardOrder (graphOf S N) (levelsIn (graphOf S N) at from m W) k v) W₃ t
+      module _ {t : ℕ} {W₃ : List ℕ} (s₃ : length W₃ ≡ length W₂)
+          (H : (Q : List ℕ) → Standing (graphOf S N) n at Q W₂ → Levelled (graphOf S N) (ownLevels (graphOf S N) Q (drop at W₂)) 2 0 (orderIn n b W₂)
+          → Became n W₂ (foldl (laterIn (graphOf S N) (ownLevels (graphOf S N) Q (drop at W₂))) (orderIn n b W₂) (upFrom 2 (k - 1))) t W₃) where
+        pub walk-all : Walk S N n at W (forwardOrder (graphOf S N) (ownLevels (graphOf S N) P (drop at W)) k v) W₃ t
         unfolding forwardOrder
         walk-all =
-            let r = laters-listed graph levels refl (k - 1) 2 0 (filledIn graph levels 1 (v ∷ [])) (levelled-first graph levels v in-first) (first-listed graph levels refl v in-first) in record {
+            let r = laters-listed graph levels sized (k - 1) 2 0 (filledIn graph levels 1 (v ∷ [])) (levelled-first graph levels v in-first) (first-listed graph levels sized v in-first) in record {
               ok = ok;
-              sized = refl;
-              now = at-next (walk-two .now) (r .0) (r .1) (rw (levels-on walk-two B, at-order (walk-two .now)) at Y);
-              behind = B .levels;
+              sized = sized;
+              now = at-next (walk-two .now) (r .0) (r .1) (rw (levels-on walk-two B, at-order (walk-two .now)) at (H P (standing-on walk-two B) levelled-two));
+              behind = standing-far B;
               room = start-open .room;
               size = s₃ ∙ s₂ ∙ s₁;
             }
 
-        pub forward-done : {W₄ : List ℕ} → W₄ ≡ replicate (sizeOf S) 0 ++ drop (sizeOf S) W₃
-            → W₄ ≡ replicate (sizeOf S) 0 ++ overwrite (forwardOrder (graphOf S N) (levelsIn (graphOf S N) at from m W) k v) (drop (sizeOf S) W)
+        pub forward-done : {W₄ : List ℕ} → W₄ ≡ replicate n 0 ++ drop n W₃
+            → W₄ ≡ replicate n 0 ++ overwrite (forwardOrder (graphOf S N) (ownLevels (graphOf S N) P (drop at W)) k v) (drop n W)
         forward-done e =
-            e ∙ ap (λ (l : List ℕ). replicate size 0 ++ l)
-            (ap (drop size) (walk-all .now .is) ∙ stand-behind size (forwardOrder graph levels k v) (drop size W))
+            e ∙ ap (λ (l : List ℕ). replicate n 0 ++ l)
+            (ap (drop n) (walk-all .now .is) ∙ stand-behind n (forwardOrder graph levels k v) (drop n W))

@@ -1,28 +1,29 @@
 -- The numbering of one level in the working words: the loop that fills it. Assumes nothing.
-use mathlib.Core.Path.{_≡_, refl, sym, ap, ap₂, _∙_}
+use mathlib.Core.Path.{_≡_, refl, sym, ap, _∙_}
 use mathlib.Core.Bool.{true, false}
 use mathlib.Core.List.{List, [], _∷_, _++_}
 use Prim.Native.Nat.{ℕ, _+_, _-_, _≤_, _<_}
 use native.Mathlib.Omega.{arith}
 use lib.ListN.{length, take, drop, getD, length-append, take-append-drop}
 use lib.Seq.{length-take-le}
-use Rattle.basis.specs.Lists.{filterb, memb}
+use Rattle.basis.specs.Lists.{memb}
 use borrow.Author.Tests.{eqb-true}
-use Rattle.basis.proofs.Lists.{filter-cong, memb-one}
-use Rattle.basis.proofs.Logic.{fails}
-use Rattle.spec.specs.Graph.{Graph, graphOf, graphRefusal, sizeOf, firstInE}
+use Rattle.basis.proofs.Lists.{memb-append, memb-one}
+use Rattle.basis.proofs.Logic.{fails, or-left}
+use Rattle.spec.specs.Graph.{Graph, graphOf, graphRefusal, sizeOf, sortE, ofNode}
 use Rattle.spec.specs.Numbering.{levelNodes}
-use Rattle.laws.specs.Legal.{Starts}
 use Rattle.laws.specs.Order.{Grown}
 use Rattle.laws.proofs.PartOrder.{level-in}
-use Rattle.laws.proofs.Refused.{passed, starts-of, not-refused}
-use Rattle.sorting.specs.Nodes.{Nodes}
-use Rattle.order.specs.Model.{orderIn, Listed, Open, Became, Far, free, isFree, foundBy, Spread, at-end, on, Spreads, stand, ownLevels, membersIn, levelsIn, Behind, Begun, filledIn}
+use Rattle.laws.proofs.Refused.{not-refused}
+use Rattle.ranking.specs.Stacks.{Chain, Rest}
+use Rattle.ranking.proofs.Stacks.{stacks-same}
+use Rattle.order.specs.Model.{orderIn, Listed, Open, Became, Far, foundBy, Spread, at-end, on, Spreads, stand, ownLevels, Standing, Begun, filledIn}
 use Rattle.order.proofs.Stand.{open-at, at-order, at-next, at-became, listed-append, listed-one}
-use Rattle.order.proofs.Free.{kept, free-is, row-fine, found-listed, push-listed}
-use Rattle.order.proofs.Walk.{Walk, walk-begin, walk-open, walk-far, walk-levels}
+use Rattle.order.proofs.Free.{row-fine, found-listed, push-listed}
+use Rattle.order.proofs.Walk.{Walk, walk-begin, walk-levels}
 use Rattle.order.proofs.Settle.{Cursor, cursor-start, cursor-end, cursor-left, cursor-done, leftFirst}
-use Rattle.order.proofs.Part.{member-node, level-member, left-same, found-same, left-in}
+use Rattle.order.proofs.Part.{level-member, found-same, left-in}
+use Rattle.order.proofs.Stack.{standing-far, walk-kept, Stack, stack-more, stack-on, stack-left, spread-more}
 
 -- a cursor keeps the order a list of nodes, and it grows
 pub spread-listed : (S N L : List ℕ) (i : ℕ) {n c : ℕ} {o o′ : List ℕ} → graphRefusal S N ≡ 0 → n ≡ sizeOf S
@@ -54,76 +55,54 @@ walk-spread {S} {N} {n} {at} {W₀} {o} {W} {e} K i c o₁ A h {r} {W′} s X =
     )
 
 -- level i is filled from b on, in the words W₀; the order has e nodes now, and z is the first in E that is left
-pub record Filling (S N : List ℕ) (n at from m : ℕ) (W₀ : List ℕ) (b t i : ℕ) (W : List ℕ) (e z : ℕ) : Type 0 where
+pub record Filling (S N : List ℕ) (n at : ℕ) (P W₀ : List ℕ) (b t i : ℕ) (W : List ℕ) (e z : ℕ) : Type 0 where
   pub order : List ℕ
   pub walk : Walk S N n at W₀ order W e
-  pub behind : Behind (graphOf S N) n at from m W₀
+  pub standing : Standing (graphOf S N) n at P W₀
   pub some : 1 ≤ i
-  pub cursor : Cursor (graphOf S N) (levelNodes (graphOf S N) (levelsIn (graphOf S N) at from m W₀) i) (take b (orderIn n t W₀)) order (length order)
-      (filledIn (graphOf S N) (levelsIn (graphOf S N) at from m W₀) i (orderIn n t W₀))
-  pub left : z ≡ leftFirst (graphOf S N) (levelNodes (graphOf S N) (levelsIn (graphOf S N) at from m W₀) i) order
+  pub cursor : Cursor (graphOf S N) (levelNodes (graphOf S N) (ownLevels (graphOf S N) P (drop at W₀)) i) (take b (orderIn n t W₀)) order (length order)
+      (filledIn (graphOf S N) (ownLevels (graphOf S N) P (drop at W₀)) i (orderIn n t W₀))
+  pub left : z ≡ leftFirst (graphOf S N) (levelNodes (graphOf S N) (ownLevels (graphOf S N) P (drop at W₀)) i) order
+  pub stack : Stack n at (graphOf S N) P W₀ i order W z
 
-module _ {S N : List ℕ} {n at from m : ℕ} {W₀ o W : List ℕ} {e : ℕ} (K : Walk S N n at W₀ o W e) (B : Behind (graphOf S N) n at from m W₀) where
-  -- the members stand as they stood
-  members-same : membersIn from m W ≡ membersIn from m W₀
-  members-same = ap (take m) (kept n from W₀ (B .start) (K .now))
-
-  -- what `first_left` asks
-  pub left-room : (at + sizeOf S ≤ length W) × (from + m ≤ length W)
-  left-room = (omega (arith, B .levels .held, K .size, K .sized), omega (arith, B .held, K .size))
-
-  pub left-nodes : Nodes (sizeOf S) (membersIn from m W)
-  left-nodes x k =
-      let X = member-node (not-refused S N (K .ok)) (membersIn from m W₀) (drop at W₀) (B .rising) (B .closed) x (ap (memb x) (sym members-same) ∙ k) in
-      (X .low, X .high)
-
-  pub left-is : {z : ℕ} (i : ℕ) → 1 ≤ i → ((N : List ℕ) → Starts S N → z ≡ firstInE (graphOf S N) (filterb (isFree W at i) (membersIn from m W)))
-      → z ≡ leftFirst (graphOf S N) (levelNodes (graphOf S N) (levelsIn (graphOf S N) at from m W₀) i) o
-  left-is {z} i h f =
-      let P : List ℕ = membersIn from m W₀ in
-      f N (starts-of (passed S N (K .ok)))
-      ∙ ap (firstInE (graphOf S N)) (ap (filterb (isFree W at i)) members-same ∙ filter-cong (isFree W at i) (free (drop at W₀) i o) P test
-      ∙ left-same (not-refused S N (K .ok)) P (drop at W₀) (B .rising) (B .closed) i h o)
-    where
-      test : (q : ℕ) → memb q (membersIn from m W₀) ≡ true → isFree W at i q ≡ free (drop at W₀) i o q
-      test q k =
-          let X = member-node (not-refused S N (K .ok)) (membersIn from m W₀) (drop at W₀) (B .rising) (B .closed) q k in
-          free-is (walk-open K) at q i (X .low) (rw (K .sized) (X .high)) ∙ ap₂ (λ (L : List ℕ) (p : List ℕ). free L i p q) (walk-levels K) (at-order (K .now))
+-- there is room for the stacks
+pub fill-room : {g : Graph} {n at : ℕ} {P W₀ : List ℕ} (W : List ℕ) → length W ≡ length W₀ → Standing g n at P W₀ → n + n + n + n ≤ length W
+fill-room W s B = omega (arith, s, B .behind, B .held)
 
 -- before the loop: the cursor has gone once
-pub fill-begin : {S N : List ℕ} {n at from m : ℕ} {W₀ : List ℕ} {b t i : ℕ} → graphRefusal S N ≡ 0 → n ≡ sizeOf S → Open n t W₀
-    → Behind (graphOf S N) n at from m W₀ → Begun (graphOf S N) (levelsIn (graphOf S N) at from m W₀) i b (orderIn n t W₀)
+pub fill-begin : {S N : List ℕ} {n at : ℕ} {P W₀ : List ℕ} {b t i : ℕ} → graphRefusal S N ≡ 0 → n ≡ sizeOf S → Open n t W₀
+    → Standing (graphOf S N) n at P W₀ → Begun (graphOf S N) (ownLevels (graphOf S N) P (drop at W₀)) i b (orderIn n t W₀)
     → {e : ℕ} {W : List ℕ} → length W ≡ length W₀ → Spreads n (foundBy (graphOf S N) (drop at W₀) i) b (orderIn n t W₀) W₀ e W
     → (Walk S N n at W₀ (orderIn n e W) W e)
-    × Cursor (graphOf S N) (levelNodes (graphOf S N) (levelsIn (graphOf S N) at from m W₀) i) (take b (orderIn n t W₀)) (orderIn n e W) (length (orderIn n e W))
-    (filledIn (graphOf S N) (levelsIn (graphOf S N) at from m W₀) i (orderIn n t W₀))
-fill-begin {S} {N} {n} {at} {from} {m} {W₀} {b} {t} {i} ok q O B D {e} {W} s X =
+    × Cursor (graphOf S N) (levelNodes (graphOf S N) (ownLevels (graphOf S N) P (drop at W₀)) i) (take b (orderIn n t W₀)) (orderIn n e W) (length (orderIn n e W))
+    (filledIn (graphOf S N) (ownLevels (graphOf S N) P (drop at W₀)) i (orderIn n t W₀))
+fill-begin {S} {N} {n} {at} {P} {W₀} {b} {t} {i} ok q O B D {e} {W} s X =
     let g : Graph = graphOf S N in
-    let ls : List ℕ = levelsIn g at from m W₀ in
+    let ls : List ℕ = ownLevels g P (drop at W₀) in
     let o : List ℕ = orderIn n t W₀ in
     let G : Grown (take b o) (levelNodes g ls i) o = record { cur = drop b o; is = sym (take-append-drop b o); few = D .here } in
-    let K = walk-begin ok q O (B .levels) in
+    let K = walk-begin ok q O (standing-far B) in
     let Y = walk-spread K i b o (O .listed) (omega arith) s X in
     let C = cursor-start g (levelNodes g ls i) (take b o) o G (λ x k. fails _ (λ p. omega (arith, D .below x p, level-in g ls i x k .1))) in (
       Y .0,
-      cursor-end g (levelNodes g ls i) (λ p w k. found-same (not-refused S N ok) (membersIn from m W₀) (drop at W₀) (B .rising) (B .closed) i (D .some) p w
-          (level-member (not-refused S N ok) (membersIn from m W₀) (drop at W₀) (B .rising) (B .closed) i (D .some) w k)) (Y .1)
+      cursor-end g (levelNodes g ls i) (λ p w k. found-same (not-refused S N ok) P (drop at W₀) (B .rising) (B .closed) i (D .some) p w
+          (level-member (not-refused S N ok) P (drop at W₀) (B .rising) (B .closed) i (D .some) w k)) (Y .1)
           (rw (length-take-le b o (D .inside)) at C),
     )
 
-module _ {S N : List ℕ} {n at from m : ℕ} {W₀ : List ℕ} {b t i : ℕ} {W : List ℕ} {e z : ℕ} (I : Filling S N n at from m W₀ b t i W e z) where
+module _ {S N : List ℕ} {n at : ℕ} {P W₀ : List ℕ} {b t i : ℕ} {W : List ℕ} {e z : ℕ} (I : Filling S N n at P W₀ b t i W e z) where
   abbrev g : Graph
   g = graphOf S N
 
   abbrev lev : List ℕ
-  lev = levelNodes (graphOf S N) (levelsIn (graphOf S N) at from m W₀) i
+  lev = levelNodes (graphOf S N) (ownLevels (graphOf S N) P (drop at W₀)) i
 
   -- what `resume` asks of the node that is left
   pub left-range : (z ≡ 0 → ⊥) → (1 ≤ z) × (z ≤ n)
   left-range h =
       let k : 1 ≤ z = omega arith in
       let w = left-in g lev (I .order) z (sym (I .left)) k in
-      let X = level-in g (levelsIn g at from m W₀) i z (w .0) .0 in
+      let X = level-in g (ownLevels g P (drop at W₀)) i z (w .0) .0 in
       (k, rw (I .walk .sized) (X .high))
 
   pub left-unseen : (z ≡ 0 → ⊥) → memb z (orderIn n e W) ≡ false
@@ -133,9 +112,10 @@ module _ {S N : List ℕ} {n at from m : ℕ} {W₀ : List ℕ} {b t i : ℕ} {W
   pub fill-step : (z ≡ 0 → ⊥) → {e′ : ℕ} {W′ : List ℕ} → length W′ ≡ length W
       → Spreads n (foundBy (graphOf S N) (drop at W) i) e (orderIn n e W ++ (z ∷ [])) W e′ W′
       → (Walk S N n at W₀ (orderIn n e′ W′) W′ e′)
-      × Cursor (graphOf S N) (levelNodes (graphOf S N) (levelsIn (graphOf S N) at from m W₀) i) (take b (orderIn n t W₀)) (orderIn n e′ W′) (length (orderIn n e′ W′))
-      (filledIn (graphOf S N) (levelsIn (graphOf S N) at from m W₀) i (orderIn n t W₀))
+      × Cursor (graphOf S N) (levelNodes (graphOf S N) (ownLevels (graphOf S N) P (drop at W₀)) i) (take b (orderIn n t W₀)) (orderIn n e′ W′) (length (orderIn n e′ W′))
+      (filledIn (graphOf S N) (ownLevels (graphOf S N) P (drop at W₀)) i (orderIn n t W₀))
       × (e < e′)
+      × Stack n at (graphOf S N) P W₀ i (orderIn n e′ W′) W′ z
   fill-step h {e′} {W′} s X =
       let o₁ : List ℕ = I .order ++ (z ∷ []) in
       let r = left-range h in
@@ -144,24 +124,25 @@ module _ {S N : List ℕ} {n at from m : ℕ} {W₀ : List ℕ} {b t i : ℕ} {W
       let Y = walk-spread (I .walk) i e o₁ A (omega (arith, length-append (I .order) (z ∷ []))) s (rw (at-order (I .walk .now)) at X) in
       let C = cursor-left g lev z (I .cursor) (sym (I .left)) (r .0) in (
         Y .0,
-        cursor-end g lev (λ p u k. found-same (not-refused S N (I .walk .ok)) (membersIn from m W₀) (drop at W₀) (I .behind .rising) (I .behind .closed) i (I .some) p u
-            (level-member (not-refused S N (I .walk .ok)) (membersIn from m W₀) (drop at W₀) (I .behind .rising) (I .behind .closed) i (I .some) u k)) (Y .1)
+        cursor-end g lev (λ p u k. found-same (not-refused S N (I .walk .ok)) P (drop at W₀) (I .standing .rising) (I .standing .closed) i (I .some) p u
+            (level-member (not-refused S N (I .walk .ok)) P (drop at W₀) (I .standing .rising) (I .standing .closed) i (I .some) u k)) (Y .1)
             (rw (← I .walk .now .count) at C),
         omega (arith, Y .2, length-append (I .order) (z ∷ []), I .walk .now .count),
+        stack-more (I .walk) (I .stack) (Y .0) (λ x k. spread-more (Y .1) x (memb-append x (I .order) (z ∷ []) ∙ or-left (memb x (z ∷ [])) k)),
       )
 
-  pub fill-done : z ≡ 0 → Became n W₀ (filledIn (graphOf S N) (levelsIn (graphOf S N) at from m W₀) i (orderIn n t W₀)) e W
+  pub fill-done : z ≡ 0 → Became n W₀ (filledIn (graphOf S N) (ownLevels (graphOf S N) P (drop at W₀)) i (orderIn n t W₀)) e W
   fill-done h =
-      rw (← cursor-done g lev (I .cursor) (λ q k. level-in g (levelsIn g at from m W₀) i q k .0 .low) (sym (I .left) ∙ h)) (at-became (I .walk .now))
+      rw (← cursor-done g lev (I .cursor) (λ q k. level-in g (ownLevels g P (drop at W₀)) i q k .0 .low) (sym (I .left) ∙ h)) (at-became (I .walk .now))
 
 -- the loop goes on with the node found
-pub fill-on : {S N : List ℕ} {n at from m : ℕ} {W₀ : List ℕ} {b t i : ℕ} {W o : List ℕ} {e z : ℕ} → Behind (graphOf S N) n at from m W₀ → 1 ≤ i
+pub fill-on : {S N : List ℕ} {n at : ℕ} {P W₀ : List ℕ} {b t i : ℕ} {W o : List ℕ} {e q z : ℕ} → Standing (graphOf S N) n at P W₀ → 1 ≤ i
     → Walk S N n at W₀ o W e
-    → Cursor (graphOf S N) (levelNodes (graphOf S N) (levelsIn (graphOf S N) at from m W₀) i) (take b (orderIn n t W₀)) o (length o)
-    (filledIn (graphOf S N) (levelsIn (graphOf S N) at from m W₀) i (orderIn n t W₀))
-    → ((N : List ℕ) → Starts S N → z ≡ firstInE (graphOf S N) (filterb (isFree W at i) (membersIn from m W)))
-    → Filling S N n at from m W₀ b t i W e z
-fill-on {o = o} B h K C f = record { order = o; walk = K; behind = B; some = h; cursor = C; left = left-is K B _ h f }
+    → Cursor (graphOf S N) (levelNodes (graphOf S N) (ownLevels (graphOf S N) P (drop at W₀)) i) (take b (orderIn n t W₀)) o (length o)
+    (filledIn (graphOf S N) (ownLevels (graphOf S N) P (drop at W₀)) i (orderIn n t W₀))
+    → Stack n at (graphOf S N) P W₀ i o W q → ((l : List ℕ) → Chain n (n + n) W q l → Rest n W l z)
+    → Filling S N n at P W₀ b t i W e z
+fill-on {o = o} B h K C T f = record { order = o; walk = K; standing = B; some = h; cursor = C; left = stack-left K T f B h; stack = stack-on K T f }
 
 -- ---- a leftover, and the cursor from it
 
@@ -190,16 +171,18 @@ resume-done {t = t} {o = o} K i s X =
 
 -- ---- what stands behind goes on to stand there
 
-module _ {S N : List ℕ} {n at from m : ℕ} {W₀ o W : List ℕ} {e : ℕ} (K : Walk S N n at W₀ o W e) (B : Behind (graphOf S N) n at from m W₀) where
-  pub behind-on : Behind (graphOf S N) n at from m W
-  behind-on = record {
-    levels = walk-far K;
-    start = B .start;
+module _ {S N : List ℕ} {n at : ℕ} {P W₀ o W : List ℕ} {e : ℕ} (K : Walk S N n at W₀ o W e) (B : Standing (graphOf S N) n at P W₀) where
+  pub standing-on : Standing (graphOf S N) n at P W
+  standing-on = record {
+    behind = B .behind;
     held = omega (arith, B .held, K .size);
-    rising = rw (members-same K B) (B .rising);
-    closed = rw (members-same K B) (B .closed);
-    low = rw (members-same K B, walk-levels K) (B .low);
+    rising = B .rising;
+    closed = B .closed;
+    stacks =
+        rw (walk-levels K)
+        (stacks-same n (n + n + n) (n + n) (ofNode (drop at W₀)) (sortE (graphOf S N) P) W₀ W
+        (λ k lo hi. walk-kept K (n + n + n + (k - 1)) (omega arith)) (λ q m lo hi. walk-kept K (n + n + (q - 1)) (omega arith)) (B .stacks));
   }
 
-  pub levels-on : levelsIn (graphOf S N) at from m W ≡ levelsIn (graphOf S N) at from m W₀
-  levels-on = ap₂ (λ (P : List ℕ) (L : List ℕ). ownLevels (graphOf S N) P L) (members-same K B) (walk-levels K)
+  pub levels-on : ownLevels (graphOf S N) P (drop at W) ≡ ownLevels (graphOf S N) P (drop at W₀)
+  levels-on = ap (ownLevels (graphOf S N) P) (walk-levels K)

@@ -2,11 +2,10 @@ pub mod Settle
 pub mod Stand
 pub mod Free
 pub mod Walk
-pub mod Left
 pub mod Part
+pub mod Stack
 pub mod Level
 pub mod Wipe
 pub mod Forward
+pub mod Whole
 pub mod Callers
-pub mod Written
-pub mod Beside

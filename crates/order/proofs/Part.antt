@@ -1,7 +1,7 @@
 -- What the code finds along rows and among the part's nodes is what `spec` says of the level: by the part's levels, 0 outside it.
 -- Assumes nothing.
 use mathlib.Core.Path.{_≡_, refl, sym, ap, _∙_, subst}
-use mathlib.Core.Bool.{Bool, true, false, not, _&&_, cond}
+use mathlib.Core.Bool.{Bool, true, false, not, _&&_, cond, and-comm}
 use mathlib.Core.List.{List, [], _∷_, _++_, foldl}
 use Prim.Native.Nat.{ℕ, _+_, _≤_}
 use native.Mathlib.Omega.{arith}
@@ -22,7 +22,7 @@ use Rattle.laws.proofs.PartOrder.{level-in, level-make, level-once}
 use Rattle.order.specs.Model.{free, foundBy, addBy, ownLevels}
 use Rattle.order.proofs.Settle.{leftFirst}
 
-filter-filter : (s t : ℕ → Bool) (l : List ℕ) → filterb s (filterb t l) ≡ filterb (λ x. t x && s x) l
+pub filter-filter : (s t : ℕ → Bool) (l : List ℕ) → filterb s (filterb t l) ≡ filterb (λ x. t x && s x) l
 filter-filter s t [] = refl
 filter-filter s t (x ∷ l) =
     let ih = filter-filter s t l in
@@ -88,14 +88,8 @@ module _ {g : Graph} (G : LegalGraph g) (P L : List ℕ) (rising : P ≡ filterb
         at : (q : ℕ) → memb q (nodes g) ≡ true → memb q P && free L i o q ≡ eqb (ofNode ls q) i && not (memb q o)
         at q m =
             by-test (memb q P)
-            (λ e. rw (e, own-in q e) (swap (not (memb q o)) (eqb (ofNode L q) i)))
+            (λ e. rw (e, own-in q e) (and-comm (not (memb q o)) (eqb (ofNode L q) i)))
             (λ e. rw (e, fails (eqb (ofNode ls q) i) (λ f. clash (own-member q (node-in g q m) (omega (arith, eqb-true (ofNode ls q) i f))) e)))
-          where
-            swap : (a b : Bool) → a && b ≡ b && a
-            swap true true = refl
-            swap true false = refl
-            swap false true = refl
-            swap false false = refl
 
     -- what a node of the part finds along its row is what it finds in the level
     pub found-same : (o : List ℕ) (w : ℕ) → memb w P ≡ true → foundBy g L i o w ≡ unnumberedBy g (levelNodes g ls i) o w

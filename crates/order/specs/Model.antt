@@ -3,15 +3,17 @@
 use mathlib.Core.Path.{_≡_}
 use mathlib.Core.Bool.{Bool, true, not, _&&_, cond}
 use mathlib.Core.List.{List, [], _∷_, _++_, map}
-use Prim.Native.Nat.{ℕ, suc, _+_, _-_, _≤_, _<_}
-use lib.ListN.{length, take, drop, getD, set}
+use Prim.Native.Nat.{ℕ, suc, _+_, _-_, _*_, _≤_, _<_}
+use lib.ListN.{length, take, drop, getD}
 use lib.Dec.{eqb}
 use Rattle.basis.specs.Lists.{bit, filterb, memb, upFrom}
 use Rattle.basis.specs.Perm.{times, Once}
-use Rattle.spec.specs.Graph.{Graph, nodes, beforeE, sortE, ofNode}
+use Rattle.spec.specs.Graph.{Graph, nodes, sortE, ofNode}
 use Rattle.spec.specs.Numbering.{levelNodes, within, laterLevel}
 use Rattle.laws.specs.Legal.{Closed}
 use Rattle.sorting.specs.Nodes.{Nodes}
+use Rattle.ranking.specs.Part.{membersIn}
+use Rattle.ranking.specs.Stacks.{Stacks}
 
 -- ---- the working words
 
@@ -59,10 +61,6 @@ free L i o q = not (memb q o) && eqb (ofNode L q) i
 abbrev pub isFree : List ℕ → ℕ → ℕ → ℕ → Bool
 isFree W at i q = eqb (getD W (q - 1) 0) 0 && eqb (getD W (at + (q - 1)) 0) i
 
--- the first of p and q in E, where p may be 0 for no node
-abbrev pub firstOf : Graph → ℕ → ℕ → ℕ
-firstOf g p q = cond (eqb p 0) q (cond (beforeE g q p) q p)
-
 -- w's unnumbered neighbours in level i, in E
 unfoldable pub foundBy : Graph → List ℕ → ℕ → List ℕ → ℕ → List ℕ
 foundBy g L i o w = sortE g (filterb (free L i o) (g .row w))
@@ -83,10 +81,6 @@ pub record Spreads (n : ℕ) (by : List ℕ → ℕ → List ℕ) (c : ℕ) (o W
 
 -- ---- the part
 
--- the part's m nodes, which stand from `from` on
-abbrev pub membersIn : ℕ → ℕ → List ℕ → List ℕ
-membersIn from m W = take m (drop from W)
-
 -- the levels of the part P's nodes by old number, as L has them, and 0 for all other nodes
 unfoldable pub ownLevels : Graph → List ℕ → List ℕ → List ℕ
 ownLevels g P L = map (λ z. cond (memb z P) (ofNode L z) 0) (nodes g)
@@ -95,19 +89,19 @@ ownLevels g P L = map (λ z. cond (memb z P) (ofNode L z) 0) (nodes g)
 abbrev pub levelsIn : Graph → ℕ → ℕ → ℕ → List ℕ → List ℕ
 levelsIn g at from m W = ownLevels g (membersIn from m W) (drop at W)
 
--- The part's nodes and their levels stand behind the order: the levels from `at` on, the m nodes, in rising order, from `from` on. No edge
--- leaves the part, and all its levels are at least 1.
-pub record Behind (g : Graph) (n at from m : ℕ) (W : List ℕ) : Type 0 where
-  pub levels : Far n at W
-  pub start : n + n ≤ from
-  pub held : from + m ≤ length W
-  pub rising : membersIn from m W ≡ filterb (λ q. memb q (membersIn from m W)) (nodes g)
-  pub closed : Closed g (membersIn from m W)
-  pub low : (q : ℕ) → memb q (membersIn from m W) ≡ true → 1 ≤ ofNode (drop at W) q
+-- The part P's levels stand by old number from `at` on, and its nodes on the stacks of their levels, in E, in the 2n words behind the
+-- order. No edge leaves the part.
+pub record Standing (g : Graph) (n at : ℕ) (P W : List ℕ) : Type 0 where
+  pub behind : 4 * n ≤ at
+  pub held : at + n ≤ length W
+  pub rising : P ≡ filterb (λ q. memb q P) (nodes g)
+  pub closed : Closed g P
+  pub stacks : Stacks n (n + n + n) (n + n) (ofNode (drop at W)) (sortE g P) W
 
--- v is a node of the part, in level 1, and there is a level
+-- v is a node of the part, in level 1, and there are from 1 to n levels
 pub record Starting (ls P : List ℕ) (k v : ℕ) : Type 0 where
   pub some : 1 ≤ k
+  pub few : k ≤ length ls
   pub member : memb v P ≡ true
   pub first : ofNode ls v ≡ 1
 
@@ -133,27 +127,3 @@ filledIn g ls i o = within (length (levelNodes g ls i)) g (levelNodes g ls i) o
 -- a later level i numbered after the order o
 abbrev pub laterIn : Graph → List ℕ → List ℕ → ℕ → List ℕ
 laterIn g ls o i = laterLevel g (levelNodes g ls (i - 1)) (levelNodes g ls i) o
-
--- ---- levels in a list of their own
-
--- the words W with f z written for each node z of P, by old number from `at` on
-unfoldable pub written : (ℕ → ℕ) → ℕ → List ℕ → List ℕ → List ℕ
-written f at W [] = W
-written f at W (z ∷ P) = written f at (set W (at + (z - 1)) (f z)) P
-
--- the n words from `at` on lie behind the order and before the part's m nodes, which stand from `from` on
-pub record Between (n at from m : ℕ) (W : List ℕ) : Type 0 where
-  pub behind : n + n ≤ at
-  pub before : at + n ≤ from
-  pub held : from + m ≤ length W
-  pub nodes : Nodes n (membersIn from m W)
-
--- The part's levels stand in L, and its m nodes, in rising order, from `from` on. No edge leaves the part, and all its levels are at least 1.
--- The words from `at` on are 0 for its nodes.
-pub record Beside (g : Graph) (n at from m : ℕ) (L W : List ℕ) : Type 0 where
-  pub between : Between n at from m W
-  pub long : n ≤ length L
-  pub rising : membersIn from m W ≡ filterb (λ q. memb q (membersIn from m W)) (nodes g)
-  pub closed : Closed g (membersIn from m W)
-  pub low : (q : ℕ) → memb q (membersIn from m W) ≡ true → 1 ≤ ofNode L q
-  pub zeros : (q : ℕ) → memb q (membersIn from m W) ≡ true → getD W (at + (q - 1)) 0 ≡ 0

@@ -1,18 +1,22 @@
-// The order of one part of a legal graph, level by level (document 01, "Numbering"), in lent words: n marks by old number, then the order
-// as it grows. The levels of the part's nodes stand by old number from `at` on, its m nodes in rising order from `from` on: words behind
-// the order are only read.
+// The order of one part of a legal graph, level by level (document 01, "Numbering"), in lent words of n each: marks by old number, the order
+// as it grows, and the stacks of the levels, from which a leftover comes. The levels of the part's nodes stand by old number from `at` on.
+// Linear in the part's nodes and entries, but for the sorts of what a node finds.
 ghost use mathlib.Core.Path.{_≡_};
-ghost use mathlib.Core.Bool.{true, false, cond};
+ghost use mathlib.Core.Bool.{true, false};
 ghost use mathlib.Core.List.{List, [], _∷_, _++_, foldl};
-ghost use Prim.Native.Nat.{ℕ, _+_, _-_, _≤_, _<_};
+ghost use Prim.Native.Nat.{ℕ, _+_, _-_, _*_, _≤_};
 ghost use lib.ListN.{length, take, drop, replicate};
 ghost use lib.Dec.{ltb};
 ghost use Rattle.basis.specs.Lists.{filterb, chainb, memb, upFrom, overwrite};
-ghost use Rattle.spec.specs.Graph.{sizeOf, graphOf, graphRefusal, sortE, firstInE, ofNode};
+ghost use Rattle.spec.specs.Graph.{sizeOf, graphOf, graphRefusal, sortE};
 ghost use Rattle.spec.specs.Numbering.{forwardOrder};
 ghost use Rattle.laws.specs.Legal.{Starts};
 ghost use Rattle.sorting.specs.Nodes.{Nodes};
-ghost use Rattle.order.specs.Model.{stand, orderIn, Open, Became, Far, free, isFree, firstOf, foundBy, addBy, Spreads, membersIn, levelsIn, Behind, Begun, Levelled, Starting, filledIn, laterIn, ownLevels, written, Between, Beside};
+ghost use Rattle.ranking.specs.Part.{membersIn, Behind};
+ghost use Rattle.order.specs.Model.{stand, orderIn, Open, Became, Far, free, isFree, foundBy, addBy, Spreads, levelsIn, ownLevels, Standing, Begun, Levelled, Starting, filledIn, laterIn};
+use ranking::legal::rank;
+use ranking::legal::unmarked;
+use ranking::legal::unrank;
 use words::wide;
 
 // Whether the node q has no number yet and stands in level i.
@@ -162,42 +166,6 @@ fn spread(
     e
 }
 
-// The first in E of `best`, 0 for none, and q, if q has no number yet and stands in level i.
-fn consider(starts: &[u16], work: &[u16], at: usize, best: u16, q: u16, i: u16) -> u16
-    requires { ⌜ ((neighbours : List ℕ) × Starts (now starts) neighbours) ⌝ }
-    requires { ⌜ (best ≤ sizeOf (now starts)) × (1 ≤ q) × (q ≤ sizeOf (now starts)) ⌝ }
-    requires { ⌜ at + q ≤ length (now work) ⌝ }
-    ensures { λ r. ⌜ ((neighbours : List ℕ) → Starts (now (starts .entry)) neighbours → r ≡ cond (isFree (now (work .entry)) at i q) (firstOf (graphOf (now (starts .entry)) neighbours) best q) best) ⌝ }
-{
-    if is_free(work, at, wide(q), i) {
-        if best == 0 {
-            return q;
-        }
-        if graph::legal::precedes(starts, wide(q), wide(best)) {
-            return q;
-        }
-    }
-    best
-}
-
-// The first in E of the part's nodes in level i that are left, 0 where none is.
-fn first_left(starts: &[u16], work: &[u16], at: usize, from: usize, m: usize, i: u16) -> u16
-    requires { ⌜ ((neighbours : List ℕ) × Starts (now starts) neighbours) ⌝ }
-    requires { ⌜ at + sizeOf (now starts) ≤ length (now work) ⌝ }
-    requires { ⌜ from + m ≤ length (now work) ⌝ }
-    requires { ⌜ Nodes (sizeOf (now starts)) (membersIn from m (now work)) ⌝ }
-    ensures { λ r. ⌜ ((neighbours : List ℕ) → Starts (now (starts .entry)) neighbours → r ≡ firstInE (graphOf (now (starts .entry)) neighbours) (filterb (isFree (now (work .entry)) at i) (membersIn from m (now (work .entry))))) ⌝ }
-{
-    let mut best: u16 = 0;
-    let mut j = 0;
-    while j < m {
-        let q = work[from + j];
-        best = consider(starts, work, at, best, q, i);
-        j += 1;
-    }
-    best
-}
-
 // "If nodes are left, number the first in E and go on": the node z, and then the cursor from it.
 fn resume(
     starts: &[u16],
@@ -221,15 +189,14 @@ fn resume(
     spread(starts, neighbours, work, n, at, t, t + 1, i)
 }
 
-// Numbers the rest of level i. Its nodes stand in the order from b on, up to t, where it ends.
+// Numbers the rest of level i. Its nodes stand in the order from b on, up to t, where it ends. Leftovers come from the level's stack, on
+// which a node once numbered stays so.
 fn fill(
     starts: &[u16],
     neighbours: &[u16],
     work: &mut [u16],
     n: usize,
     at: usize,
-    from: usize,
-    m: usize,
     b: usize,
     t: usize,
     i: u16,
@@ -237,15 +204,16 @@ fn fill(
     requires { ⌜ graphRefusal (now starts) (now neighbours) ≡ 0 ⌝ }
     requires { ⌜ n ≡ sizeOf (now starts) ⌝ }
     requires { ⌜ Open n t (now work) ⌝ }
-    requires { ⌜ Behind (graphOf (now starts) (now neighbours)) n at from m (now work) ⌝ }
-    requires { ⌜ Begun (graphOf (now starts) (now neighbours)) (levelsIn (graphOf (now starts) (now neighbours)) at from m (now work)) i b (orderIn n t (now work)) ⌝ }
-    ensures { λ r. ⌜ Became n (now (work .entry)) (filledIn (graphOf (now (starts .entry)) (now (neighbours .entry))) (levelsIn (graphOf (now (starts .entry)) (now (neighbours .entry))) at from m (now (work .entry))) i (orderIn n t (now (work .entry)))) r (now (work .exit)) ⌝ }
+    requires { ⌜ i ≤ n ⌝ }
+    requires { ⌜ ((P : List ℕ) × Standing (graphOf (now starts) (now neighbours)) n at P (now work) × Begun (graphOf (now starts) (now neighbours)) (ownLevels (graphOf (now starts) (now neighbours)) P (drop at (now work))) i b (orderIn n t (now work))) ⌝ }
+    ensures { λ r. ⌜ ((P : List ℕ) → Standing (graphOf (now (starts .entry)) (now (neighbours .entry))) n at P (now (work .entry)) → Begun (graphOf (now (starts .entry)) (now (neighbours .entry))) (ownLevels (graphOf (now (starts .entry)) (now (neighbours .entry))) P (drop at (now (work .entry)))) i b (orderIn n t (now (work .entry))) → Became n (now (work .entry)) (filledIn (graphOf (now (starts .entry)) (now (neighbours .entry))) (ownLevels (graphOf (now (starts .entry)) (now (neighbours .entry))) P (drop at (now (work .entry)))) i (orderIn n t (now (work .entry)))) r (now (work .exit))) ⌝ }
 {
     let mut e = spread(starts, neighbours, work, n, at, b, t, i);
-    let mut z = first_left(starts, work, at, from, m, i);
+    let top = work[n + n + n + (wide(i) - 1)];
+    let mut z = unmarked(work, n, top);
     while z != 0 {
         e = resume(starts, neighbours, work, n, at, e, z, i);
-        z = first_left(starts, work, at, from, m, i);
+        z = unmarked(work, n, z);
     }
     e
 }
@@ -257,8 +225,6 @@ fn level(
     work: &mut [u16],
     n: usize,
     at: usize,
-    from: usize,
-    m: usize,
     a: usize,
     b: usize,
     i: u16,
@@ -266,12 +232,12 @@ fn level(
     requires { ⌜ graphRefusal (now starts) (now neighbours) ≡ 0 ⌝ }
     requires { ⌜ n ≡ sizeOf (now starts) ⌝ }
     requires { ⌜ Open n b (now work) ⌝ }
-    requires { ⌜ Behind (graphOf (now starts) (now neighbours)) n at from m (now work) ⌝ }
-    requires { ⌜ Levelled (graphOf (now starts) (now neighbours)) (levelsIn (graphOf (now starts) (now neighbours)) at from m (now work)) i a (orderIn n b (now work)) ⌝ }
-    ensures { λ r. ⌜ Became n (now (work .entry)) (laterIn (graphOf (now (starts .entry)) (now (neighbours .entry))) (levelsIn (graphOf (now (starts .entry)) (now (neighbours .entry))) at from m (now (work .entry))) (orderIn n b (now (work .entry))) i) r (now (work .exit)) ⌝ }
+    requires { ⌜ i ≤ n ⌝ }
+    requires { ⌜ ((P : List ℕ) × Standing (graphOf (now starts) (now neighbours)) n at P (now work) × Levelled (graphOf (now starts) (now neighbours)) (ownLevels (graphOf (now starts) (now neighbours)) P (drop at (now work))) i a (orderIn n b (now work))) ⌝ }
+    ensures { λ r. ⌜ ((P : List ℕ) → Standing (graphOf (now (starts .entry)) (now (neighbours .entry))) n at P (now (work .entry)) → Levelled (graphOf (now (starts .entry)) (now (neighbours .entry))) (ownLevels (graphOf (now (starts .entry)) (now (neighbours .entry))) P (drop at (now (work .entry)))) i a (orderIn n b (now (work .entry))) → Became n (now (work .entry)) (laterIn (graphOf (now (starts .entry)) (now (neighbours .entry))) (ownLevels (graphOf (now (starts .entry)) (now (neighbours .entry))) P (drop at (now (work .entry)))) (orderIn n b (now (work .entry))) i) r (now (work .exit))) ⌝ }
 {
     let e = from_before(starts, neighbours, work, n, at, a, b, i);
-    fill(starts, neighbours, work, n, at, from, m, b, e, i)
+    fill(starts, neighbours, work, n, at, b, e, i)
 }
 
 // Sets the marks of the t nodes of the order to 0 again.
@@ -294,33 +260,44 @@ fn later_levels(
     work: &mut [u16],
     n: usize,
     at: usize,
-    from: usize,
-    m: usize,
     t: usize,
     k: u16,
 ) -> usize
     requires { ⌜ graphRefusal (now starts) (now neighbours) ≡ 0 ⌝ }
     requires { ⌜ n ≡ sizeOf (now starts) ⌝ }
     requires { ⌜ Open n t (now work) ⌝ }
-    requires { ⌜ Behind (graphOf (now starts) (now neighbours)) n at from m (now work) ⌝ }
-    requires { ⌜ Levelled (graphOf (now starts) (now neighbours)) (levelsIn (graphOf (now starts) (now neighbours)) at from m (now work)) 2 0 (orderIn n t (now work)) ⌝ }
-    requires { ⌜ 1 ≤ k ⌝ }
-    ensures { λ r. ⌜ Became n (now (work .entry)) (foldl (laterIn (graphOf (now (starts .entry)) (now (neighbours .entry))) (levelsIn (graphOf (now (starts .entry)) (now (neighbours .entry))) at from m (now (work .entry)))) (orderIn n t (now (work .entry))) (upFrom 2 (k - 1))) r (now (work .exit)) ⌝ }
+    requires { ⌜ (1 ≤ k) × (k ≤ n) ⌝ }
+    requires { ⌜ ((P : List ℕ) × Standing (graphOf (now starts) (now neighbours)) n at P (now work) × Levelled (graphOf (now starts) (now neighbours)) (ownLevels (graphOf (now starts) (now neighbours)) P (drop at (now work))) 2 0 (orderIn n t (now work))) ⌝ }
+    ensures { λ r. ⌜ ((P : List ℕ) → Standing (graphOf (now (starts .entry)) (now (neighbours .entry))) n at P (now (work .entry)) → Levelled (graphOf (now (starts .entry)) (now (neighbours .entry))) (ownLevels (graphOf (now (starts .entry)) (now (neighbours .entry))) P (drop at (now (work .entry)))) 2 0 (orderIn n t (now (work .entry))) → Became n (now (work .entry)) (foldl (laterIn (graphOf (now (starts .entry)) (now (neighbours .entry))) (ownLevels (graphOf (now (starts .entry)) (now (neighbours .entry))) P (drop at (now (work .entry))))) (orderIn n t (now (work .entry))) (upFrom 2 (k - 1))) r (now (work .exit))) ⌝ }
 {
     let mut a = 0;
     let mut b = t;
     let mut i: u16 = 1;
     while i < k {
         i += 1;
-        let e = level(starts, neighbours, work, n, at, from, m, a, b, i);
+        let e = level(starts, neighbours, work, n, at, a, b, i);
         a = b;
         b = e;
     }
     b
 }
 
-// The order of a part: its m nodes by number, before any turn, in the n words after the marks, which are 0 before and after. The part's k
-// levels stand by old number from `at` on, its nodes in rising order from `from` on. "Level 1: v first".
+// The order of a part whose nodes are on the stacks of their levels. "Level 1: v first".
+fn number(starts: &[u16], neighbours: &[u16], work: &mut [u16], n: usize, at: usize, k: u16, v: u16)
+    requires { ⌜ graphRefusal (now starts) (now neighbours) ≡ 0 ⌝ }
+    requires { ⌜ n ≡ sizeOf (now starts) ⌝ }
+    requires { ⌜ take n (now work) ≡ replicate n 0 ⌝ }
+    requires { ⌜ ((P : List ℕ) × Standing (graphOf (now starts) (now neighbours)) n at P (now work) × Starting (ownLevels (graphOf (now starts) (now neighbours)) P (drop at (now work))) P k v) ⌝ }
+    ensures { λ _. ⌜ ((P : List ℕ) → Standing (graphOf (now (starts .entry)) (now (neighbours .entry))) n at P (now (work .entry)) → Starting (ownLevels (graphOf (now (starts .entry)) (now (neighbours .entry))) P (drop at (now (work .entry)))) P k v → now (work .exit) ≡ replicate n 0 ++ overwrite (forwardOrder (graphOf (now (starts .entry)) (now (neighbours .entry))) (ownLevels (graphOf (now (starts .entry)) (now (neighbours .entry))) P (drop at (now (work .entry)))) k v) (drop n (now (work .entry)))) ⌝ }
+{
+    push(work, n, 0, v);
+    let b = fill(starts, neighbours, work, n, at, 0, 1, 1);
+    let t = later_levels(starts, neighbours, work, n, at, b, k);
+    wipe(work, n, t);
+}
+
+// The order of a part: its m nodes by number, before any turn, in the n words after the marks. All but the order is 0 before and after in
+// the first 4n words. The part's k levels stand by old number from `at` on, its nodes in rising order from `from` on.
 pub fn forward(
     starts: &[u16],
     neighbours: &[u16],
@@ -332,67 +309,13 @@ pub fn forward(
     v: u16,
 )
     requires { ⌜ graphRefusal (now starts) (now neighbours) ≡ 0 ⌝ }
-    requires { ⌜ take (sizeOf (now starts)) (now work) ≡ replicate (sizeOf (now starts)) 0 ⌝ }
+    requires { ⌜ take (4 * sizeOf (now starts)) (now work) ≡ replicate (4 * sizeOf (now starts)) 0 ⌝ }
     requires { ⌜ Behind (graphOf (now starts) (now neighbours)) (sizeOf (now starts)) at from m (now work) ⌝ }
     requires { ⌜ Starting (levelsIn (graphOf (now starts) (now neighbours)) at from m (now work)) (membersIn from m (now work)) k v ⌝ }
     ensures { λ _. ⌜ now (work .exit) ≡ replicate (sizeOf (now (starts .entry))) 0 ++ overwrite (forwardOrder (graphOf (now (starts .entry)) (now (neighbours .entry))) (levelsIn (graphOf (now (starts .entry)) (now (neighbours .entry))) at from m (now (work .entry))) k v) (drop (sizeOf (now (starts .entry))) (now (work .entry))) ⌝ }
 {
     let n = starts.len() - 1;
-    push(work, n, 0, v);
-    let b = fill(starts, neighbours, work, n, at, from, m, 0, 1, 1);
-    let t = later_levels(starts, neighbours, work, n, at, from, m, b, k);
-    wipe(work, n, t);
-}
-
-// Brings the levels of the part's nodes into the words from `at` on.
-fn bring(levels: &[u16], work: &mut [u16], n: usize, at: usize, from: usize, m: usize)
-    requires { ⌜ Between n at from m (now work) ⌝ }
-    requires { ⌜ n ≤ length (now levels) ⌝ }
-    ensures { λ _. ⌜ now (work .exit) ≡ written (ofNode (now (levels .entry))) at (now (work .entry)) (membersIn from m (now (work .entry))) ⌝ }
-{
-    let mut j = 0;
-    while j < m {
-        let p = wide(work[from + j]) - 1;
-        let level = levels[p];
-        work[at + p] = level;
-        j += 1;
-    }
-}
-
-// Sets those words to 0 again.
-fn unbring(work: &mut [u16], n: usize, at: usize, from: usize, m: usize)
-    requires { ⌜ Between n at from m (now work) ⌝ }
-    ensures { λ _. ⌜ now (work .exit) ≡ written (λ _. 0) at (now (work .entry)) (membersIn from m (now (work .entry))) ⌝ }
-{
-    let mut j = 0;
-    while j < m {
-        let p = wide(work[from + j]) - 1;
-        work[at + p] = 0;
-        j += 1;
-    }
-}
-
-// The same, with the part's levels by old number in a list of their own. The n words from `at` on, which lie before the part's nodes, hold
-// them meanwhile; the words of the part's nodes there are 0 before and after.
-pub fn forward_by(
-    starts: &[u16],
-    neighbours: &[u16],
-    levels: &[u16],
-    work: &mut [u16],
-    at: usize,
-    from: usize,
-    m: usize,
-    k: u16,
-    v: u16,
-)
-    requires { ⌜ graphRefusal (now starts) (now neighbours) ≡ 0 ⌝ }
-    requires { ⌜ take (sizeOf (now starts)) (now work) ≡ replicate (sizeOf (now starts)) 0 ⌝ }
-    requires { ⌜ Beside (graphOf (now starts) (now neighbours)) (sizeOf (now starts)) at from m (now levels) (now work) ⌝ }
-    requires { ⌜ Starting (ownLevels (graphOf (now starts) (now neighbours)) (membersIn from m (now work)) (now levels)) (membersIn from m (now work)) k v ⌝ }
-    ensures { λ _. ⌜ now (work .exit) ≡ replicate (sizeOf (now (starts .entry))) 0 ++ overwrite (forwardOrder (graphOf (now (starts .entry)) (now (neighbours .entry))) (ownLevels (graphOf (now (starts .entry)) (now (neighbours .entry))) (membersIn from m (now (work .entry))) (now (levels .entry))) k v) (drop (sizeOf (now (starts .entry))) (now (work .entry))) ⌝ }
-{
-    let n = starts.len() - 1;
-    bring(levels, work, n, at, from, m);
-    forward(starts, neighbours, work, at, from, m, k, v);
-    unbring(work, n, at, from, m);
+    rank(starts, neighbours, work, n, at, from, m);
+    number(starts, neighbours, work, n, at, k, v);
+    unrank(work, n, at, from, m);
 }

@@ -11,6 +11,7 @@ use lib.ListN.{length, getD, take, drop, length-map, List·getD-append}
 use lib.Seq.{take-all, take-at, getD-drop, getD-append-add, drop-append-add, drop-append-le}
 use Rattle.basis.specs.Lists.{joinAll, headOr, memb}
 use Rattle.basis.proofs.Index.{getD-map, memb-getD}
+use Rattle.basis.proofs.Lists.{memb-length}
 use Rattle.basis.proofs.Logic.{lt-or-le}
 use Rattle.spec.specs.Graph.{Graph}
 use Rattle.spec.specs.Levels.{levels, reached, part, leaders, parts}
@@ -101,11 +102,7 @@ module _ {g : Graph} (G : LegalGraph g) {j a : ℕ} (P : Walked g j a) where
 
     -- it has a node, and all of them are nodes
     pub next-some : 1 ≤ length (part g (leaderAt g j))
-    next-some = some (part g (leaderAt g j)) (part-self G next-node)
-      where
-        some : (l : List ℕ) → memb (leaderAt g j) l ≡ true → 1 ≤ length l
-        some [] m = absurd (false≢true m)
-        some (x ∷ l) m = omega arith
+    next-some = memb-length (leaderAt g j) (part g (leaderAt g j)) (part-self G next-node)
 
     pub next-fits : a + length (part g (leaderAt g j)) ≤ g .size
     next-fits = omega (arith, walk-next .nodes, offset-most (parts g) (j + 1), parts-length G)

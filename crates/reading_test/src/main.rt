@@ -3,7 +3,6 @@
 ghost use Prim.Native.Nat.{_≤_};
 ghost use lib.ListN.{length};
 use libc::STDIN_FILENO;
-use libc::STDOUT_FILENO;
 use mesh::Entries;
 
 // The two steps of the reading: the header is tested before anything is lent.
@@ -25,14 +24,8 @@ fn read(
 
 fn say(answer: Entries) {
     match answer {
-        Entries::Accepted(count) => {
-            io::write_all(STDOUT_FILENO, b"entries ");
-            io::print_decimal(STDOUT_FILENO, count as u64);
-        }
-        Entries::Refused(number) => {
-            io::write_all(STDOUT_FILENO, b"refused ");
-            io::print_decimal(STDOUT_FILENO, number as u64);
-        }
+        Entries::Accepted(count) => vectors::accepted(&[count as u64]),
+        Entries::Refused(number) => vectors::refused(number),
     }
 }
 
@@ -58,7 +51,7 @@ fn show(
     vectors::show(starts);
     vectors::show(neighbours);
     vectors::show(scratch);
-    io::write_all(STDOUT_FILENO, b"\n");
+    vectors::end_line();
 }
 
 // The next file into the front of `file`, and its length, or NONE at the end of the input.

@@ -16,7 +16,7 @@ use Rattle.spec.specs.CallsMesh.{graphOfElements}
 use Rattle.laws.proofs.ByTest.{graphBy-row}
 use Rattle.blocks.specs.Block.{share, Block}
 use Rattle.rows.specs.Rows.{inRow, rowAt, entriesIn, entriesTo, Laid, Room, RowsFit}
-use Rattle.rows.proofs.Next.{sets-append, map-shift, join-length, sum-upto}
+use Rattle.basis.proofs.Next.{sets-append, map-shift, join-length, sum-upto}
 
 -- a row of the mesh's graph
 mesh-row : (n : ℕ) (ws : List ℕ) (p : ℕ) → 1 ≤ p → p ≤ n → graphOfElements n ws .row p ≡ filterb (joins (elements ws) p) (upFrom 1 n)

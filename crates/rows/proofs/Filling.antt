@@ -1,7 +1,7 @@
 -- Rows read out of the bits of a block and stored one after another. Assumes nothing.
 use mathlib.Core.Path.{_≡_, refl, sym, ap, ap₂, _∙_}
-use mathlib.Core.Bool.{Bool, true, false, not, _&&_}
-use mathlib.Core.List.{List, [], _∷_, _++_, map, append-nil}
+use mathlib.Core.Bool.{not, _&&_}
+use mathlib.Core.List.{List, [], _∷_, map}
 use Prim.Native.Nat.{ℕ, zero, suc, _+_, _*_, _-_, _≤_, _<_}
 use native.Mathlib.Nat.{add-zero, zero-add}
 use native.Mathlib.Numerals.{add-one}
@@ -9,12 +9,12 @@ use native.Mathlib.Omega.{arith}
 use lib.ListN.{length, getD, set, length-map}
 use lib.Seq.{sets, length-sets}
 use lib.Dec.{eqb}
-use Rattle.basis.specs.Lists.{consIf, filterb, countb, joinAll, upFrom}
-use Rattle.basis.proofs.Count.{length-filter, count-length, bit-one, bit-none}
+use Rattle.basis.specs.Lists.{filterb, countb, joinAll, upFrom}
+use Rattle.basis.proofs.Count.{length-filter, count-length}
 use Rattle.basis.proofs.Lists.{length-upFrom}
 use Rattle.blocks.specs.Block.{bitAt}
 use Rattle.rows.specs.Rows.{inRow, rowAt, entriesIn}
-use Rattle.rows.proofs.Next.{sets-append, count-next, filter-next, sum-next, map-next, join-next, join-length, count-upto, sum-upto}
+use Rattle.basis.proofs.Next.{sets-append, sum-next, map-next, join-next, join-length, sum-upto}
 
 -- the number of row k of the block after base
 row-number : (base k : ℕ) → base + k + 1 ≡ base + suc k
@@ -29,49 +29,6 @@ in-row bits k p i =
     let e : i + 1 ≡ 1 + i = omega arith in
     let d : i ≡ 1 + i - 1 = omega arith in
     ap₂ (λ (q j : ℕ). not (eqb p q) && bitAt k (getD bits j 0)) e d
-
--- the row's nodes up to i are stored from `at` on, and end at `to`
-pub record Filling (t : ℕ → Bool) (at : ℕ) (before : List ℕ) (i : ℕ) (after : List ℕ) (to : ℕ) : Type 0 where
-  pub list : after ≡ sets before at (filterb t (upFrom 1 i))
-  pub end : to ≡ at + countb t (upFrom 1 i)
-
-module _ (t : ℕ → Bool) (at : ℕ) (before : List ℕ) where
-  pub filling-begin : Filling t at before 0 before at
-  filling-begin = record { list = refl; end = sym (add-zero at) }
-
-  module _ (i : ℕ) (after : List ℕ) (to : ℕ) (F : Filling t at before i after to) where
-    pub filling-length : length after ≡ length before
-    filling-length = ap length (F .list) ∙ length-sets before at (filterb t (upFrom 1 i))
-
-    -- the row holds node i + 1
-    pub filling-yes : t (1 + i) ≡ true → Filling t at before (i + 1) (set after to (i + 1)) (to + 1)
-    filling-yes e = record {
-      list =
-          ap₂ (λ (l : List ℕ) (j : ℕ). set l j (i + 1)) (F .list) (F .end ∙ ap (λ (n : ℕ). at + n) (sym (length-filter t (upFrom 1 i))))
-          ∙ ap (set (sets before at (filterb t (upFrom 1 i))) (at + length (filterb t (upFrom 1 i)))) same
-          ∙ sym (sets-append before at (filterb t (upFrom 1 i)) ((1 + i) ∷ []))
-          ∙ ap (sets before at) (ap (λ b. filterb t (upFrom 1 i) ++ consIf b (1 + i) []) (sym e) ∙ sym (filter-next t 1 i));
-      end = omega (arith, F .end, count-next t 1 i, bit-one (t (1 + i)) e);
-    }
-      where
-        same : i + 1 ≡ 1 + i
-        same = omega arith
-
-    -- it doesn't
-    pub filling-no : t (1 + i) ≡ false → Filling t at before (i + 1) after to
-    filling-no e = record {
-      list =
-          F .list
-          ∙ ap (sets before at)
-          (sym (append-nil (filterb t (upFrom 1 i))) ∙ ap (λ b. filterb t (upFrom 1 i) ++ consIf b (1 + i) []) (sym e) ∙ sym (filter-next t 1 i));
-      end = omega (arith, F .end, count-next t 1 i, bit-none (t (1 + i)) e);
-    }
-
-    -- there is room for it
-    pub filling-room : (n : ℕ) → i < n → t (1 + i) ≡ true → at + countb t (upFrom 1 n) ≤ length before → to < length before
-    filling-room n h e r =
-        let l : i + 1 ≤ n = omega arith in
-        omega (arith, F .end, count-next t 1 i, bit-one (t (1 + i)) e, count-upto t 1 (i + 1) n l)
 
 -- ---- the rows of a block
 

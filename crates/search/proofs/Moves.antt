@@ -13,11 +13,12 @@ use Rattle.basis.specs.Lists.{memb}
 use Rattle.basis.specs.Perm.{times}
 use Rattle.basis.proofs.Lists.{memb-here}
 use Rattle.basis.proofs.Logic.{by-test, clash, or-right}
+use Rattle.basis.proofs.Next.{sets-append}
 use Rattle.spec.specs.Graph.{ofNode}
 use Rattle.search.specs.Marks.{within, marked, found}
 use Rattle.search.specs.Queue.{Ready, Pushed}
 use Rattle.search.proofs.Marks.{found-free, found-taken, marked-free, marked-taken, length-marked, marked-append, found-append, times-none}
-use Rattle.search.proofs.Stores.{sets-append, take-sets}
+use Rattle.search.proofs.Stores.{take-sets}
 
 -- ---- entries of 1 to n
 

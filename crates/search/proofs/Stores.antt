@@ -2,17 +2,11 @@
 use mathlib.Core.Path.{_≡_, refl, sym, ap, _∙_}
 use mathlib.Core.List.{List, [], _∷_, _++_}
 use Prim.Native.Nat.{ℕ, zero, suc, _+_, _-_, _≤_, _<_}
-use native.Mathlib.Nat.{add-zero, add-suc, suc-add}
 use native.Mathlib.Omega.{arith}
 use lib.ListN.{length, take, drop, set, replicate, length-append, length-drop, length-replicate, replicate-append-replicate}
 use lib.Seq.{sets, sets-eq, slice, take-at, drop-at, drop-nil, length-take-le, take-set-le, take-set-lt, drop-set-add, drop-set-lt}
 
 -- ---- stores one after the other
-
-pub sets-append : (Q : List ℕ) (t : ℕ) (xs ys : List ℕ) → sets Q t (xs ++ ys) ≡ sets (sets Q t xs) (t + length xs) ys
-sets-append Q t [] ys = ap (λ (n : ℕ). sets Q n ys) (sym (add-zero t))
-sets-append Q t (x ∷ xs) ys =
-    sets-append (set Q t x) (suc t) xs ys ∙ ap (λ (n : ℕ). sets (sets Q t (x ∷ xs)) n ys) (suc-add t (length xs) ∙ sym (add-suc t (length xs)))
 
 pub take-sets : (b : ℕ) (Q : List ℕ) (t : ℕ) (xs : List ℕ) → b ≤ t → take b (sets Q t xs) ≡ take b Q
 take-sets b Q t [] h = refl

@@ -21,7 +21,8 @@ use Rattle.laws.proofs.Named.{part-levels, start-part}
 use Rattle.laws.proofs.PartOrder.{forward-perm}
 use Rattle.laws.proofs.Parts.{part-once}
 use Rattle.laws.proofs.Refused.{passed, starts-of, not-refused}
-use Rattle.order.specs.Model.{membersIn, levelsIn, Behind, Starting}
+use Rattle.ranking.specs.Part.{membersIn, Behind}
+use Rattle.order.specs.Model.{levelsIn, Starting}
 use Rattle.order.proofs.Callers.{levels-are, behind-make, starting-make, order-length}
 use Rattle.turning.specs.Places.{segment, Part, Clean}
 use Rattle.turning.proofs.Laid.{laid, laid-order, laid-ready}
@@ -77,15 +78,11 @@ module _ (S N : List ℕ) (legal : graphRefusal S N ≡ 0) {at from m k v : ℕ}
   -- what `forward` asks
   pub named-behind : Behind (graphOf S N) (sizeOf S) at from m W
   named-behind =
-      behind-make G Z L from m W (drop at W) (A .part .members) same refl
-      (record { behind = omega (arith, A .areas .at-low); held = A .areas .at-held })
-      (omega (arith, A .areas .from-low)) (A .areas .from-held)
+      behind-make G Z L from m W (drop at W) (A .part .members) same refl refl
+      (A .areas .at-low) (A .areas .at-held) (A .areas .from-low) (A .areas .from-held)
 
   pub named-starting : Starting (levelsIn (graphOf S N) at from m W) (membersIn from m W) k v
   named-starting = rw (A .k-is, A .v-is) (starting-make G Z L from m W (drop at W) (A .part .members) same I)
-
-  pub named-zeros : take (sizeOf S) W ≡ replicate (sizeOf S) 0
-  named-zeros = front-zeros (A .areas)
 
   order-size : length (forwardBy g e) ≡ m
   order-size = forward-size G Z ∙ part-size (A .part) (A .areas .from-held)
@@ -137,7 +134,7 @@ module _ (S N : List ℕ) (legal : graphRefusal S N ≡ 0) {at from m k v : ℕ}
           ∙ sym
           (sets-eq (partResult g z .order) W (sizeOf S) (omega (arith, size, A .areas .at-low, A .areas .at-held))
           ∙ append-assoc (take (sizeOf S) W) (partResult g z .order) (drop (sizeOf S + length (partResult g z .order)) W)
-          ∙ ap₂ (λ (x : List ℕ) (y : ℕ). x ++ (partResult g z .order ++ drop (sizeOf S + y) W)) named-zeros size)
+          ∙ ap₂ (λ (x : List ℕ) (y : ℕ). x ++ (partResult g z .order ++ drop (sizeOf S + y) W)) (front-zeros (A .areas)) size)
         where
           size : length (partResult g z .order) ≡ m
           size = result-size G Z ∙ part-size (A .part) (A .areas .from-held)

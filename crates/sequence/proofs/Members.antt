@@ -16,7 +16,7 @@ use Rattle.spec.specs.Graph.{Graph, nodes}
 use Rattle.spec.specs.Levels.{levels, levelOf, part}
 use Rattle.laws.specs.Legal.{Node}
 use Rattle.laws.proofs.Legal.{node-in, length-nodes}
-use Rattle.order.specs.Model.{membersIn}
+use Rattle.ranking.specs.Part.{membersIn}
 use Rattle.sequence.specs.Answer.{Areas, PartAt}
 use Rattle.sequence.proofs.Stored.{stored-other}
 

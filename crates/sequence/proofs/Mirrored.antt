@@ -14,7 +14,7 @@ use Rattle.spec.specs.Combined.{mirrored}
 use Rattle.spec.specs.Graph.{ofNode}
 use Rattle.laws.proofs.Combined.{mirror-sum}
 use Rattle.laws.proofs.Legal.{ofNode-at}
-use Rattle.order.specs.Model.{membersIn}
+use Rattle.ranking.specs.Part.{membersIn}
 use Rattle.sequence.specs.Answer.{Mirrorable}
 use Rattle.sequence.proofs.Stored.{slice-at, stored-by}
 

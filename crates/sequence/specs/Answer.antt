@@ -14,7 +14,7 @@ use Rattle.spec.specs.Graph.{Graph, ofNode}
 use Rattle.spec.specs.Levels.{part}
 use Rattle.spec.specs.Numbering.{startNode, finishNode, partLevels, forwardOrder, turns}
 use Rattle.sorting.specs.Nodes.{Nodes}
-use Rattle.order.specs.Model.{membersIn}
+use Rattle.ranking.specs.Part.{membersIn}
 use Rattle.sequence.specs.declared.shape.Sequence.{Sequence}
 
 -- the order of the part with the ends e, before any turn

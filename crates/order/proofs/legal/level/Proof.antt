@@ -2,7 +2,8 @@
 use native.Mathlib.Omega.{arith}
 use Rattle.order.proofs.Stand.{open-at}
 use Rattle.order.proofs.Walk.{walk-open}
-use Rattle.order.proofs.Level.{behind-on}
+use Rattle.order.proofs.Stack.{standing-far}
+use Rattle.order.proofs.Level.{standing-on}
 use Rattle.order.proofs.Forward.{level-walk, level-begun, level-done}
 use borrow.Author.Needs.{needs}
 use Rattle.order.proofs.legal.level.Statement.{statement}
@@ -11,37 +12,32 @@ use Rattle.order.proofs.legal.level.Tie as tie
 from-before-requires : tie.Need-from-before-requires
 from-before-requires c κs =
     let P = c .before .before .before .before .pre in
-    let D = P .1 .1 .1 .1 in
-    (P .0, (P .1 .0, (P .1 .1 .0, (P .1 .1 .1 .0 .levels, omega (arith, D .inside, open-at (P .1 .1 .0) .count)))))
+    let Q = P .1 .1 .1 .1 in
+    (P .0, (P .1 .0, (P .1 .1 .0, (standing-far (Q .1), omega (arith, Q .2 .inside, open-at (P .1 .1 .0) .count)))))
 
 fill-requires : tie.Need-fill-requires
 fill-requires c κs =
     let s = c .before .before .before .before .before .before .before .before in
     let P = s .pre in
+    let Q = P .1 .1 .1 .1 in
     let S = s .args .starts .now in
     let N = s .args .neighbours .now in
-    let K = level-walk S N (P .0) (P .1 .0) (P .1 .1 .0) (P .1 .1 .1 .0) (P .1 .1 .1 .1) (c .before .before .before .from-before .kept .1 .1 .0) (c .before .before .before .from-before .ensures) in (
-      P .0,
-      (
-        P .1 .0,
-        (
-          walk-open K,
-          (
-            behind-on K (P .1 .1 .1 .0),
-            level-begun S N (P .0) (P .1 .0) (P .1 .1 .0) (P .1 .1 .1 .0) (P .1 .1 .1 .1) (c .before .before .before .from-before .kept .1 .1 .0) (c .before .before .before .from-before .ensures),
-          ),
-        ),
-      ),
-    )
+    let K = level-walk S N (P .0) (P .1 .0) (P .1 .1 .0) (Q .1) (Q .2) (c .before .before .before .from-before .kept .1 .1 .0) (c .before .before .before .from-before .ensures) in
+    let D = level-begun S N (P .0) (P .1 .0) (P .1 .1 .0) (Q .1) (Q .2) (c .before .before .before .from-before .kept .1 .1 .0) (c .before .before .before .from-before .ensures) in
+    (P .0, (P .1 .0, (walk-open K, (P .1 .1 .1 .0, (Q .0, standing-on K (Q .1), D)))))
 
 same-length : tie.Need-same-length
 same-length c = search needs
 
 returns : tie.Need-returns
-returns c =
+returns c R B D =
     let s = c .before .before .before .before .before .before .before .before .before .before .before in
     let P = s .pre in
-    level-done (s .args .starts .now) (s .args .neighbours .now) (P .0) (P .1 .0) (P .1 .1 .0) (P .1 .1 .1 .0) (P .1 .1 .1 .1) (c .before .before .before .before .before .before .from-before .kept .1 .1 .0) (c .before .before .before .before .before .before .from-before .ensures) (c .before .before .fill .ensures)
+    let S = s .args .starts .now in
+    let N = s .args .neighbours .now in
+    let K = level-walk S N (P .0) (P .1 .0) (P .1 .1 .0) B D (c .before .before .before .before .before .before .from-before .kept .1 .1 .0) (c .before .before .before .before .before .before .from-before .ensures) in
+    let E = level-begun S N (P .0) (P .1 .0) (P .1 .1 .0) B D (c .before .before .before .before .before .before .from-before .kept .1 .1 .0) (c .before .before .before .before .before .before .from-before .ensures) in
+    level-done S N (P .0) (P .1 .0) (P .1 .1 .0) B D (c .before .before .before .before .before .before .from-before .kept .1 .1 .0) (c .before .before .before .before .before .before .from-before .ensures) (c .before .before .fill .ensures R (standing-on K B) E)
 
 pub level-spec : {M : Type 1} → statement M
 level-spec = tie.close (tie.spec from-before-requires fill-requires same-length returns)

@@ -2,7 +2,7 @@
 use native.Mathlib.Omega.{arith}
 use borrow.Author.Needs.{needs}
 use Rattle.laws.proofs.Refused.{passed, starts-of}
-use Rattle.sequence.proofs.Arranged.{named-zeros, named-behind, named-starting, arranged-turn, arranged-turns, arranged-words}
+use Rattle.sequence.proofs.Arranged.{named-behind, named-starting, arranged-turn, arranged-turns, arranged-words}
 use Rattle.sequence.proofs.legal.arrange.Statement.{statement}
 use Rattle.sequence.proofs.legal.arrange.Tie as tie
 
@@ -16,7 +16,7 @@ forward-requires c κs =
     let s = c .before .before .before .before in
     let S = s .args .starts .now in
     let N = s .args .neighbours .now in
-    (s .pre .0, (named-zeros S N (s .pre .0) (s .pre .1), (named-behind S N (s .pre .0) (s .pre .1), named-starting S N (s .pre .0) (s .pre .1))))
+    (s .pre .0, (s .pre .1 .areas .zeros, (named-behind S N (s .pre .0) (s .pre .1), named-starting S N (s .pre .0) (s .pre .1))))
 
 turn-requires : tie.Need-turn-requires
 turn-requires c κs =

@@ -8,7 +8,7 @@ use lib.ListN.{length}
 use Rattle.basis.specs.Lists.{bit, countb, upFrom}
 use Rattle.basis.proofs.Count.{bit-most}
 use Rattle.rows.specs.Rows.{inRow}
-use Rattle.rows.proofs.Next.{count-next}
+use Rattle.basis.proofs.Next.{count-next}
 use Rattle.rows.proofs.Filling.{in-row}
 use Rattle.rows.proofs.legal.count.count_row.Statement.{statement}
 use Rattle.rows.proofs.legal.count.count_row.Tie as tie

@@ -11,7 +11,8 @@ use Rattle.basis.specs.Lists.{bit, countb, filterb, upFrom}
 use Rattle.basis.proofs.Count.{bit-true}
 use Rattle.basis.proofs.Logic.{fails}
 use Rattle.rows.specs.Rows.{inRow}
-use Rattle.rows.proofs.Filling.{in-row, Filling, filling-begin, filling-length, filling-yes, filling-no, filling-room}
+use Rattle.basis.proofs.Filling.{Filling, filling-begin, filling-length, filling-yes, filling-no, filling-room}
+use Rattle.rows.proofs.Filling.{in-row}
 use Rattle.rows.proofs.legal.fill.fill_row.Statement.{statement}
 use Rattle.rows.proofs.legal.fill.fill_row.Tie as tie
 

@@ -1,0 +1,55 @@
+-- The numbers of 1..n that pass a test, stored one after another as a loop meets them. Assumes nothing.
+use mathlib.Core.Path.{_≡_, refl, sym, ap, ap₂, _∙_}
+use mathlib.Core.Bool.{Bool, true, false}
+use mathlib.Core.List.{List, [], _∷_, _++_, append-nil}
+use Prim.Native.Nat.{ℕ, _+_, _≤_, _<_}
+use native.Mathlib.Nat.{add-zero}
+use native.Mathlib.Omega.{arith}
+use lib.ListN.{length, set}
+use lib.Seq.{sets, length-sets}
+use Rattle.basis.specs.Lists.{consIf, filterb, countb, upFrom}
+use Rattle.basis.proofs.Count.{length-filter, bit-one, bit-none}
+use Rattle.basis.proofs.Next.{sets-append, count-next, filter-next, count-upto}
+
+-- those up to i are stored from `at` on, and end at `to`
+pub record Filling (t : ℕ → Bool) (at : ℕ) (before : List ℕ) (i : ℕ) (after : List ℕ) (to : ℕ) : Type 0 where
+  pub list : after ≡ sets before at (filterb t (upFrom 1 i))
+  pub end : to ≡ at + countb t (upFrom 1 i)
+
+module _ (t : ℕ → Bool) (at : ℕ) (before : List ℕ) where
+  pub filling-begin : Filling t at before 0 before at
+  filling-begin = record { list = refl; end = sym (add-zero at) }
+
+  module _ (i : ℕ) (after : List ℕ) (to : ℕ) (F : Filling t at before i after to) where
+    pub filling-length : length after ≡ length before
+    filling-length = ap length (F .list) ∙ length-sets before at (filterb t (upFrom 1 i))
+
+    -- i + 1 passes
+    pub filling-yes : t (1 + i) ≡ true → Filling t at before (i + 1) (set after to (i + 1)) (to + 1)
+    filling-yes e = record {
+      list =
+          ap₂ (λ (l : List ℕ) (j : ℕ). set l j (i + 1)) (F .list) (F .end ∙ ap (λ (n : ℕ). at + n) (sym (length-filter t (upFrom 1 i))))
+          ∙ ap (set (sets before at (filterb t (upFrom 1 i))) (at + length (filterb t (upFrom 1 i)))) same
+          ∙ sym (sets-append before at (filterb t (upFrom 1 i)) ((1 + i) ∷ []))
+          ∙ ap (sets before at) (ap (λ b. filterb t (upFrom 1 i) ++ consIf b (1 + i) []) (sym e) ∙ sym (filter-next t 1 i));
+      end = omega (arith, F .end, count-next t 1 i, bit-one (t (1 + i)) e);
+    }
+      where
+        same : i + 1 ≡ 1 + i
+        same = omega arith
+
+    -- it fails
+    pub filling-no : t (1 + i) ≡ false → Filling t at before (i + 1) after to
+    filling-no e = record {
+      list =
+          F .list
+          ∙ ap (sets before at)
+          (sym (append-nil (filterb t (upFrom 1 i))) ∙ ap (λ b. filterb t (upFrom 1 i) ++ consIf b (1 + i) []) (sym e) ∙ sym (filter-next t 1 i));
+      end = omega (arith, F .end, count-next t 1 i, bit-none (t (1 + i)) e);
+    }
+
+    -- there is room for it
+    pub filling-room : (n : ℕ) → i < n → t (1 + i) ≡ true → at + countb t (upFrom 1 n) ≤ length before → to < length before
+    filling-room n h e r =
+        let l : i + 1 ≤ n = omega arith in
+        omega (arith, F .end, count-next t 1 i, bit-one (t (1 + i)) e, count-upto t 1 (i + 1) n l)

@@ -1,0 +1,104 @@
+// The entry points, each with its answer written.
+use graph::Adjacency;
+use levels::answer::CombinedAnswer;
+use levels::answer::EndsAnswer;
+use levels::answer::RootedAnswer;
+use measures::MeasuresAnswer;
+use mesh::Entries;
+use store::Elimination;
+use vectors::accepted;
+use vectors::refused;
+
+// A given node as a word: 65,535 for a larger one.
+fn word(x: usize) -> u16 {
+    if x < 65535 { x as u16 } else { 65535 }
+}
+
+pub(crate) fn adjacency(starts: &[u16], neighbours: &[u16]) {
+    match graph::test_adjacency(starts, neighbours) {
+        Adjacency::Refused(number) => refused(number),
+        Adjacency::Legal => accepted(&[0u64; 0]),
+    }
+}
+
+pub(crate) fn rooted(starts: &[u16], neighbours: &[u16], root: usize, levels: &mut [u16]) {
+    match levels::rooted_levels(starts, neighbours, word(root), levels) {
+        RootedAnswer::Refused(number) => refused(number),
+        RootedAnswer::Levels {
+            depth,
+            width,
+            reached,
+        } => accepted(&[depth as u64, width as u64, reached as u64]),
+    }
+}
+
+pub(crate) fn ends(starts: &[u16], neighbours: &[u16], node: usize, scratch: &mut [u16]) {
+    match levels::ends(starts, neighbours, word(node), scratch) {
+        EndsAnswer::Refused(number) => refused(number),
+        EndsAnswer::Ends {
+            v,
+            u,
+            k,
+            widthv,
+            widthu,
+            passes,
+        } => accepted(
+            &[
+                v as u64,
+                u as u64,
+                k as u64,
+                widthv as u64,
+                widthu as u64,
+                passes as u64,
+            ],
+        ),
+    }
+}
+
+pub(crate) fn combined(
+    starts: &[u16],
+    neighbours: &[u16],
+    node: usize,
+    levels: &mut [u16],
+    scratch: &mut [u16],
+) {
+    match levels::combined_levels(starts, neighbours, word(node), levels, scratch) {
+        CombinedAnswer::Refused(number) => refused(number),
+        CombinedAnswer::Levels { k, width } => accepted(&[k as u64, width as u64]),
+    }
+}
+
+pub(crate) fn measures(starts: &[u16], neighbours: &[u16], numbering: &[u16], scratch: &mut [u16]) {
+    match measures::measures(starts, neighbours, numbering, scratch) {
+        MeasuresAnswer::Refused(number) => refused(number),
+        MeasuresAnswer::Accepted(m) => {
+            accepted(&[m.bandwidth as u64, m.profile as u64, m.front as u64])
+        }
+    }
+}
+
+pub(crate) fn eliminate(
+    starts: &[u16],
+    neighbours: &[u16],
+    numbering: &[u16],
+    scratch: &mut [u16],
+    bytes: &mut [u8],
+) {
+    match store::eliminate(starts, neighbours, numbering, scratch, bytes) {
+        Elimination::Refused(number) => refused(number),
+        Elimination::Accepted(c) => accepted(&[c.marked as u64, c.new as u64]),
+    }
+}
+
+pub(crate) fn mesh(
+    n: usize,
+    elements: &[u16],
+    starts: &mut [u16],
+    neighbours: &mut [u16],
+    scratch: &mut [u16],
+) {
+    match mesh::mesh_lists(n, elements, starts, neighbours, scratch) {
+        Entries::Refused(number) => refused(number),
+        Entries::Accepted(count) => accepted(&[count as u64]),
+    }
+}

@@ -1,0 +1,259 @@
+"""Cases for the program `calls_test`: a call, what it is given and how much it is lent, and what it must answer and leave.
+
+To add a call: a function in crates/calls_test/src/calls.rt, an arm in `run` there in main.rt, a row in CALLS, and its cases in at_node, numbered
+or whole.
+"""
+
+from collections import namedtuple
+
+import calls
+import store
+from combined import number_pairs
+from ends import ends_of_part
+from examples import GRAPHS
+from graph import from_edges, lists_of, part_of, pieces_of, rows_of, small_graphs
+from measures import profile
+from mesh import NODE_COUNT
+from vectors import answer_text, byte_pattern, changed, number, of_words, pattern, shown
+
+# Given lists, a given node (n for the mesh), lengths of what is lent. `kind` says what the case is for.
+Case = namedtuple('Case', 'kind call starts neighbours given node first second third bytes')
+
+# Number of each call in the program, and the call of the reference on a case and its four buffers.
+CALLS = {
+    'adjacency test': (1, lambda c, first, second, third, data: calls.adjacency_test(c.starts, c.neighbours)),
+    'rooted levels': (2, lambda c, first, second, third, data: calls.rooted_levels(c.starts, c.neighbours, c.node, first)),
+    'ends': (3, lambda c, first, second, third, data: calls.ends(c.starts, c.neighbours, c.node, first)),
+    'measures': (4, lambda c, first, second, third, data: calls.measures(c.starts, c.neighbours, c.given, first)),
+    'elimination': (5, lambda c, first, second, third, data: calls.elimination(c.starts, c.neighbours, c.given, first, data)),
+    'mesh': (6, lambda c, first, second, third, data: calls.mesh(c.node, c.given, first, second, third)),
+    'combined levels': (7, lambda c, first, second, third, data: calls.combined_levels(c.starts, c.neighbours, c.node, first, second)),
+}
+
+
+def encoded(c):
+    """The case as the program reads it."""
+    lists = b''.join(number(len(words)) + of_words(words) for words in (c.starts, c.neighbours, c.given))
+    lengths = b''.join(number(size) for size in (c.node, c.first, c.second, c.third, c.bytes))
+    return number(CALLS[c.call][0]) + lists + lengths
+
+
+def expected(c):
+    """The line that the program must write."""
+    lent = [pattern(size) for size in (c.first, c.second, c.third)]
+    data = byte_pattern(c.bytes)
+    answer = CALLS[c.call][1](c, *lent, data)
+    return answer_text(answer) + ''.join(shown(changed(words)) for words in lent) + shown(data)
+
+
+# Graphs.
+
+def random_graph(draw, n):
+    """Of several shapes: trees of neighbouring numbers, strips, blocks, and edges at random; the nodes are named anew."""
+    shape = draw.below(4)
+    edges = set()
+    if shape == 0:
+        edges |= {(q - 1 - draw.below(min(3, q - 1)), q) for q in range(2, n + 1) if draw.chance(0.93)}
+    elif shape == 1:
+        wide = 1 + draw.below(5)
+        edges |= {(p, q) for p in range(1, n + 1) for q in (p + 1, p + wide, p + wide + 1) if q <= n and draw.chance(0.9)}
+    elif shape == 2:
+        size = 2 + draw.below(5)
+        edges |= {(p, q) for q in range(2, n + 1) for p in range(max(1, q - size), q) if (p - 1) // size == (q - 1) // size}
+        edges |= {(q - size, q) for q in range(size + 1, n + 1) if draw.chance(0.3)}
+    for _ in range(draw.below(n + 1)):
+        p, q = 1 + draw.below(n), 1 + draw.below(n)
+        edges |= {(min(p, q), max(p, q))} if p != q else set()
+    name = draw.some(range(1, n + 1), n)
+    return from_edges(n, {tuple(sorted((name[p - 1], name[q - 1]))) for p, q in edges})
+
+
+def lopsided(draw, starts, neighbours):
+    """One row holds a node more or less than it should."""
+    rows = {p: set(row) for p, row in rows_of(starts, neighbours).items()}
+    p, q = 1 + draw.below(len(rows)), 1 + draw.below(len(rows))
+    rows[p] ^= {q}
+    return lists_of(rows)
+
+
+def damaged(draw, starts, neighbours):
+    """One word of either list is changed, added, removed or exchanged with another."""
+    lists = [list(starts), list(neighbours)]
+    chosen = draw.one(lists)
+    way, at = draw.below(5), draw.below(max(1, len(chosen)))
+    if way == 0 and chosen:
+        chosen[at] = max(0, chosen[at] + draw.one([-1, 1, 3]))
+    elif way == 1 and chosen:
+        chosen[at] = draw.one([0, 1, len(starts), 32769, 65535])
+    elif way == 2 and chosen:
+        del chosen[at]
+    elif way == 3 and chosen:
+        other = draw.below(len(chosen))
+        chosen[at], chosen[other] = chosen[other], chosen[at]
+    else:
+        chosen.insert(at, draw.below(4))
+    return tuple(lists)
+
+
+# Cases on an adjacency.
+
+def lent(draw, need):
+    """A length: short, exact or longer."""
+    way = draw.below(10)
+    return max(0, need - 1 - draw.below(2)) if way == 0 else need if way < 6 else need + 1 + draw.below(9)
+
+
+def at_node(draw, kind, lists, node):
+    """The calls that are given a node."""
+    n = len(lists[0]) - 1
+    yield Case(kind, 'rooted levels', *lists, [], node, lent(draw, n), 3, 0, 0)
+    yield Case(kind, 'ends', *lists, [], node, lent(draw, 8 * n), 3, 0, 0)
+    yield Case(kind, 'combined levels', *lists, [], node, lent(draw, n), lent(draw, 8 * n), 3, 0)
+
+
+def wrong_numbering(draw, numbering):
+    n = len(numbering)
+    at = draw.below(n)
+    return draw.one([numbering + [n], numbering[1:], numbering[:at] + [0] + numbering[at + 1:], numbering[:at] + [n + 1] + numbering[at + 1:],
+                     numbering[:at] + [numbering[at - 1]] + numbering[at + 1:] if n > 1 else [2], [], numbering[:at] + [65535] + numbering[at + 1:]])
+
+
+def byte_count(lists, numbering):
+    """Mark bytes that a numbering needs, as the reference counts them; 2 where it is none."""
+    if sorted(numbering) != list(range(1, len(lists[0]))):
+        return 2
+    return store.byte_count(profile(calls.adjoining_of(*lists, numbering)))
+
+
+def numbered(draw, kind, lists, numbering):
+    """The calls that are given a numbering."""
+    n = len(lists[0]) - 1
+    yield Case(kind, 'measures', *lists, numbering, 0, lent(draw, n), 3, 0, 0)
+    yield Case(kind, 'elimination', *lists, numbering, 0, lent(draw, n), 3, 0, lent(draw, byte_count(lists, numbering)))
+
+
+def whole(draw, kind, lists):
+    """The calls on an adjacency alone."""
+    yield Case(kind, 'adjacency test', *lists, [], 0, 3, 0, 0, 2)
+
+
+def on_graph(draw, kind, lists, nodes, numberings):
+    """All calls on a legal adjacency: at these nodes and at one that is none, with so many numberings and with one that is none."""
+    n = len(lists[0]) - 1
+    yield from whole(draw, kind, lists)
+    for node in list(nodes) + [draw.one([0, n + 1, 65535])]:
+        yield from at_node(draw, kind, lists, node)
+    same = list(range(1, n + 1))
+    for numbering in [same] + [draw.some(same, n) for _ in range(numberings)] + [wrong_numbering(draw, draw.some(same, n))]:
+        yield from numbered(draw, kind, lists, numbering)
+
+
+def on_illegal(draw, lists):
+    """Calls on an adjacency that may be illegal."""
+    n = max(0, len(lists[0]) - 1)
+    made = list(whole(draw, 'illegal adjacency', lists))
+    made += list(at_node(draw, 'illegal adjacency', lists, draw.below(n + 2)))
+    made += [Case('illegal adjacency', call, *lists, list(range(1, n + 1)), 0, lent(draw, n), 3, 0, lent(draw, n)) for call in ('measures', 'elimination')]
+    return [made[0], draw.one(made[1:])]
+
+
+def small(draw, least, most):
+    """All graphs of so many nodes, at every node."""
+    for n in range(least, most + 1):
+        for lists in small_graphs(n):
+            yield from on_graph(draw, '%d nodes' % n, lists, range(1, n + 1), 2)
+
+
+def some_of_five(draw, count):
+    for lists in draw.some(small_graphs(5), count):
+        yield from on_graph(draw, '5 nodes', lists, draw.some(range(1, 6), 2), 1)
+
+
+def at_random(draw, count, nodes):
+    """Random graphs of up to 40 nodes, at so many of their nodes."""
+    for _ in range(count):
+        n = 1 + draw.below(40)
+        yield from on_graph(draw, 'random graph', random_graph(draw, n), draw.some(range(1, n + 1), min(n, nodes)), 2)
+
+
+def tells(rows, node):
+    """Whether the part of a node has two passes, or two pieces to place: where slips and ties show."""
+    part = part_of(rows, node)
+    found = ends_of_part(rows, part)
+    pairs = number_pairs(rows, part, found)
+    return found.passes > 1 or len(pieces_of(rows, [z for z in part if pairs[z][0] != pairs[z][1]])) > 1
+
+
+def telling(draw, count):
+    """Random graphs of 6 to 16 nodes that tell."""
+    while count > 0:
+        n = 6 + draw.below(11)
+        lists, node = random_graph(draw, n), 1 + draw.below(n)
+        if tells(rows_of(*lists), node):
+            count -= 1
+            yield from at_node(draw, 'telling graph', lists, node)
+
+
+def of_table(draw):
+    """The graphs of the table of examples, one for each slip and tie, at every node."""
+    for _, _, n, edges in GRAPHS:
+        yield from on_graph(draw, 'example', from_edges(n, edges), range(1, n + 1), 2)
+
+
+def illegal(draw, count):
+    for _ in range(count):
+        lists = random_graph(draw, 1 + draw.below(9))
+        if draw.chance(0.4):
+            yield from on_illegal(draw, lopsided(draw, *lists))
+        else:
+            lists = damaged(draw, *lists)
+            yield from on_illegal(draw, damaged(draw, *lists) if draw.chance(0.3) else lists)
+
+
+def limits(draw):
+    """n and the entries at their limits: lists that are empty, 4,096 and 4,097 nodes, 32,768 and more entries."""
+    kind = 'limits'
+    for starts in ([], [0], [5], [0] * 4097, [0] * 4098):
+        for call in ('adjacency test', 'rooted levels', 'ends', 'measures', 'elimination'):
+            n = max(0, len(starts) - 1)
+            given = list(range(1, n + 1)) if call in ('measures', 'elimination') else []
+            yield Case(kind, call, starts, [], given, 1, 8 * n if call == 'ends' else n, 0, 0, 0)
+    path = from_edges(4096, [(p, p + 1) for p in range(1, 4096)])
+    yield Case(kind, 'rooted levels', *path, [], 1, 4096, 0, 0, 0)
+    yield Case(kind, 'ends', *path, [], 77, 32768 + 2, 0, 0, 0)
+    yield Case(kind, 'combined levels', *path, [], 77, 4096, 32768, 0, 0)
+    # each node adjoins the four before and the four after it on a ring
+    ring = from_edges(4096, {tuple(sorted((p, (p - 1 + d) % 4096 + 1))) for p in range(1, 4097) for d in range(1, 5)})
+    yield Case(kind, 'rooted levels', *ring, [], 4096, 4099, 0, 0, 0)
+    yield Case(kind, 'measures', *ring, list(range(1, 4097)), 0, 4096, 0, 0, 0)
+    yield Case(kind, 'adjacency test', [0, 32769], [1] * 32769, [], 0, 0, 0, 0, 0)
+
+
+# Cases of the mesh.
+
+def element(draw, n):
+    """A kind and its nodes; now and then a wrong kind, or wrong or repeated nodes."""
+    kind = draw.one([k for k in NODE_COUNT if NODE_COUNT[k] <= n] or [1])
+    nodes = draw.some(range(1, n + 1), NODE_COUNT[kind]) if NODE_COUNT[kind] <= n else [1, 1]
+    if draw.chance(0.05):
+        kind = draw.one([0, 11, 12, 65535])
+    if draw.chance(0.05):
+        nodes[draw.below(len(nodes))] = draw.one([0, n + 1, 65535, nodes[0], nodes[-1]])
+    return [kind] + nodes
+
+
+def meshes(draw, count):
+    for _ in range(count):
+        n = draw.one([0, 1, 4097, 1 + draw.below(40), 1 + draw.below(40), 1 + draw.below(12), 1 + draw.below(12)])
+        words = [word for _ in range(draw.below(8)) for word in element(draw, max(1, n))]
+        if words and draw.chance(0.1):
+            words = words[:-1 - draw.below(2)]
+        yield Case('mesh', 'mesh', [], [], words, n, lent(draw, n + 1), lent(draw, 32768), lent(draw, n), 0)
+
+
+def full_meshes():
+    """Entry counts about 32,768: 90 to a block of ten, 2 to a pair."""
+    for blocks, pairs in ((364, 3), (364, 4), (364, 5), (365, 0)):
+        words = [word for b in range(blocks) for word in [10] + list(range(10 * b + 1, 10 * b + 11))]
+        words += [word for p in range(pairs) for word in (1, 4000 + 2 * p, 4001 + 2 * p)]
+        yield Case('mesh', 'mesh', [], [], words, 4096, 4097, 32768, 4096, 0)

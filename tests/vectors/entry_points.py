@@ -1,0 +1,92 @@
+#!/usr/bin/env python3
+"""Cases for the program `calls_test`, and what each call must answer and leave.
+
+  entry_points.py                     write crates/calls_test/stdin and crates/calls_test/stdout: the selection that the gate runs
+  entry_points.py --check             say whether the two stand as this script makes them
+  entry_points.py --show K            print case K (line K of stdout) and its line
+  entry_points.py --run N --seed S    run target/bin/calls_test on all graphs of up to 5 nodes, N random graphs of up to 40 nodes at every
+                                      node, N graphs with several passes or pieces, N illegal adjacencies and N meshes
+
+A line has the answer, then for each of the three lent lists its words up to the last that isn't as it was lent, then the lent bytes. All
+expected lines come from tests/reference.
+"""
+
+import argparse
+import os
+import subprocess
+import sys
+
+TOP = os.path.dirname(os.path.dirname(os.path.dirname(os.path.abspath(__file__))))
+sys.path[:0] = [os.path.join(TOP, 'tests', part) for part in ('reference', 'definitions', 'vectors')]
+
+import cases
+from vectors import Draw, keep, tally
+
+CRATE = os.path.join(TOP, 'crates', 'calls_test')
+PROGRAM = os.path.join(TOP, 'target', 'bin', 'calls_test')
+
+
+def selection():
+    """What the gate runs."""
+    draw = Draw(1976)
+    return (list(cases.small(draw, 1, 4)) + list(cases.some_of_five(draw, 60)) + list(cases.of_table(draw)) + list(cases.telling(draw, 120))
+            + list(cases.at_random(draw, 30, 3)) + list(cases.illegal(draw, 300)) + list(cases.limits(draw)) + list(cases.meshes(draw, 250))
+            + list(cases.full_meshes()))
+
+
+def many(count, seed):
+    """What is run by hand."""
+    draw = Draw(seed)
+    return (list(cases.small(draw, 1, 5)) + list(cases.of_table(draw)) + list(cases.telling(draw, count)) + list(cases.at_random(draw, count, 40))
+            + list(cases.illegal(draw, count)) + list(cases.limits(draw)) + list(cases.meshes(draw, count)) + list(cases.full_meshes()))
+
+
+def report(made):
+    tally('of each kind', [c.kind for c in made])
+    tally('of each call', [c.call for c in made])
+
+
+def run(count, seed):
+    """Run the program and compare; the exit status."""
+    made = many(count, seed)
+    report(made)
+    done = subprocess.run([PROGRAM], input=b''.join(cases.encoded(c) for c in made), stdout=subprocess.PIPE, check=True)
+    lines = done.stdout.decode('ascii').split('\n')
+    differ = 0
+    for c, line in zip(made, lines):
+        wanted = cases.expected(c)
+        if line != wanted:
+            differ += 1
+            if differ <= 5:
+                print('%s\n  wrote  %s\n  wanted %s' % (c, line, wanted))
+    if len(lines) != len(made) + 1:
+        print('%d lines were written' % (len(lines) - 1))
+        differ += 1
+    print('%d cases, %d differ' % (len(made), differ))
+    return 1 if differ else 0
+
+
+def main():
+    parser = argparse.ArgumentParser(description=__doc__.split('\n')[0])
+    parser.add_argument('--check', action='store_true')
+    parser.add_argument('--show', type=int)
+    parser.add_argument('--run', type=int)
+    parser.add_argument('--seed', type=int, default=1)
+    asked = parser.parse_args()
+    if asked.run is not None:
+        return run(asked.run, asked.seed)
+    made = selection()
+    if asked.show is not None:
+        c = made[asked.show - 1]
+        print('%s\n%s' % (c, cases.expected(c)))
+        return 0
+    report(made)
+    lines = [cases.expected(c) for c in made]
+    status = keep([(os.path.join(CRATE, 'stdin'), b''.join(cases.encoded(c) for c in made)),
+                   (os.path.join(CRATE, 'stdout'), ''.join(line + '\n' for line in lines).encode('ascii'))], asked.check)
+    tally('%d cases' % len(made), sorted(' '.join(line.split(';')[0].split()[:2 if line.startswith('refused') else 1]) for line in lines))
+    return status
+
+
+if __name__ == '__main__':
+    sys.exit(main())
