@@ -31,8 +31,16 @@ CALLS = {
 }
 
 
+# What the program has room for.
+MOST_WORDS = 33000
+MOST_GIVEN = 70000
+MOST_BYTES = 40000
+
+
 def encoded(c):
     """The case as the program reads it."""
+    assert max(len(c.starts), len(c.neighbours), c.first, c.second, c.third) <= MOST_WORDS
+    assert len(c.given) <= MOST_GIVEN and c.bytes <= MOST_BYTES
     lists = b''.join(number(len(words)) + of_words(words) for words in (c.starts, c.neighbours, c.given))
     lengths = b''.join(number(size) for size in (c.node, c.first, c.second, c.third, c.bytes))
     return number(CALLS[c.call][0]) + lists + lengths
@@ -153,7 +161,8 @@ def on_illegal(draw, lists):
     n = max(0, len(lists[0]) - 1)
     made = list(whole(draw, 'illegal adjacency', lists))
     made += list(at_node(draw, 'illegal adjacency', lists, draw.below(n + 2)))
-    made += [Case('illegal adjacency', call, *lists, list(range(1, n + 1)), 0, lent(draw, n), 3, 0, lent(draw, n)) for call in ('measures', 'elimination')]
+    made += [Case('illegal adjacency', call, *lists, list(range(1, n + 1)), 0, lent(draw, n), 3, 0, lent(draw, n))
+             for call in ('measures', 'elimination')]
     return [made[0], draw.one(made[1:])]
 
 
@@ -198,6 +207,17 @@ def of_table(draw):
     """The graphs of the table of examples, one for each slip and tie, at every node."""
     for _, _, n, edges in GRAPHS:
         yield from on_graph(draw, 'example', from_edges(n, edges), range(1, n + 1), 2)
+
+
+def large(draw, count):
+    """Random graphs of 100 to 1,000 nodes at one node; the elimination of the smaller ones."""
+    for _ in range(count):
+        n = 100 + draw.below(901)
+        lists = random_graph(draw, n)
+        yield from at_node(draw, 'large graph', lists, 1 + draw.below(n))
+        for case in numbered(draw, 'large graph', lists, draw.some(range(1, n + 1), n)):
+            if case.call == 'measures' or n <= 200:
+                yield case
 
 
 def illegal(draw, count):
@@ -257,3 +277,10 @@ def full_meshes():
         words = [word for b in range(blocks) for word in [10] + list(range(10 * b + 1, 10 * b + 11))]
         words += [word for p in range(pairs) for word in (1, 4000 + 2 * p, 4001 + 2 * p)]
         yield Case('mesh', 'mesh', [], [], words, 4096, 4097, 32768, 4096, 0)
+
+
+def long_meshes():
+    """Lists of elements longer than 65,535 words: accepted, and with a fault in the last element."""
+    bars = [word for i in range(23000) for word in (1, 1 + i % 4095, 2 + i % 4095)]
+    for last in ([1, 1, 3], [1, 3, 3], [0, 1, 3], [1, 1]):
+        yield Case('mesh', 'mesh', [], [], bars + last, 4096, 4097, 32768, 4096, 0)

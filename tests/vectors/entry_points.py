@@ -5,7 +5,8 @@
   entry_points.py --check             say whether the two stand as this script makes them
   entry_points.py --show K            print case K (line K of stdout) and its line
   entry_points.py --run N --seed S    run target/bin/calls_test on all graphs of up to 5 nodes, N random graphs of up to 40 nodes at every
-                                      node, N graphs with several passes or pieces, N illegal adjacencies and N meshes
+                                      node, N graphs with several passes or pieces, N / 10 of up to 1,000 nodes, N illegal
+                                      adjacencies and N meshes, and compare
 
 A line has the answer, then for each of the three lent lists its words up to the last that isn't as it was lent, then the lent bytes. All
 expected lines come from tests/reference.
@@ -13,14 +14,13 @@ expected lines come from tests/reference.
 
 import argparse
 import os
-import subprocess
 import sys
 
 TOP = os.path.dirname(os.path.dirname(os.path.dirname(os.path.abspath(__file__))))
 sys.path[:0] = [os.path.join(TOP, 'tests', part) for part in ('reference', 'definitions', 'vectors')]
 
 import cases
-from vectors import Draw, keep, tally
+from vectors import Draw, differences, keep, tally
 
 CRATE = os.path.join(TOP, 'crates', 'calls_test')
 PROGRAM = os.path.join(TOP, 'target', 'bin', 'calls_test')
@@ -38,7 +38,8 @@ def many(count, seed):
     """What is run by hand."""
     draw = Draw(seed)
     return (list(cases.small(draw, 1, 5)) + list(cases.of_table(draw)) + list(cases.telling(draw, count)) + list(cases.at_random(draw, count, 40))
-            + list(cases.illegal(draw, count)) + list(cases.limits(draw)) + list(cases.meshes(draw, count)) + list(cases.full_meshes()))
+            + list(cases.large(draw, count // 10)) + list(cases.illegal(draw, count)) + list(cases.limits(draw))
+            + list(cases.meshes(draw, count)) + list(cases.full_meshes()) + list(cases.long_meshes()))
 
 
 def report(made):
@@ -50,20 +51,7 @@ def run(count, seed):
     """Run the program and compare; the exit status."""
     made = many(count, seed)
     report(made)
-    done = subprocess.run([PROGRAM], input=b''.join(cases.encoded(c) for c in made), stdout=subprocess.PIPE, check=True)
-    lines = done.stdout.decode('ascii').split('\n')
-    differ = 0
-    for c, line in zip(made, lines):
-        wanted = cases.expected(c)
-        if line != wanted:
-            differ += 1
-            if differ <= 5:
-                print('%s\n  wrote  %s\n  wanted %s' % (c, line, wanted))
-    if len(lines) != len(made) + 1:
-        print('%d lines were written' % (len(lines) - 1))
-        differ += 1
-    print('%d cases, %d differ' % (len(made), differ))
-    return 1 if differ else 0
+    return 1 if differences(PROGRAM, made, cases.encoded, cases.expected) else 0
 
 
 def main():

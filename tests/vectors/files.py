@@ -4,25 +4,27 @@
   files.py            write crates/reading_test/stdin and crates/reading_test/stdout
   files.py --check    say whether the two stand as this script makes them
   files.py --show K   print file K (line K of stdout), its kind and its line
+  files.py --run N --seed S    run target/bin/reading_test on N random files and N damaged ones, and compare
 
 The input has for each file its length, four bytes low byte first, and its bytes. A line has 'accepted' and the entry count or 'refused' and the
 number, then for each of the four lent lists (words, starts, neighbours, scratch) its words up to the last that isn't as it was lent. All
 expected lines come from tests/reference.
 """
 
+import argparse
 import os
 import sys
 
-HERE = os.path.dirname(os.path.abspath(__file__))
-TOP = os.path.dirname(os.path.dirname(HERE))
-sys.path[:0] = [os.path.join(TOP, 'tests', 'reference'), HERE]
+TOP = os.path.dirname(os.path.dirname(os.path.dirname(os.path.abspath(__file__))))
+sys.path[:0] = [os.path.join(TOP, 'tests', part) for part in ('reference', 'vectors')]
 
 import calls
 from listing import element_refusal, header_refusal, nodes_of_file, words_after_header
 from mesh import NODE_COUNT
-from vectors import Draw, answer_text, changed, keep, number, of_words, pattern, shown, tally
+from vectors import Draw, answer_text, changed, differences, keep, number, of_words, pattern, shown, tally
 
 CRATE = os.path.join(TOP, 'crates', 'reading_test')
+PROGRAM = os.path.join(TOP, 'target', 'bin', 'reading_test')
 
 # How many words the program lends: some more than any file needs.
 LENT = (35000, 4100, 32780, 4100)
@@ -226,8 +228,8 @@ def mesh_file(draw):
     return file_of(n, [] if n == 1 else [element(draw, n) for _ in range(draw.below(9))])
 
 
-def random_valid(draw):
-    for _ in range(500):
+def random_valid(draw, count):
+    for _ in range(count):
         yield mesh_file(draw)
 
 
@@ -256,8 +258,8 @@ def damaged(draw, file):
     return file if i == j else file[:i] + file[j:j + 2] + file[i + 2:j] + file[i:i + 2] + file[j + 2:]
 
 
-def random_damaged(draw):
-    for _ in range(700):
+def random_damaged(draw, count):
+    for _ in range(count):
         file = damaged(draw, mesh_file(draw))
         yield damaged(draw, file) if file and draw.chance(0.3) else file
 
@@ -267,24 +269,41 @@ def all_files():
     draw = Draw(1976)
     made = [('byte changed', changed_bytes()), ('truncated', truncations()), ('extended', extensions()), ('element count', counts()),
             ('kind', kinds()), ('node', wrong_nodes()), ('n', sizes()), ('two faults', orders()), ('entries', full()), ('length', long()),
-            ('random valid', random_valid(draw)), ('large valid', large_valid(draw)), ('random damaged', random_damaged(draw))]
+            ('random valid', random_valid(draw, 500)), ('large valid', large_valid(draw)), ('random damaged', random_damaged(draw, 700))]
     return [(kind, file) for kind, files in made for file in files]
 
 
-def main(words):
+def encoded(file):
+    return number(len(file)) + file
+
+
+def line(file):
+    return expected(file)[1]
+
+
+def main():
+    parser = argparse.ArgumentParser(description=__doc__.split('\n')[0])
+    parser.add_argument('--check', action='store_true')
+    parser.add_argument('--show', type=int)
+    parser.add_argument('--run', type=int)
+    parser.add_argument('--seed', type=int, default=1)
+    asked = parser.parse_args()
+    if asked.run is not None:
+        draw = Draw(asked.seed)
+        made = list(random_valid(draw, asked.run)) + list(random_damaged(draw, asked.run))
+        return 1 if differences(PROGRAM, made, encoded, line) else 0
     vectors = all_files()
-    if words[:1] == ['--show']:
-        kind, file = vectors[int(words[1]) - 1]
-        print('%s, %d bytes: %s\n%s' % (kind, len(file), file[:200].hex(' '), expected(file)[1]))
+    if asked.show is not None:
+        kind, file = vectors[asked.show - 1]
+        print('%s, %d bytes: %s\n%s' % (kind, len(file), file[:200].hex(' '), line(file)))
         return 0
     lines = [expected(file) for _, file in vectors]
-    answers = [answer if answer.startswith('refused') else 'accepted' for answer, _ in lines]
-    status = keep([(os.path.join(CRATE, 'stdin'), b''.join(number(len(file)) + file for _, file in vectors)),
-                   (os.path.join(CRATE, 'stdout'), ''.join(line + '\n' for _, line in lines).encode('ascii'))], '--check' in words)
+    status = keep([(os.path.join(CRATE, 'stdin'), b''.join(encoded(file) for _, file in vectors)),
+                   (os.path.join(CRATE, 'stdout'), ''.join(text + '\n' for _, text in lines).encode('ascii'))], asked.check)
     tally('kinds', [kind for kind, _ in vectors])
-    tally('%d files' % len(vectors), sorted(answers))
+    tally('%d files' % len(vectors), sorted(answer if answer.startswith('refused') else 'accepted' for answer, _ in lines))
     return status
 
 
 if __name__ == '__main__':
-    sys.exit(main(sys.argv[1:]))
+    sys.exit(main())

@@ -4,6 +4,7 @@ The crate `vectors` writes buffers in the same form.
 """
 
 import random
+import subprocess
 
 MOST_SHOWN = 120
 MODULUS = 4294967291
@@ -88,6 +89,23 @@ class Draw:
             j = i + self.below(len(values) - i)
             values[i], values[j] = values[j], values[i]
         return values[:count]
+
+
+# The built program.
+
+def differences(program, made, encoded, expected):
+    """Run the program on all that was made and compare its lines; how many differ. The first five are printed."""
+    done = subprocess.run([program], input=b''.join(encoded(one) for one in made), stdout=subprocess.PIPE, check=True)
+    lines = done.stdout.decode('ascii').split('\n')[:-1]
+    differ = abs(len(lines) - len(made))
+    for one, line in zip(made, lines):
+        wanted = expected(one)
+        if line != wanted:
+            differ += 1
+            if differ <= 5:
+                print('%.400s\n  wrote  %.200s\n  wanted %.200s' % (str(one), line, wanted))
+    print('%d run, %d differ' % (len(made), differ))
+    return differ
 
 
 # The two committed files.

@@ -121,7 +121,7 @@ fn one(
 fn another(
     starts: &mut [u16; 33000],
     neighbours: &mut [u16; 33000],
-    given: &mut [u16; 33000],
+    given: &mut [u16; 70000],
     first: &mut [u16; 33000],
     second: &mut [u16; 33000],
     third: &mut [u16; 33000],
@@ -134,7 +134,7 @@ fn another(
 fn main() {
     let mut starts = [0u16; 33000];
     let mut neighbours = [0u16; 33000];
-    let mut given = [0u16; 33000];
+    let mut given = [0u16; 70000];
     let mut first = [0u16; 33000];
     let mut second = [0u16; 33000];
     let mut third = [0u16; 33000];

@@ -7,10 +7,10 @@ use native.Mathlib.Omega.{arith}
 use lib.ListN.{length, take, drop, getD, replicate, length-append, length-drop, length-replicate, take-append-drop}
 use lib.Seq.{length-take-le, take-at, drop-at, drop-drop, drop-append-le, getD-drop}
 use Rattle.basis.specs.Lists.{overwrite}
-use Rattle.spec.specs.Graph.{Graph, graphOf, graphRefusal, sizeOf, ofNode}
+use Rattle.spec.specs.Graph.{graphOf, graphRefusal, sizeOf}
 use Rattle.spec.specs.Numbering.{forwardOrder}
 use Rattle.ranking.specs.Part.{membersIn, Placed, Behind}
-use Rattle.ranking.specs.Stacks.{Place, Held, Ranked}
+use Rattle.ranking.specs.Stacks.{Held, Ranked}
 use Rattle.ranking.proofs.Words.{take-same, drop-same, zeros-part, zero-at}
 use Rattle.order.specs.Model.{ownLevels, levelsIn, Standing, Starting}
 use Rattle.order.proofs.Stand.{listed-most}

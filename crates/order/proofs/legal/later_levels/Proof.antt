@@ -1,9 +1,8 @@
 -- `order::legal::later_levels` meets its contract. The invariant: the levels still to come number from here as from level 2 on. Assumes nothing.
-use mathlib.Core.Path.{_≡_, refl, _∙_}
 use mathlib.Core.List.{List}
 use Prim.Native.Nat.{ℕ, _-_}
 use native.Mathlib.Omega.{arith}
-use lib.ListN.{length, drop}
+use lib.ListN.{drop}
 use Rattle.spec.specs.Graph.{graphOf}
 use Rattle.order.specs.Model.{orderIn, ownLevels, Standing, Levelled}
 use Rattle.order.proofs.Walk.{walk-open}

@@ -1,5 +1,4 @@
 -- `order::legal::sort_tail` meets its contract. Assumes nothing.
-use Prim.Native.Nat.{_-_}
 use Rattle.spec.specs.Graph.{graphOf}
 use Rattle.order.proofs.Free.{tail-nodes, tail-done}
 use borrow.Author.Needs.{needs}

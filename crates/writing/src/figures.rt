@@ -1,0 +1,11 @@
+// "the eight figures of the program's first line"
+pub struct Figures {
+    pub nodes: u32,
+    pub parts: u32,
+    pub bandwidth: u32,
+    pub profile: u32,
+    pub front: u32,
+    pub levels: u32,
+    pub width: u32,
+    pub passes: u32,
+}
