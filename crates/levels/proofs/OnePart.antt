@@ -53,7 +53,7 @@ past-queue {n} {count} {W} Q i h =
     ∙ zeros-at (n - count) (i - (n + count))
 
 -- the members as they are lent
-members-lent : (n from to : ℕ) (W : List ℕ) → from ≤ to → 5 * n + to ≤ length W → take (5 * n + to - (5 * n + from)) (drop (5 * n + from) W) ≡ membersOf n from to W
+pub members-lent : (n from to : ℕ) (W : List ℕ) → from ≤ to → 5 * n + to ≤ length W → take (5 * n + to - (5 * n + from)) (drop (5 * n + from) W) ≡ membersOf n from to W
 members-lent n from to W l h =
     ext-getD 0 (take (5 * n + to - (5 * n + from)) (drop (5 * n + from) W)) (membersOf n from to W)
     (omega (arith, size, length-map (upFrom from (to - from)) (λ i. getD W (5 * n + i) 0), length-upFrom from (to - from)))

@@ -23,7 +23,7 @@ use Rattle.laws.proofs.Legal.{length-nodes}
 use Rattle.laws.proofs.LevelOrder.{later-filled, first-filled, from-grown, within-grown, left-length}
 use Rattle.laws.proofs.PartOrder.{level-in, level-make, level-once}
 use Rattle.laws.proofs.Refused.{not-refused}
-use Rattle.order.specs.Model.{stand, orderIn, Listed, Open, Became, foundBy, addBy, ownLevels, Standing, Begun, Levelled, Starting, filledIn, laterIn}
+use Rattle.order.specs.Model.{stand, orderIn, Listed, Open, Became, foundBy, addBy, ownLevels, Standing, Begun, Levelled, Starting, filledIn, laterIn, Fills, Follows}
 use Rattle.order.proofs.Stand.{open-at, at-order, at-next, at-became, stand-behind, listed-append, listed-none}
 use Rattle.order.proofs.Walk.{Walk, walk-begin}
 use Rattle.order.proofs.Part.{member-node, own-member, found-same, fold-same}
@@ -295,7 +295,7 @@ module _ (S N : List ℕ) {n at k v : ℕ} {P W : List ℕ} (ok : graphRefusal S
 
     -- level 1 is numbered
     module _ {b : ℕ} {W₂ : List ℕ} (s₂ : length W₂ ≡ length W₁)
-        (F : (Q : List ℕ) → Standing (graphOf S N) n at Q W₁ → Begun (graphOf S N) (ownLevels (graphOf S N) Q (drop at W₁)) 1 0 (orderIn n 1 W₁)
+        (F : (Q : List ℕ) → Fills (graphOf S N) n at 1 1 0 W₁ Q
         → Became n W₁ (filledIn (graphOf S N) (ownLevels (graphOf S N) Q (drop at W₁)) 1 (orderIn n 1 W₁)) b W₂) where
       pub walk-two : Walk S N n at W (filledIn (graphOf S N) (ownLevels (graphOf S N) P (drop at W)) 1 (v ∷ [])) W₂ b
       walk-two = record {
@@ -303,7 +303,7 @@ module _ (S N : List ℕ) {n at k v : ℕ} {P W : List ℕ} (ok : graphRefusal S
         sized = sized;
         now =
             at-next (walk-one .now) (first-listed graph levels sized v in-first) (within-longer graph (levelNodes graph levels 1) (v ∷ []))
-            (rw (levels-on walk-one B, at-order (walk-one .now)) at (F P (standing-on walk-one B) begun-one));
+            (rw (levels-on walk-one B, at-order (walk-one .now)) at (F P (standing-on walk-one B, begun-one)));
         behind = standing-far B;
         room = start-open .room;
         size = s₂ ∙ s₁;
@@ -314,7 +314,7 @@ module _ (S N : List ℕ) {n at k v : ℕ} {P W : List ℕ} (ok : graphRefusal S
 
       -- all levels are numbered
       module _ {t : ℕ} {W₃ : List ℕ} (s₃ : length W₃ ≡ length W₂)
-          (H : (Q : List ℕ) → Standing (graphOf S N) n at Q W₂ → Levelled (graphOf S N) (ownLevels (graphOf S N) Q (drop at W₂)) 2 0 (orderIn n b W₂)
+          (H : (Q : List ℕ) → Follows (graphOf S N) n at b 2 0 W₂ Q
           → Became n W₂ (foldl (laterIn (graphOf S N) (ownLevels (graphOf S N) Q (drop at W₂))) (orderIn n b W₂) (upFrom 2 (k - 1))) t W₃) where
         pub walk-all : Walk S N n at W (forwardOrder (graphOf S N) (ownLevels (graphOf S N) P (drop at W)) k v) W₃ t
         unfolding forwardOrder
@@ -322,7 +322,7 @@ module _ (S N : List ℕ) {n at k v : ℕ} {P W : List ℕ} (ok : graphRefusal S
             let r = laters-listed graph levels sized (k - 1) 2 0 (filledIn graph levels 1 (v ∷ [])) (levelled-first graph levels v in-first) (first-listed graph levels sized v in-first) in record {
               ok = ok;
               sized = sized;
-              now = at-next (walk-two .now) (r .0) (r .1) (rw (levels-on walk-two B, at-order (walk-two .now)) at (H P (standing-on walk-two B) levelled-two));
+              now = at-next (walk-two .now) (r .0) (r .1) (rw (levels-on walk-two B, at-order (walk-two .now)) at (H P (standing-on walk-two B, levelled-two)));
               behind = standing-far B;
               room = start-open .room;
               size = s₃ ∙ s₂ ∙ s₁;

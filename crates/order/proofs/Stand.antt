@@ -12,25 +12,19 @@ use lib.Dec.{eqb}
 use borrow.Author.Tests.{eq-eqb, ne-eqb, eqb-true}
 use Rattle.basis.specs.Lists.{bit, memb, upFrom}
 use Rattle.basis.specs.Perm.{Perm}
-use Rattle.basis.proofs.Count.{bit-one, bit-none, count-every, count-append, count-sub, count-length, times-none}
+use Rattle.basis.proofs.Count.{bit-one, bit-none, count-append, times-none}
 use Rattle.basis.proofs.Index.{getD-map-upFrom}
 use Rattle.basis.proofs.Lists.{length-upFrom, memb-append, memb-one, map-cong}
 use Rattle.basis.proofs.Logic.{clash, by-test, or-split, or-left, or-right, eq-or-ne}
 use Rattle.basis.proofs.Perm.{perm-memb, perm-append, perm-refl, perm-length}
+use Rattle.ranking.proofs.Sort.{once-most}
 use Rattle.order.specs.Model.{marksOf, stand, orderIn, Listed, Open, Became}
 
 -- ---- lists of nodes
 
 -- no more nodes than there are
 pub listed-most : {n : ℕ} {o : List ℕ} → Listed n o → length o ≤ n
-listed-most {n} {o} L =
-    omega (
-      arith,
-      count-every (λ x. true) o (λ x m. refl),
-      count-sub (λ x. true) o 1 n (L .once) (λ q m. let w = L .inside q m in (w .0, omega arith)),
-      count-length (λ x. true) (upFrom 1 n),
-      length-upFrom 1 n,
-    )
+listed-most {n} {o} L = once-most n o (L .once) (L .inside)
 
 pub listed-none : (n : ℕ) → Listed n []
 listed-none n = record { once = λ x. omega arith; inside = λ z m. clash m refl }

@@ -12,7 +12,7 @@ use Rattle.spec.specs.Numbering.{forwardOrder}
 use Rattle.ranking.specs.Part.{membersIn, Placed, Behind}
 use Rattle.ranking.specs.Stacks.{Held, Ranked}
 use Rattle.ranking.proofs.Words.{take-same, drop-same, zeros-part, zero-at}
-use Rattle.order.specs.Model.{ownLevels, levelsIn, Standing, Starting}
+use Rattle.order.specs.Model.{ownLevels, levelsIn, Standing, Starting, Opens}
 use Rattle.order.proofs.Stand.{listed-most}
 use Rattle.order.proofs.Forward.{forward-listed}
 
@@ -106,12 +106,12 @@ module _ (S N : List ℕ) {at from m k v : ℕ} {W : List ℕ} (ok : graphRefusa
       (listed-most (forward-listed S N ok refl whole-zeros whole-standing whole-start))
 
   module _ {W₂ : List ℕ} (s₂ : length W₂ ≡ length W₁)
-      (F : (Q : List ℕ) → Standing (graphOf S N) (sizeOf S) at Q W₁ → Starting (ownLevels (graphOf S N) Q (drop at W₁)) Q k v
+      (F : (Q : List ℕ) → Opens (graphOf S N) (sizeOf S) at k v W₁ Q
       → W₂ ≡ replicate (sizeOf S) 0 ++ overwrite (forwardOrder (graphOf S N) (ownLevels (graphOf S N) Q (drop at W₁)) k v) (drop (sizeOf S) W₁)) where
     -- the order in front, and the stacks behind it
     split : W₂ ≡ (replicate n 0 ++ overwrite order (drop n (take (n + n) W))) ++ drop (n + n) W₁
     split =
-        F P whole-standing whole-start
+        F P (whole-standing, whole-start)
         ∙ ap (λ (L : List ℕ). replicate n 0 ++ overwrite (forwardOrder (graphOf S N) (ownLevels (graphOf S N) P L) k v) (drop n W₁)) levels-same
         ∙ front-split n order W₁ few (omega (arith, R .size, long))
         ∙ ap (λ (A : List ℕ). (replicate n 0 ++ overwrite order (drop n A)) ++ drop (n + n) W₁) same-front

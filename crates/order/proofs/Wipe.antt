@@ -1,20 +1,18 @@
 -- The marks are taken away again, node by node. Assumes nothing.
-use mathlib.Core.Path.{_≡_, refl, sym, ap, ap₂, _∙_, subst}
+use mathlib.Core.Path.{_≡_, refl, sym, ap, ap₂, _∙_}
 use mathlib.Core.Logic.{⊎-elim}
 use mathlib.Core.Bool.{Bool, false, _||_}
 use mathlib.Core.List.{List, [], _∷_, _++_, map}
 use Prim.Native.Nat.{ℕ, zero, suc, _+_, _-_, _≤_, _<_}
 use native.Mathlib.Omega.{arith}
 use native.Mathlib.Numerals.{add-one}
-use lib.ListN.{length, take, drop, getD, set, replicate, length-append, length-drop, length-set, take-append-drop, drop-of-length-le}
+use lib.ListN.{length, drop, getD, set, replicate, length-append, length-drop, length-set, take-append-drop, drop-of-length-le}
 use lib.Seq.{ext-getD, drop-cons, getD-set-same, getD-set-other, getD-take, set-append-left, getD-append-add}
-use lib.Dec.{eqb}
 use borrow.Author.Tests.{ne-eqb}
 use Rattle.basis.specs.Lists.{bit, memb, upFrom}
-use Rattle.basis.specs.Perm.{times}
-use Rattle.basis.proofs.Count.{bit-one, memb-times, count-append}
 use Rattle.basis.proofs.Index.{memb-getD}
-use Rattle.basis.proofs.Logic.{fails, eq-or-ne, eqb-self}
+use Rattle.basis.proofs.Logic.{eq-or-ne}
+use Rattle.ranking.proofs.Sort.{once-apart}
 use Rattle.order.specs.Model.{marksOf, orderIn, Open}
 use Rattle.order.proofs.Stand.{open-at, marks-length, marks-at}
 
@@ -90,12 +88,7 @@ module _ {n t : ℕ} {W₀ W : List ℕ} {h : ℕ} (I : Wiping n t W₀ W h) whe
     wipe-index = omega (arith, wipe-size, I .begun .room, I .begun .fits)
 
     alone : memb (getD (orderIn n t W₀) h 0) (drop (suc h) (orderIn n t W₀)) ≡ false
-    alone =
-        let z : ℕ = getD o h 0 in
-        let r : List ℕ = drop (suc h) o in
-        fails _ (λ m.
-        let c : times z (take h o ++ (z ∷ r)) ≤ 1 = subst (λ (k : List ℕ). times z k ≤ 1) (sym (take-append-drop h o) ∙ ap (λ (k : List ℕ). take h o ++ k) (drop-cons o h 0 inside)) (I .begun .listed .once z) in
-        omega (arith, c, count-append (eqb z) (take h o) (z ∷ r), bit-one (eqb z z) (eqb-self z), memb-times z r m))
+    alone = once-apart o (I .begun .listed .once) h inside .1
 
     pub wipe-step : {a : ℕ} → a ≡ getD W (n + h) 0 → Wiping n t W₀ (set W (a - 1) 0) (h + 1)
     wipe-step {a} q =

@@ -127,3 +127,17 @@ filledIn g ls i o = within (length (levelNodes g ls i)) g (levelNodes g ls i) o
 -- a later level i numbered after the order o
 abbrev pub laterIn : Graph → List ℕ → List ℕ → ℕ → List ℕ
 laterIn g ls o i = laterLevel g (levelNodes g ls (i - 1)) (levelNodes g ls i) o
+
+-- ---- what is asked of a part P whose order of t nodes stands in the words W
+
+-- level i is begun, with the lower levels up to b
+abbrev pub Fills : Graph → ℕ → ℕ → ℕ → ℕ → ℕ → List ℕ → List ℕ → Type 0
+Fills g n at t i b W P = Standing g n at P W × Begun g (ownLevels g P (drop at W)) i b (orderIn n t W)
+
+-- level i is next, with the level before it from a on
+abbrev pub Follows : Graph → ℕ → ℕ → ℕ → ℕ → ℕ → List ℕ → List ℕ → Type 0
+Follows g n at t i a W P = Standing g n at P W × Levelled g (ownLevels g P (drop at W)) i a (orderIn n t W)
+
+-- nothing is numbered, and v is to be the first
+abbrev pub Opens : Graph → ℕ → ℕ → ℕ → ℕ → List ℕ → List ℕ → Type 0
+Opens g n at k v W P = Standing g n at P W × Starting (ownLevels g P (drop at W)) P k v

@@ -13,7 +13,7 @@ ghost use Rattle.spec.specs.Numbering.{forwardOrder};
 ghost use Rattle.laws.specs.Legal.{Starts};
 ghost use Rattle.sorting.specs.Nodes.{Nodes};
 ghost use Rattle.ranking.specs.Part.{membersIn, Behind};
-ghost use Rattle.order.specs.Model.{stand, orderIn, Open, Became, Far, free, isFree, foundBy, addBy, Spreads, levelsIn, ownLevels, Standing, Begun, Levelled, Starting, filledIn, laterIn};
+ghost use Rattle.order.specs.Model.{stand, orderIn, Open, Became, Far, free, isFree, foundBy, addBy, Spreads, levelsIn, ownLevels, Starting, filledIn, laterIn, Fills, Follows, Opens};
 use ranking::legal::rank;
 use ranking::legal::unmarked;
 use ranking::legal::unrank;
@@ -205,8 +205,8 @@ fn fill(
     requires { ⌜ n ≡ sizeOf (now starts) ⌝ }
     requires { ⌜ Open n t (now work) ⌝ }
     requires { ⌜ i ≤ n ⌝ }
-    requires { ⌜ ((P : List ℕ) × Standing (graphOf (now starts) (now neighbours)) n at P (now work) × Begun (graphOf (now starts) (now neighbours)) (ownLevels (graphOf (now starts) (now neighbours)) P (drop at (now work))) i b (orderIn n t (now work))) ⌝ }
-    ensures { λ r. ⌜ ((P : List ℕ) → Standing (graphOf (now (starts .entry)) (now (neighbours .entry))) n at P (now (work .entry)) → Begun (graphOf (now (starts .entry)) (now (neighbours .entry))) (ownLevels (graphOf (now (starts .entry)) (now (neighbours .entry))) P (drop at (now (work .entry)))) i b (orderIn n t (now (work .entry))) → Became n (now (work .entry)) (filledIn (graphOf (now (starts .entry)) (now (neighbours .entry))) (ownLevels (graphOf (now (starts .entry)) (now (neighbours .entry))) P (drop at (now (work .entry)))) i (orderIn n t (now (work .entry)))) r (now (work .exit))) ⌝ }
+    requires { ⌜ ((P : List ℕ) × Fills (graphOf (now starts) (now neighbours)) n at t i b (now work) P) ⌝ }
+    ensures { λ r. ⌜ ((P : List ℕ) → Fills (graphOf (now (starts .entry)) (now (neighbours .entry))) n at t i b (now (work .entry)) P → Became n (now (work .entry)) (filledIn (graphOf (now (starts .entry)) (now (neighbours .entry))) (ownLevels (graphOf (now (starts .entry)) (now (neighbours .entry))) P (drop at (now (work .entry)))) i (orderIn n t (now (work .entry)))) r (now (work .exit))) ⌝ }
 {
     let mut e = spread(starts, neighbours, work, n, at, b, t, i);
     let top = work[n + n + n + (wide(i) - 1)];
@@ -233,8 +233,8 @@ fn level(
     requires { ⌜ n ≡ sizeOf (now starts) ⌝ }
     requires { ⌜ Open n b (now work) ⌝ }
     requires { ⌜ i ≤ n ⌝ }
-    requires { ⌜ ((P : List ℕ) × Standing (graphOf (now starts) (now neighbours)) n at P (now work) × Levelled (graphOf (now starts) (now neighbours)) (ownLevels (graphOf (now starts) (now neighbours)) P (drop at (now work))) i a (orderIn n b (now work))) ⌝ }
-    ensures { λ r. ⌜ ((P : List ℕ) → Standing (graphOf (now (starts .entry)) (now (neighbours .entry))) n at P (now (work .entry)) → Levelled (graphOf (now (starts .entry)) (now (neighbours .entry))) (ownLevels (graphOf (now (starts .entry)) (now (neighbours .entry))) P (drop at (now (work .entry)))) i a (orderIn n b (now (work .entry))) → Became n (now (work .entry)) (laterIn (graphOf (now (starts .entry)) (now (neighbours .entry))) (ownLevels (graphOf (now (starts .entry)) (now (neighbours .entry))) P (drop at (now (work .entry)))) (orderIn n b (now (work .entry))) i) r (now (work .exit))) ⌝ }
+    requires { ⌜ ((P : List ℕ) × Follows (graphOf (now starts) (now neighbours)) n at b i a (now work) P) ⌝ }
+    ensures { λ r. ⌜ ((P : List ℕ) → Follows (graphOf (now (starts .entry)) (now (neighbours .entry))) n at b i a (now (work .entry)) P → Became n (now (work .entry)) (laterIn (graphOf (now (starts .entry)) (now (neighbours .entry))) (ownLevels (graphOf (now (starts .entry)) (now (neighbours .entry))) P (drop at (now (work .entry)))) (orderIn n b (now (work .entry))) i) r (now (work .exit))) ⌝ }
 {
     let e = from_before(starts, neighbours, work, n, at, a, b, i);
     fill(starts, neighbours, work, n, at, b, e, i)
@@ -267,8 +267,8 @@ fn later_levels(
     requires { ⌜ n ≡ sizeOf (now starts) ⌝ }
     requires { ⌜ Open n t (now work) ⌝ }
     requires { ⌜ (1 ≤ k) × (k ≤ n) ⌝ }
-    requires { ⌜ ((P : List ℕ) × Standing (graphOf (now starts) (now neighbours)) n at P (now work) × Levelled (graphOf (now starts) (now neighbours)) (ownLevels (graphOf (now starts) (now neighbours)) P (drop at (now work))) 2 0 (orderIn n t (now work))) ⌝ }
-    ensures { λ r. ⌜ ((P : List ℕ) → Standing (graphOf (now (starts .entry)) (now (neighbours .entry))) n at P (now (work .entry)) → Levelled (graphOf (now (starts .entry)) (now (neighbours .entry))) (ownLevels (graphOf (now (starts .entry)) (now (neighbours .entry))) P (drop at (now (work .entry)))) 2 0 (orderIn n t (now (work .entry))) → Became n (now (work .entry)) (foldl (laterIn (graphOf (now (starts .entry)) (now (neighbours .entry))) (ownLevels (graphOf (now (starts .entry)) (now (neighbours .entry))) P (drop at (now (work .entry))))) (orderIn n t (now (work .entry))) (upFrom 2 (k - 1))) r (now (work .exit))) ⌝ }
+    requires { ⌜ ((P : List ℕ) × Follows (graphOf (now starts) (now neighbours)) n at t 2 0 (now work) P) ⌝ }
+    ensures { λ r. ⌜ ((P : List ℕ) → Follows (graphOf (now (starts .entry)) (now (neighbours .entry))) n at t 2 0 (now (work .entry)) P → Became n (now (work .entry)) (foldl (laterIn (graphOf (now (starts .entry)) (now (neighbours .entry))) (ownLevels (graphOf (now (starts .entry)) (now (neighbours .entry))) P (drop at (now (work .entry))))) (orderIn n t (now (work .entry))) (upFrom 2 (k - 1))) r (now (work .exit))) ⌝ }
 {
     let mut a = 0;
     let mut b = t;
@@ -287,8 +287,8 @@ fn number(starts: &[u16], neighbours: &[u16], work: &mut [u16], n: usize, at: us
     requires { ⌜ graphRefusal (now starts) (now neighbours) ≡ 0 ⌝ }
     requires { ⌜ n ≡ sizeOf (now starts) ⌝ }
     requires { ⌜ take n (now work) ≡ replicate n 0 ⌝ }
-    requires { ⌜ ((P : List ℕ) × Standing (graphOf (now starts) (now neighbours)) n at P (now work) × Starting (ownLevels (graphOf (now starts) (now neighbours)) P (drop at (now work))) P k v) ⌝ }
-    ensures { λ _. ⌜ ((P : List ℕ) → Standing (graphOf (now (starts .entry)) (now (neighbours .entry))) n at P (now (work .entry)) → Starting (ownLevels (graphOf (now (starts .entry)) (now (neighbours .entry))) P (drop at (now (work .entry)))) P k v → now (work .exit) ≡ replicate n 0 ++ overwrite (forwardOrder (graphOf (now (starts .entry)) (now (neighbours .entry))) (ownLevels (graphOf (now (starts .entry)) (now (neighbours .entry))) P (drop at (now (work .entry)))) k v) (drop n (now (work .entry)))) ⌝ }
+    requires { ⌜ ((P : List ℕ) × Opens (graphOf (now starts) (now neighbours)) n at k v (now work) P) ⌝ }
+    ensures { λ _. ⌜ ((P : List ℕ) → Opens (graphOf (now (starts .entry)) (now (neighbours .entry))) n at k v (now (work .entry)) P → now (work .exit) ≡ replicate n 0 ++ overwrite (forwardOrder (graphOf (now (starts .entry)) (now (neighbours .entry))) (ownLevels (graphOf (now (starts .entry)) (now (neighbours .entry))) P (drop at (now (work .entry)))) k v) (drop n (now (work .entry)))) ⌝ }
 {
     push(work, n, 0, v);
     let b = fill(starts, neighbours, work, n, at, 0, 1, 1);

@@ -3,10 +3,10 @@ use mathlib.Core.Path.{_≡_, refl, ap, _∙_}
 use mathlib.Core.List.{List}
 use Prim.Native.Nat.{ℕ, _+_, _-_}
 use native.Mathlib.Omega.{arith}
-use lib.ListN.{length, drop, getD}
+use lib.ListN.{length, getD}
 use borrow.Author.Needs.{needs}
 use Rattle.spec.specs.Graph.{graphOf}
-use Rattle.order.specs.Model.{orderIn, ownLevels, Standing, Begun}
+use Rattle.order.specs.Model.{orderIn, Fills}
 use Rattle.order.proofs.Stand.{at-most}
 use Rattle.order.proofs.Walk.{walk-open, walk-far}
 use Rattle.order.proofs.Stack.{standing-far, Stack, stack-begin}
@@ -22,58 +22,56 @@ abbrev μ-loop : tie.MeasureT-loop
 μ-loop starts neighbours work₀ n at b t i e₀ top z₀ work e z = n - e
 
 spread-requires : tie.Need-spread-requires Inv-loop μ-loop
-spread-requires c κs = let P = c .before .before .before .before .pre in (P .0, (P .1 .0, (P .1 .1 .0, standing-far (P .1 .1 .1 .1 .1))))
+spread-requires c κs = let P = c .before .before .before .before .pre in (P .0, (P .1 .0, (P .1 .1 .0, standing-far (P .1 .1 .1 .1 .1 .0))))
 
 add-top : tie.Need-add-top Inv-loop μ-loop
-add-top c = omega (arith, fill-room (c .before .before .spread .last .1 .1 .0) (c .before .before .spread .kept .1 .1 .0) (c .before .before .before .before .before .before .before .pre .1 .1 .1 .1 .1))
+add-top c = omega (arith, fill-room (c .before .before .spread .last .1 .1 .0) (c .before .before .spread .kept .1 .1 .0) (c .before .before .before .before .before .before .before .pre .1 .1 .1 .1 .1 .0))
 
 add-top-2 : tie.Need-add-top-2 Inv-loop μ-loop
-add-top-2 c = omega (arith, fill-room (c .before .before .spread .last .1 .1 .0) (c .before .before .spread .kept .1 .1 .0) (c .before .before .before .before .before .before .before .pre .1 .1 .1 .1 .1))
+add-top-2 c = omega (arith, fill-room (c .before .before .spread .last .1 .1 .0) (c .before .before .spread .kept .1 .1 .0) (c .before .before .before .before .before .before .before .pre .1 .1 .1 .1 .1 .0))
 
 wide-requires : tie.Need-wide-requires Inv-loop μ-loop
 wide-requires c κs = search needs
 
 sub-top : tie.Need-sub-top Inv-loop μ-loop
-sub-top c = omega (arith, c .wide .ensures, c .before .before .before .before .before .before .before .before .pre .1 .1 .1 .1 .2 .some)
+sub-top c = omega (arith, c .wide .ensures, c .before .before .before .before .before .before .before .before .pre .1 .1 .1 .1 .1 .1 .some)
 
 add-top-3 : tie.Need-add-top-3 Inv-loop μ-loop
-add-top-3 c = omega (arith, c .wide .ensures, c .before .before .before .before .before .before .before .before .pre .1 .1 .1 .0, fill-room (c .before .before .before .spread .last .1 .1 .0) (c .before .before .before .spread .kept .1 .1 .0) (c .before .before .before .before .before .before .before .before .pre .1 .1 .1 .1 .1))
+add-top-3 c = omega (arith, c .wide .ensures, c .before .before .before .before .before .before .before .before .pre .1 .1 .1 .0, fill-room (c .before .before .before .spread .last .1 .1 .0) (c .before .before .before .spread .kept .1 .1 .0) (c .before .before .before .before .before .before .before .before .pre .1 .1 .1 .1 .1 .0))
 
 mul-top : tie.Need-mul-top Inv-loop μ-loop
-mul-top c = omega (arith, c .wide .ensures, c .before .before .before .before .before .before .before .before .pre .1 .1 .1 .0, fill-room (c .before .before .before .spread .last .1 .1 .0) (c .before .before .before .spread .kept .1 .1 .0) (c .before .before .before .before .before .before .before .before .pre .1 .1 .1 .1 .1))
+mul-top c = omega (arith, c .wide .ensures, c .before .before .before .before .before .before .before .before .pre .1 .1 .1 .0, fill-room (c .before .before .before .spread .last .1 .1 .0) (c .before .before .before .spread .kept .1 .1 .0) (c .before .before .before .before .before .before .before .before .pre .1 .1 .1 .1 .1 .0))
 
 slice-read-top : tie.Need-slice-read-top Inv-loop μ-loop
-slice-read-top c = omega (arith, c .before .wide .ensures, c .before .before .before .before .before .before .before .before .before .pre .1 .1 .1 .0, c .before .before .before .before .before .before .before .before .before .pre .1 .1 .1 .1 .2 .some, fill-room (c .before .before .before .before .spread .last .1 .1 .0) (c .before .before .before .before .spread .kept .1 .1 .0) (c .before .before .before .before .before .before .before .before .before .pre .1 .1 .1 .1 .1))
+slice-read-top c = omega (arith, c .before .wide .ensures, c .before .before .before .before .before .before .before .before .before .pre .1 .1 .1 .0, c .before .before .before .before .before .before .before .before .before .pre .1 .1 .1 .1 .1 .1 .some, fill-room (c .before .before .before .before .spread .last .1 .1 .0) (c .before .before .before .before .spread .kept .1 .1 .0) (c .before .before .before .before .before .before .before .before .before .pre .1 .1 .1 .1 .1 .0))
 
 -- the level's stack, from its top
 topmost : (c : tie.After-unmarked-arg Inv-loop μ-loop) → let s = c .before .before .before .before .before .before .before .before .before .before in
-    (P : List ℕ) → Standing (graphOf (s .args .starts .now) (s .args .neighbours .now)) (s .args .n) (s .args .at) P (s .args .work .now)
-    → Begun (graphOf (s .args .starts .now) (s .args .neighbours .now)) (ownLevels (graphOf (s .args .starts .now) (s .args .neighbours .now)) P (drop (s .args .at) (s .args .work .now))) (s .args .i) (s .args .b) (orderIn (s .args .n) (s .args .t) (s .args .work .now))
+    (P : List ℕ) → Fills (graphOf (s .args .starts .now) (s .args .neighbours .now)) (s .args .n) (s .args .at) (s .args .t) (s .args .i) (s .args .b) (s .args .work .now) P
     → Stack (s .args .n) (s .args .at) (graphOf (s .args .starts .now) (s .args .neighbours .now)) P (s .args .work .now) (s .args .i) (orderIn (s .args .n) (c .before .before .before .before .before .spread .result) (c .before .before .before .before .before .spread .last .1 .1 .0)) (c .before .before .before .before .before .spread .last .1 .1 .0)
     (getD (c .before .before .before .before .before .spread .last .1 .1 .0) (s .args .n + s .args .n + s .args .n + (c .before .before .wide .result - 1)) 0)
-topmost c P B D =
+topmost c P F =
     let s = c .before .before .before .before .before .before .before .before .before .before in
     let A = s .pre in
-    stack-begin (fill-begin (A .0) (A .1 .0) (A .1 .1 .0) B D (c .before .before .before .before .before .spread .kept .1 .1 .0) (c .before .before .before .before .before .spread .ensures) .0) B (D .some, A .1 .1 .1 .0)
+    stack-begin (fill-begin (A .0) (A .1 .0) (A .1 .1 .0) (F .0) (F .1) (c .before .before .before .before .before .spread .kept .1 .1 .0) (c .before .before .before .before .before .spread .ensures) .0) (F .0) (F .1 .some, A .1 .1 .1 .0)
     (ap (λ (x : ℕ). getD (c .before .before .before .before .before .spread .last .1 .1 .0) (s .args .n + s .args .n + s .args .n + (x - 1)) 0) (c .before .before .wide .ensures))
 
 unmarked-requires : tie.Need-unmarked-requires Inv-loop μ-loop
 unmarked-requires c κs =
     let Q = c .before .before .before .before .before .before .before .before .before .before .pre .1 .1 .1 .1 in
-    let T = topmost c (Q .0) (Q .1) (Q .2) in
-    ((T .rest, T .chain, T .few), omega (arith, fill-room (c .before .before .before .before .before .spread .last .1 .1 .0) (c .before .before .before .before .before .spread .kept .1 .1 .0) (Q .1)))
+    let T = topmost c (Q .0) (Q .1) in
+    ((T .rest, T .chain, T .few), omega (arith, fill-room (c .before .before .before .before .before .spread .last .1 .1 .0) (c .before .before .before .before .before .spread .kept .1 .1 .0) (Q .1 .0)))
 
 -- as the loop begins
 begun : (c : tie.After-unmarked Inv-loop μ-loop) → let s = c .before .before .before .before .before .before .before .before .before .before .before in
-    (P : List ℕ) → Standing (graphOf (s .args .starts .now) (s .args .neighbours .now)) (s .args .n) (s .args .at) P (s .args .work .now)
-    → Begun (graphOf (s .args .starts .now) (s .args .neighbours .now)) (ownLevels (graphOf (s .args .starts .now) (s .args .neighbours .now)) P (drop (s .args .at) (s .args .work .now))) (s .args .i) (s .args .b) (orderIn (s .args .n) (s .args .t) (s .args .work .now))
+    (P : List ℕ) → Fills (graphOf (s .args .starts .now) (s .args .neighbours .now)) (s .args .n) (s .args .at) (s .args .t) (s .args .i) (s .args .b) (s .args .work .now) P
     → Filling (s .args .starts .now) (s .args .neighbours .now) (s .args .n) (s .args .at) P (s .args .work .now) (s .args .b) (s .args .t) (s .args .i)
     (c .before .before .before .before .before .before .spread .last .1 .1 .0) (c .before .before .before .before .before .before .spread .result) (c .unmarked .result)
-begun c P B D =
+begun c P Z =
     let s = c .before .before .before .before .before .before .before .before .before .before .before in
     let A = s .pre in
-    let F = fill-begin (A .0) (A .1 .0) (A .1 .1 .0) B D (c .before .before .before .before .before .before .spread .kept .1 .1 .0) (c .before .before .before .before .before .before .spread .ensures) in
-    fill-on {b = s .args .b} {t = s .args .t} B (D .some) (F .0) (F .1) (topmost (c .before) P B D) (c .unmarked .ensures)
+    let F = fill-begin (A .0) (A .1 .0) (A .1 .1 .0) (Z .0) (Z .1) (c .before .before .before .before .before .before .spread .kept .1 .1 .0) (c .before .before .before .before .before .before .spread .ensures) in
+    fill-on {b = s .args .b} {t = s .args .t} (Z .0) (Z .1 .some) (F .0) (F .1) (topmost (c .before) P Z) (c .unmarked .ensures)
 
 -- at its head, for the part of which the caller knows
 inside : (c : tie.At-loop Inv-loop μ-loop) → let s = c .before .before .before .before .before .before .before .before .before .before .before .before in
@@ -82,7 +80,7 @@ inside : (c : tie.At-loop Inv-loop μ-loop) → let s = c .before .before .befor
 inside c =
     let s = c .before .before .before .before .before .before .before .before .before .before .before .before in
     let Q = s .pre .1 .1 .1 .1 in
-    c .loop .inv .0 (Q .0) (s .args .work .now) (begun (c .before) (Q .0) (Q .1) (Q .2))
+    c .loop .inv .0 (Q .0) (s .args .work .now) (begun (c .before) (Q .0) (Q .1))
 
 loop-holds : tie.Need-loop-holds Inv-loop μ-loop
 loop-holds c = (λ P W F. F, refl)
@@ -119,7 +117,7 @@ same-length : tie.Need-same-length Inv-loop μ-loop
 same-length c = inside (c .before) .walk .size
 
 returns : tie.Need-returns Inv-loop μ-loop
-returns c P B D = fill-done (c .before .loop .inv .0 P (c .before .before .before .before .before .before .before .before .before .before .before .before .before .args .work .now) (begun (c .before .before) P B D)) (c .loop-test .left)
+returns c P F = fill-done (c .before .loop .inv .0 P (c .before .before .before .before .before .before .before .before .before .before .before .before .before .args .work .now) (begun (c .before .before) P F)) (c .loop-test .left)
 
 pub fill-spec : {M : Type 1} → statement M
 fill-spec =

@@ -21,7 +21,7 @@ number-requires c κs =
     let S = s .args .starts .now in
     let N = s .args .neighbours .now in
     let R = c .before .before .before .rank .ensures in
-    (A .0, (refl, (whole-zeros S N (A .0) (A .1 .0) (A .1 .1 .0) (A .1 .1 .1) R, (membersIn (s .args .from) (s .args .m) (s .args .work .now), whole-standing S N (A .0) (A .1 .0) (A .1 .1 .0) (A .1 .1 .1) R, whole-start S N (A .0) (A .1 .0) (A .1 .1 .0) (A .1 .1 .1) R))))
+    (A .0, (refl, (whole-zeros S N (A .0) (A .1 .0) (A .1 .1 .0) (A .1 .1 .1) R, (membersIn (s .args .from) (s .args .m) (s .args .work .now), (whole-standing S N (A .0) (A .1 .0) (A .1 .1 .0) (A .1 .1 .1) R, whole-start S N (A .0) (A .1 .0) (A .1 .1 .0) (A .1 .1 .1) R)))))
 
 unrank-requires : tie.Need-unrank-requires
 unrank-requires c κs =

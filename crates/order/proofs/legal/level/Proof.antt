@@ -13,7 +13,7 @@ from-before-requires : tie.Need-from-before-requires
 from-before-requires c κs =
     let P = c .before .before .before .before .pre in
     let Q = P .1 .1 .1 .1 in
-    (P .0, (P .1 .0, (P .1 .1 .0, (standing-far (Q .1), omega (arith, Q .2 .inside, open-at (P .1 .1 .0) .count)))))
+    (P .0, (P .1 .0, (P .1 .1 .0, (standing-far (Q .1 .0), omega (arith, Q .1 .1 .inside, open-at (P .1 .1 .0) .count)))))
 
 fill-requires : tie.Need-fill-requires
 fill-requires c κs =
@@ -22,22 +22,22 @@ fill-requires c κs =
     let Q = P .1 .1 .1 .1 in
     let S = s .args .starts .now in
     let N = s .args .neighbours .now in
-    let K = level-walk S N (P .0) (P .1 .0) (P .1 .1 .0) (Q .1) (Q .2) (c .before .before .before .from-before .kept .1 .1 .0) (c .before .before .before .from-before .ensures) in
-    let D = level-begun S N (P .0) (P .1 .0) (P .1 .1 .0) (Q .1) (Q .2) (c .before .before .before .from-before .kept .1 .1 .0) (c .before .before .before .from-before .ensures) in
-    (P .0, (P .1 .0, (walk-open K, (P .1 .1 .1 .0, (Q .0, standing-on K (Q .1), D)))))
+    let K = level-walk S N (P .0) (P .1 .0) (P .1 .1 .0) (Q .1 .0) (Q .1 .1) (c .before .before .before .from-before .kept .1 .1 .0) (c .before .before .before .from-before .ensures) in
+    let D = level-begun S N (P .0) (P .1 .0) (P .1 .1 .0) (Q .1 .0) (Q .1 .1) (c .before .before .before .from-before .kept .1 .1 .0) (c .before .before .before .from-before .ensures) in
+    (P .0, (P .1 .0, (walk-open K, (P .1 .1 .1 .0, (Q .0, (standing-on K (Q .1 .0), D))))))
 
 same-length : tie.Need-same-length
 same-length c = search needs
 
 returns : tie.Need-returns
-returns c R B D =
+returns c R F =
     let s = c .before .before .before .before .before .before .before .before .before .before .before in
     let P = s .pre in
     let S = s .args .starts .now in
     let N = s .args .neighbours .now in
-    let K = level-walk S N (P .0) (P .1 .0) (P .1 .1 .0) B D (c .before .before .before .before .before .before .from-before .kept .1 .1 .0) (c .before .before .before .before .before .before .from-before .ensures) in
-    let E = level-begun S N (P .0) (P .1 .0) (P .1 .1 .0) B D (c .before .before .before .before .before .before .from-before .kept .1 .1 .0) (c .before .before .before .before .before .before .from-before .ensures) in
-    level-done S N (P .0) (P .1 .0) (P .1 .1 .0) B D (c .before .before .before .before .before .before .from-before .kept .1 .1 .0) (c .before .before .before .before .before .before .from-before .ensures) (c .before .before .fill .ensures R (standing-on K B) E)
+    let K = level-walk S N (P .0) (P .1 .0) (P .1 .1 .0) (F .0) (F .1) (c .before .before .before .before .before .before .from-before .kept .1 .1 .0) (c .before .before .before .before .before .before .from-before .ensures) in
+    let E = level-begun S N (P .0) (P .1 .0) (P .1 .1 .0) (F .0) (F .1) (c .before .before .before .before .before .before .from-before .kept .1 .1 .0) (c .before .before .before .before .before .before .from-before .ensures) in
+    level-done S N (P .0) (P .1 .0) (P .1 .1 .0) (F .0) (F .1) (c .before .before .before .before .before .before .from-before .kept .1 .1 .0) (c .before .before .before .before .before .before .from-before .ensures) (c .before .before .fill .ensures R (standing-on K (F .0), E))
 
 pub level-spec : {M : Type 1} → statement M
 level-spec = tie.close (tie.spec from-before-requires fill-requires same-length returns)
