@@ -2,3 +2,4 @@ pub mod Degrees
 pub mod Counts
 pub mod Lent
 pub mod Answers
+pub mod Runs

@@ -1,4 +1,5 @@
-// What the elimination answers.
+// What the elimination answers, and the run with the elimination after it.
+use numbering::answer::RunFigures;
 
 // "The marks that are 1 are counted, and so are the newly joined pairs, those not joined at first."
 pub struct Counts {
@@ -9,4 +10,11 @@ pub struct Counts {
 pub enum Elimination {
     Accepted(Counts),
     Refused(u16),
+}
+
+// Refused as the run is; or the run's figures, beside the refusal of the elimination or its counts.
+pub enum RunElimination {
+    Refused(u16),
+    RunOnly { figures: RunFigures, refusal: u16 },
+    Both { figures: RunFigures, counts: Counts },
 }

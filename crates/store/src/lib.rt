@@ -1,14 +1,22 @@
-// The store of a numbered graph: the marks of the pairs that the elimination joins.
+// The store of a numbered graph: the marks of the pairs that the elimination joins; and the whole run with the elimination after it, whose
+// contract has demand 3.
 ghost use mathlib.Core.Path.{_≡_};
-ghost use Rattle.spec.specs.CallsStore.{eliminationAnswer, eliminationScratch, eliminationBytes};
-ghost use Rattle.store.specs.Answer.{meaning};
+ghost use Rattle.spec.specs.CallsNumbering.{runNumbers, runLevels, runScratch};
+ghost use Rattle.spec.specs.CallsStore.{eliminationAnswer, eliminationScratch, eliminationBytes, handedScratch, runEliminateAnswer, runEliminateBytes};
+ghost use Rattle.spec.specs.Lent.{accepted};
+ghost use Rattle.numbering.specs.Answer.{eight};
+ghost use Rattle.store.specs.Answer.{meaning, runMeaning};
+ghost use Rattle.store.specs.Claimed.{Claimed};
 
 mod answer;
 mod legal;
 
 pub use answer::Counts;
 pub use answer::Elimination;
+pub use answer::RunElimination;
 use graph::Adjacency;
+use numbering::answer::RunAnswer;
+use numbering::answer::RunFigures;
 
 // The entry point: a numbering by old number, a scratch word for each node, and the mark bytes.
 pub fn eliminate(
@@ -34,5 +42,59 @@ pub fn eliminate(
         legal::eliminate(starts, neighbours, numbering, scratch, bytes, n)
     } else {
         Elimination::Refused(7)
+    }
+}
+
+// The elimination by the run's numbers, beside the run's figures.
+fn eliminate_after(
+    figures: RunFigures,
+    starts: &[u16],
+    neighbours: &[u16],
+    numbers: &[u16],
+    scratch: &mut [u16],
+    bytes: &mut [u8],
+) -> RunElimination
+    ensures { λ r. ⌜ runMeaning r ≡ accepted (record { figures = eight figures; elimination = eliminationAnswer (now (starts .entry)) (now (neighbours .entry)) (now (numbers .entry)) (now (scratch .entry)) (now (bytes .entry)) }) ⌝ }
+    ensures { λ _. ⌜ now (scratch .exit) ≡ eliminationScratch (now (starts .entry)) (now (neighbours .entry)) (now (numbers .entry)) (now (scratch .entry)) (now (bytes .entry)) ⌝ }
+    ensures { λ _. ⌜ now (bytes .exit) ≡ eliminationBytes (now (starts .entry)) (now (neighbours .entry)) (now (numbers .entry)) (now (scratch .entry)) (now (bytes .entry)) ⌝ }
+{
+    match eliminate(starts, neighbours, numbers, scratch, bytes) {
+        Elimination::Refused(c) => RunElimination::RunOnly {
+            figures,
+            refusal: c,
+        },
+        Elimination::Accepted(counts) => RunElimination::Both { figures, counts },
+    }
+}
+
+// The entry point: the whole run, then the elimination of the same adjacency by the run's numbers, in the first n scratch words.
+pub fn run_eliminate(
+    starts: &[u16],
+    neighbours: &[u16],
+    numbers: &mut [u16],
+    levels: &mut [u16],
+    scratch: &mut [u16],
+    bytes: &mut [u8],
+) -> RunElimination
+    ensures { λ r. ⌜ runMeaning r ≡ runEliminateAnswer (now (starts .entry)) (now (neighbours .entry)) (now (numbers .entry)) (now (levels .entry)) (now (scratch .entry)) (now (bytes .entry)) ⌝ }
+    ensures { λ _. ⌜ now (numbers .exit) ≡ runNumbers (now (starts .entry)) (now (neighbours .entry)) (now (numbers .entry)) (now (levels .entry)) (now (scratch .entry)) ⌝ }
+    ensures { λ _. ⌜ now (levels .exit) ≡ runLevels (now (starts .entry)) (now (neighbours .entry)) (now (numbers .entry)) (now (levels .entry)) (now (scratch .entry)) ⌝ }
+    ensures { λ _. ⌜ now (scratch .exit) ≡ runScratch (now (starts .entry)) (now (neighbours .entry)) (now (numbers .entry)) (now (levels .entry)) (now (scratch .entry)) ⌝ }
+    ensures { λ _. ⌜ now (bytes .exit) ≡ runEliminateBytes (now (starts .entry)) (now (neighbours .entry)) (now (numbers .entry)) (now (levels .entry)) (now (scratch .entry)) (now (bytes .entry)) ⌝ }
+    ensures { λ r. ⌜ Claimed (now (starts .entry)) (now (neighbours .entry)) (runMeaning r) (now (numbers .exit)) (now (levels .exit)) (handedScratch (now (starts .entry)) (now (neighbours .entry)) (now (numbers .entry)) (now (levels .entry)) (now (scratch .entry))) (now (bytes .entry)) (now (bytes .exit)) ⌝ }
+{
+    match numbering::run(starts, neighbours, numbers, levels, scratch) {
+        RunAnswer::Refused(c) => RunElimination::Refused(c),
+        RunAnswer::Numbered(figures) => {
+            let n = starts.len() - 1;
+            eliminate_after(
+                figures,
+                starts,
+                neighbours,
+                &numbers[..n],
+                &mut scratch[..n],
+                bytes,
+            )
+        }
     }
 }

@@ -1,0 +1,140 @@
+-- The tests of the whole run in turn, and what a refused and an accepted run answers and leaves. Assumes nothing.
+use mathlib.Core.Path.{_≡_, sym, ap, _∙_}
+use mathlib.Core.Bool.{Bool, true, false, _||_}
+use mathlib.Core.List.{List, _++_}
+use Prim.Native.Nat.{ℕ, _*_, _≤_, _<_}
+use native.Mathlib.Omega.{arith}
+use lib.ListN.{length, take, drop}
+use lib.Seq.{take-at}
+use lib.Dec.{ltb}
+use borrow.Author.Tests.{lt-ltb, le-ltb, ltb-false}
+use Rattle.basis.proofs.Logic.{or-none}
+use Rattle.spec.specs.CallsNumbering.{runRefusal, runAnswer, runNumbers, runLevels, runScratch}
+use Rattle.spec.specs.Graph.{graphOf, sizeOf}
+use Rattle.spec.specs.Lent.{Outcome, accepted, refused, zeroed}
+use Rattle.spec.specs.Numbering.{Figures, run}
+use Rattle.spec.specs.Refusal.{refuse}
+use Rattle.laws.proofs.Legal.{node-in}
+use Rattle.laws.proofs.Numberings.{numbering-length}
+use Rattle.laws.proofs.RunLevels.{levels-length, run-occupied, run-width-most, run-width-met, run-one-level, run-edges}
+use Rattle.laws.proofs.Whole.{run-numbering, run-measured-bandwidth, run-measured-profile, run-measured-front}
+use Rattle.graph.specs.Facts.{LegalLists, RefusedLists}
+use Rattle.graph.proofs.Answers.{refused-first, legal-next}
+use Rattle.levels.proofs.Refusals.{answer-refused, filled-refused, answer-accepted, filled-accepted, scratch-refused, scratch-accepted}
+use Rattle.numbering.specs.Numbered.{Numbered}
+
+-- ---- a short buffer
+
+module _ (n a b c : ℕ) where
+  pub first-short : a < n → true ≡ ltb a n || ltb b n || ltb c (8 * n)
+  first-short h = rw (lt-ltb a n h)
+
+  pub second-short : n ≤ a → b < n → true ≡ ltb a n || ltb b n || ltb c (8 * n)
+  second-short l h = rw (le-ltb a n l, lt-ltb b n h)
+
+  pub third-short : n ≤ a → n ≤ b → ltb c (8 * n) ≡ ltb a n || ltb b n || ltb c (8 * n)
+  third-short l m = rw (le-ltb a n l, le-ltb b n m)
+
+-- all three are long enough
+pub none-short : (n a b c : ℕ) → ltb a n || ltb b n || ltb c (8 * n) ≡ false → (n ≤ a) × (n ≤ b) × (8 * n ≤ c)
+none-short n a b c e =
+    let u = or-none (ltb a n || ltb b n) (ltb c (8 * n)) e in
+    let v = or-none (ltb a n) (ltb b n) (u .0) in
+    (ltb-false a n (v .0), ltb-false b n (v .1), ltb-false c (8 * n) (u .1))
+
+module _ (S N X L W : List ℕ) where
+  -- ---- refused: everything lent is untouched
+
+  pub record RunRefused (c : ℕ) : Type 0 where
+    pub answer : refused c ≡ runAnswer S N X L W
+    pub numbers : X ≡ runNumbers S N X L W
+    pub levels : L ≡ runLevels S N X L W
+    pub scratch : W ≡ runScratch S N X L W
+    pub none : (F : Figures) → _≡_ {A = Outcome Figures} (refused c) (accepted F) → Numbered S N F (take (sizeOf S) X) (take (sizeOf S) L)
+
+  refusal : (c : ℕ) → runRefusal S N X L W ≡ c → 1 ≤ c → RunRefused c
+  unfolding runAnswer runNumbers runLevels runScratch
+  refusal c e l =
+      let r : ℕ = runRefusal S N X L W in
+      record {
+        answer = answer-refused r c _ e l;
+        numbers = filled-refused r c _ X e l;
+        levels = filled-refused r c _ L e l;
+        scratch = scratch-refused r c S W e l;
+        none = λ F p. let z : _≡_ {A = ℕ} 0 1 = cc in absurd (omega arith);
+      }
+
+  -- 1 to 4
+  pub lists-refused : {c : ℕ} → RefusedLists S N c → RunRefused c
+  unfolding runRefusal
+  lists-refused {c} R = refusal c (refused-first R _) (R .some)
+
+  module _ (G : LegalLists S N) where
+    tests : {b : Bool} → ltb (length X) (sizeOf S) || ltb (length L) (sizeOf S) || ltb (length W) (8 * sizeOf S) ≡ b → runRefusal S N X L W ≡ refuse b 5
+    unfolding runRefusal
+    tests e = legal-next G _ ∙ ap (λ (b : Bool). refuse b 5) e
+
+    -- 5
+    pub short-refused : ltb (length X) (sizeOf S) || ltb (length L) (sizeOf S) || ltb (length W) (8 * sizeOf S) ≡ true → RunRefused 5
+    short-refused e = refusal 5 (tests e) (omega arith)
+
+    -- ---- accepted
+
+    module _ (long : ltb (length X) (sizeOf S) || ltb (length L) (sizeOf S) || ltb (length W) (8 * sizeOf S) ≡ false) where
+      none : runRefusal S N X L W ≡ 0
+      none = tests long
+
+      pub run-answer : accepted (run (graphOf S N) .figures) ≡ runAnswer S N X L W
+      unfolding runAnswer
+      run-answer = answer-accepted (runRefusal S N X L W) _ none
+
+      pub numbers-back : {Y : List ℕ} → Y ≡ run (graphOf S N) .numbers → Y ++ drop (sizeOf S) X ≡ runNumbers S N X L W
+      unfolding runNumbers
+      numbers-back y =
+          ap (λ (l : List ℕ). l ++ drop (sizeOf S) X) y
+          ∙ filled-accepted (runRefusal S N X L W) (sizeOf S) (run (graphOf S N) .numbers) X none (numbering-length (sizeOf S) (run (graphOf S N) .numbers) (run-numbering (G .graph)))
+
+      pub levels-back : {Y : List ℕ} → Y ≡ run (graphOf S N) .levels → Y ++ drop (sizeOf S) L ≡ runLevels S N X L W
+      unfolding runLevels
+      levels-back y =
+          ap (λ (l : List ℕ). l ++ drop (sizeOf S) L) y
+          ∙ filled-accepted (runRefusal S N X L W) (sizeOf S) (run (graphOf S N) .levels) L none (levels-length (G .graph))
+
+      pub scratch-back : {Z : List ℕ} → Z ≡ zeroed (8 * sizeOf S) W → Z ≡ runScratch S N X L W
+      unfolding runScratch
+      scratch-back z = z ∙ scratch-accepted (runRefusal S N X L W) S W none
+
+-- ---- what a library above rests on
+
+-- of the run's own figures, numbers and levels
+pub run-numbered : {S N : List ℕ} → LegalLists S N → Numbered S N (run (graphOf S N) .figures) (run (graphOf S N) .numbers) (run (graphOf S N) .levels)
+run-numbered {S} {N} A =
+    let G = A .graph in
+    record {
+      numbering = run-numbering G;
+      bandwidth-is = run-measured-bandwidth G;
+      profile-is = run-measured-profile G;
+      front-is = run-measured-front G;
+      full = levels-length G;
+      occupied = λ z i l. run-occupied G z (l .leads) i l;
+      one-level = λ x m. run-one-level G x (node-in (graphOf S N) x m);
+      edges = run-edges G;
+      width-most = run-width-most G;
+      width-met = run-width-met G (A .starts .some);
+    }
+
+-- and of the first n words of the two lists that it leaves
+pub left-numbered : {S N Y M : List ℕ} (X L : List ℕ) → LegalLists S N → Y ≡ run (graphOf S N) .numbers → M ≡ run (graphOf S N) .levels
+    → (F F′ : Figures) → F′ ≡ run (graphOf S N) .figures → _≡_ {A = Outcome Figures} (accepted F′) (accepted F)
+    → Numbered S N F (take (sizeOf S) (Y ++ drop (sizeOf S) X)) (take (sizeOf S) (M ++ drop (sizeOf S) L))
+left-numbered {S} {N} {Y} {M} X L A y l F F′ f e =
+    let G = A .graph in
+    let f′ : F ≡ run (graphOf S N) .figures = sym (taken F′ F e) ∙ f in
+    let y′ : take (sizeOf S) (Y ++ drop (sizeOf S) X) ≡ run (graphOf S N) .numbers =
+    take-at Y (drop (sizeOf S) X) (sizeOf S) (ap length y ∙ numbering-length (sizeOf S) (run (graphOf S N) .numbers) (run-numbering G)) ∙ y in
+    let l′ : take (sizeOf S) (M ++ drop (sizeOf S) L) ≡ run (graphOf S N) .levels =
+    take-at M (drop (sizeOf S) L) (sizeOf S) (ap length l ∙ levels-length G) ∙ l in
+    rw (f′, y′, l′) (run-numbered A)
+  where
+    taken : (a b : Figures) → _≡_ {A = Outcome Figures} (accepted a) (accepted b) → a ≡ b
+    taken a b e = cc

@@ -1,0 +1,106 @@
+-- The scratch of the whole run from its clearing to its clearing, and the eight figures. Assumes nothing.
+use mathlib.Core.Path.{_≡_, sym, ap, _∙_}
+use mathlib.Core.Bool.{true}
+use mathlib.Core.List.{List, _++_}
+use Prim.Native.Nat.{ℕ, _+_, _*_, _≤_}
+use native.Mathlib.Omega.{arith}
+use lib.ListN.{length, take, drop, replicate, length-append, length-drop, length-replicate}
+use lib.Seq.{length-take-le}
+use Rattle.basis.specs.Lists.{joinAll}
+use Rattle.spec.specs.CallsNumbering.{MeasureFigures, measureFigures}
+use Rattle.spec.specs.Graph.{graphOf, sizeOf, graphRefusal}
+use Rattle.spec.specs.Lent.{zeroed}
+use Rattle.spec.specs.Levels.{parts}
+use Rattle.spec.specs.Measures.{isNumbering, renumbered, bandwidth, profile, front}
+use Rattle.spec.specs.Numbering.{Figures, run}
+use Rattle.laws.proofs.Lent.{zeroed-behind}
+use Rattle.laws.proofs.Whole.{run-numbering, run-measured-bandwidth, run-measured-profile, run-measured-front}
+use Rattle.graph.specs.Facts.{LegalLists}
+use Rattle.levels.proofs.Scratch.{zero-front, behind-front, zeroed-again}
+use Rattle.piecing.proofs.Clearing.{zeroed-length}
+use Rattle.measures.specs.Answer.{three}
+use Rattle.measures.specs.declared.answer.Measures.{Measures}
+use Rattle.numbering.specs.Ran.{Summed}
+use Rattle.numbering.proofs.Ran.{graph, starts, areas, areas-size, areas-front}
+
+module _ (S N : List ℕ) (legal : graphRefusal S N ≡ 0) where
+  abbrev n : ℕ
+  n = sizeOf S
+
+  pub legal-lists : LegalLists S N
+  legal-lists = record { starts = starts S N legal; graph = graph S N legal; refusal = legal }
+
+  -- ---- the scratch
+
+  module _ (W₀ : List ℕ) {W₁ : List ℕ} (room : 8 * n ≤ length W₀) (w₁ : W₁ ≡ zeroed (8 * n) W₀) where
+    pub cleared-size : length W₁ ≡ length W₀
+    cleared-size = ap length w₁ ∙ zeroed-length (8 * n) W₀ room
+
+    pub members-room : 6 * n ≤ length W₁
+    members-room = omega (arith, cleared-size, room)
+
+    pub members-blank : take (6 * n) W₁ ≡ replicate (6 * n) 0
+    members-blank = ap (take (6 * n)) w₁ ∙ zero-front (6 * n) (8 * n) W₀ (omega arith)
+
+    module _ {W₂ : List ℕ} (w₂ : W₂ ≡ replicate (5 * n) 0 ++ (joinAll (parts (graphOf S N)) ++ drop (6 * n) W₁)) where
+      abbrev front-part : List ℕ
+      front-part = areas S N legal
+
+      two-is : W₂ ≡ front-part ++ drop (6 * n) W₁
+      two-is = areas-front S N legal (drop (6 * n) W₁) w₂
+
+      pub filled-size : length W₂ ≡ length W₀
+      filled-size = ap length two-is ∙ omega (arith, length-append front-part (drop (6 * n) W₁), areas-size S N legal, length-drop (6 * n) W₁, members-room, cleared-size)
+
+      module _ {W₃ : List ℕ} (w₃ : W₃ ≡ W₂) where
+        three-size : length W₃ ≡ length W₀
+        three-size = ap length w₃ ∙ filled-size
+
+        -- n words are lent to the measures
+        pub lent-room : n ≤ length W₃
+        lent-room = omega (arith, three-size, room)
+
+        pub lent-size : length (take n W₃) ≡ n
+        lent-size = length-take-le n W₃ lent-room
+
+        -- and come back as zeros
+        pub back-size : {C : List ℕ} → C ≡ replicate n 0 → length (C ++ drop n W₃) ≡ length W₀
+        back-size {C} c = omega (arith, length-append C (drop n W₃), ap length c, length-replicate {A = ℕ} n 0, length-drop n W₃, lent-room, three-size)
+
+        pub last-scratch : {C : List ℕ} → C ≡ replicate n 0 → zeroed (8 * n) (C ++ drop n W₃) ≡ zeroed (8 * n) W₀
+        last-scratch {C} c =
+            zeroed-again (8 * n) (C ++ drop n W₃) W₀
+            (behind-front n (8 * n) C W₃ (ap length c ∙ length-replicate n 0) (omega arith)
+            ∙ ap (drop (8 * n)) (w₃ ∙ two-is)
+            ∙ behind-front (6 * n) (8 * n) front-part W₁ (areas-size S N legal) (omega arith)
+            ∙ ap (drop (8 * n)) w₁ ∙ zeroed-behind (8 * n) W₀)
+
+        pub last-size : {C W₅ : List ℕ} → C ≡ replicate n 0 → W₅ ≡ zeroed (8 * n) (C ++ drop n W₃) → length W₅ ≡ length W₀
+        last-size c w₅ = ap length (w₅ ∙ last-scratch c) ∙ zeroed-length (8 * n) W₀ room
+
+  -- ---- the figures
+
+  pub numbers-numbering : {X : List ℕ} → X ≡ run (graphOf S N) .numbers → isNumbering (sizeOf S) X ≡ true
+  numbers-numbering x = ap (isNumbering (sizeOf S)) x ∙ run-numbering (graph S N legal)
+
+  pub eight-are : {X : List ℕ} {m : Measures} {parts nodes levels width passes : ℕ} → X ≡ run (graphOf S N) .numbers
+      → three m ≡ measureFigures (renumbered (graphOf S N) X) → Summed (run (graphOf S N) .figures) parts nodes levels width passes
+      → _≡_ {A = Figures} (record { nodes = nodes; parts = parts; bandwidth = m .bandwidth; profile = m .profile; front = m .front; levels = levels; width = width; passes = passes })
+      (run (graphOf S N) .figures)
+  unfolding measureFigures
+  eight-are {X} {m} x e T =
+      let G = graph S N legal in
+      let h = ap (renumbered (graphOf S N)) x in
+      let b = ap (λ (f : MeasureFigures). f .bandwidth) e ∙ ap bandwidth h ∙ sym (run-measured-bandwidth G) in
+      let p = ap (λ (f : MeasureFigures). f .profile) e ∙ ap profile h ∙ sym (run-measured-profile G) in
+      let f = ap (λ (f : MeasureFigures). f .front) e ∙ ap front h ∙ sym (run-measured-front G) in
+      λ i. record {
+        nodes = T .nodes-are i;
+        parts = T .parts-are i;
+        bandwidth = b i;
+        profile = p i;
+        front = f i;
+        levels = T .levels-are i;
+        width = T .width-is i;
+        passes = T .passes-are i;
+      }

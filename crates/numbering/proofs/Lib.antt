@@ -1,0 +1,4 @@
+pub mod Found
+pub mod Ran
+pub mod Answers
+pub mod Figures

@@ -1,0 +1,270 @@
+-- The run part by part: what holds before the first part, what the next part asks and leaves, and what holds after the last. Assumes nothing.
+use mathlib.Core.Path.{_≡_, refl, sym, ap, _∙_, subst}
+use mathlib.Core.Bool.{true, cond}
+use mathlib.Core.List.{List, _++_, map, append-assoc}
+use Prim.Native.Nat.{ℕ, suc, _+_, _-_, _*_, _≤_, _<_, max}
+use native.Mathlib.Omega.{arith}
+use lib.ListN.{length, getD, take, drop, replicate, length-append, length-map, length-replicate, getD-replicate}
+use lib.Seq.{take-at, take-take, drop-at}
+use Rattle.basis.specs.Lists.{joinAll, memb, greatest, sum, position}
+use Rattle.basis.proofs.Logic.{clash}
+use Rattle.spec.specs.Graph.{Graph, graphOf, sizeOf, graphRefusal, nodes, ofNode}
+use Rattle.spec.specs.Levels.{part, parts}
+use Rattle.spec.specs.Measures.{numbersOf}
+use Rattle.spec.specs.Numbering.{PartResult, partResult, partResults, wholeOrder, wholeLevels, figuresOf, runOf, run}
+use Rattle.laws.specs.Legal.{Node, LegalGraph, Starts}
+use Rattle.laws.proofs.Legal.{ofNode-at, ofNode-map, by-node, length-nodes}
+use Rattle.laws.proofs.Levels.{part-node}
+use Rattle.laws.proofs.Numberings.{number-of, numbers-length, order-memb}
+use Rattle.laws.proofs.Refused.{passed, starts-of, not-refused}
+use Rattle.laws.proofs.Whole.{whole-perm}
+use Rattle.piecing.specs.Given.{firstOf}
+use Rattle.piecing.specs.Starts.{membersOf}
+use Rattle.search.proofs.Stores.{take-replicate}
+use Rattle.levels.specs.Part.{PartGiven}
+use Rattle.levels.proofs.OnePart.{members-lent}
+use Rattle.parts.specs.Walked.{Walked, leaderAt}
+use Rattle.parts.proofs.Leads.{parts-length}
+use Rattle.parts.proofs.Walk.{walk-begin, walk-end, walk-next, next-node, next-some, next-fits, scratch-first, scratch-part}
+use Rattle.renumbering.specs.Part.{numberFrom, renewed, partFiguresOf}
+use Rattle.renumbering.specs.declared.shape.PartFigures.{PartFigures}
+use Rattle.numbering.specs.Ran.{foundTo, Ran, Summed}
+use Rattle.numbering.proofs.Found.{parts-most, sum-next, greatest-next, depth-few, passes-few, numbers-next, levels-new, levels-next, found-all, found-count}
+
+module _ (S N : List ℕ) (legal : graphRefusal S N ≡ 0) where
+  pub graph : LegalGraph (graphOf S N)
+  graph = not-refused S N legal
+
+  pub starts : Starts S N
+  starts = starts-of (passed S N legal)
+
+  -- the six areas of n words that the run works in: five of zeros, and the members
+  abbrev pub areas : List ℕ
+  areas = replicate (5 * sizeOf S) 0 ++ joinAll (parts (graphOf S N))
+
+  pub areas-size : length areas ≡ 6 * sizeOf S
+  areas-size =
+      omega (
+        arith,
+        length-append (replicate (5 * sizeOf S) 0) (joinAll (parts (graphOf S N))),
+        length-replicate {A = ℕ} (5 * sizeOf S) 0,
+        parts-length graph,
+      )
+
+  pub areas-front : (E : List ℕ) {W : List ℕ} → W ≡ replicate (5 * sizeOf S) 0 ++ (joinAll (parts (graphOf S N)) ++ E) → W ≡ areas ++ E
+  areas-front E w = w ∙ sym (append-assoc (replicate (5 * sizeOf S) 0) (joinAll (parts (graphOf S N))) E)
+
+-- ---- before the first part
+
+zero-level : (g : Graph) (q : ℕ) → Node g q → ofNode (replicate (g .size) 0) q ≡ 0
+zero-level g q N =
+    ofNode-at (replicate (g .size) 0) q (N .low) ∙ getD-replicate (g .size) (q - 1) 0 0 (omega (arith, N .low, N .high))
+
+pub ran-begin : {S N X L W : List ℕ} (E : List ℕ) → graphRefusal S N ≡ 0 → length X ≡ sizeOf S → L ≡ replicate (sizeOf S) 0
+    → W ≡ replicate (5 * sizeOf S) 0 ++ (joinAll (parts (graphOf S N)) ++ E) → Ran S N 0 0 0 0 0 X L W
+unfolding wholeOrder wholeLevels
+ran-begin {S} {N} {X} {L} {W} E legal x l w =
+    let g : Graph = graphOf S N in
+    record {
+      legal = legal;
+      walked = walk-begin g;
+      room = x;
+      numbers = λ q A m. clash m refl;
+      levels = l
+          ∙ by-node g (replicate (sizeOf S) 0) (map (λ z. 0) (nodes g)) (length-replicate (sizeOf S) 0) (length-map (nodes g) (λ z. 0) ∙ length-nodes g)
+          (λ q A. zero-level g q A ∙ sym (ofNode-map g (λ z. 0) q A));
+      depths = refl;
+      widest = refl;
+      passes = refl;
+      few-levels = omega arith;
+      few-passes = omega arith;
+      words = w
+          ∙ ap (λ (e : List ℕ). replicate (5 * sizeOf S) 0 ++ (joinAll (parts g) ++ e))
+          (sym (ap (drop (6 * sizeOf S)) (areas-front S N legal E w) ∙ drop-at (areas S N legal) E (6 * sizeOf S) (areas-size S N legal)));
+    }
+
+-- a level for each node
+pub levels-size : {S N : List ℕ} {j a k w p : ℕ} {X L W : List ℕ} → Ran S N j a k w p X L W → length L ≡ sizeOf S
+unfolding wholeLevels
+levels-size {S} {N} {j} R =
+    ap length (R .levels) ∙ length-map (nodes (graphOf S N)) (λ z. greatest (map (λ r. ofNode (r .levels) z) (foundTo (graphOf S N) j)))
+    ∙ length-nodes (graphOf S N)
+
+-- ---- the next part
+
+-- the same, where the count of nodes is given in another way
+pub ran-at : {S N : List ℕ} {j a b k w p : ℕ} {X L W : List ℕ} → b ≡ a → Ran S N j a k w p X L W → Ran S N j b k w p X L W
+ran-at {S} {N} {j} {a} {b} {k} {w} {p} {X} {L} {W} e R = subst (λ (x : ℕ). Ran S N j x k w p X L W) (sym e) R
+
+-- and the same words
+pub ran-words : {S N : List ℕ} {j a k w p : ℕ} {X L U W : List ℕ} → U ≡ W → Ran S N j a k w p X L W → Ran S N j a k w p X L U
+ran-words {S} {N} {j} {a} {k} {w} {p} {X} {L} e R = subst (Ran S N j a k w p X L) (sym e) R
+
+module _ {S N : List ℕ} {j a k w p : ℕ} {X L W : List ℕ} (R : Ran S N j a k w p X L W) (h : j < length (parts (graphOf S N))) where
+  abbrev n : ℕ
+  n = sizeOf S
+
+  abbrev z : ℕ
+  z = leaderAt (graphOf S N) j
+
+  abbrev zeros : List ℕ
+  zeros = replicate (5 * sizeOf S) 0
+
+  abbrev E : List ℕ
+  E = drop (6 * sizeOf S) W
+
+  G : LegalGraph (graphOf S N)
+  G = graph S N (R .legal)
+
+  Z : Node (graphOf S N) z
+  Z = next-node G (R .walked) h
+
+  long : length zeros ≡ 5 * n
+  long = length-replicate (5 * n) 0
+
+  pub words-size : 6 * n ≤ length W
+  words-size =
+      omega (arith, ap length (areas-front S N (R .legal) E (R .words)), length-append (areas S N (R .legal)) E, areas-size S N (R .legal))
+
+  -- its size
+  abbrev m : ℕ
+  m = length (part (graphOf S N) z)
+
+  pub fits : a + m ≤ n
+  fits = next-fits G (R .walked) h
+
+  pub some : 1 ≤ m
+  some = next-some G (R .walked) h
+
+  -- its lowest node stands first
+  lowest-is : getD W (5 * n + a) 0 ≡ z
+  lowest-is = ap (λ (l : List ℕ). getD l (5 * n + a) 0) (R .words) ∙ scratch-first G (R .walked) h zeros E (5 * n) long
+
+  pub lowest-node : {q : ℕ} → q ≡ getD W (5 * n + a) 0 → (1 ≤ q) × (q ≤ n)
+  lowest-node e = let A = Z in let s = e ∙ lowest-is in (omega (arith, A .low), omega (arith, A .high))
+
+  pub size-is : {q t : ℕ} → q ≡ getD W (5 * n + a) 0 → t ≡ length (part (graphOf S N) q) → t ≡ m
+  size-is e t = t ∙ ap (λ (x : ℕ). length (part (graphOf S N) x)) (e ∙ lowest-is)
+
+  -- the words that a search works in are 0
+  blank : take (5 * n) W ≡ zeros
+  blank = ap (take (5 * n)) (R .words) ∙ take-at zeros (joinAll (parts (graphOf S N)) ++ E) (5 * n) long
+
+  pub half-blank : take (n + n) W ≡ replicate (n + n) 0
+  half-blank =
+      let o : 5 * n ≡ n + n + 3 * n = omega arith in
+      sym (take-take (n + n) (5 * n) W (omega arith)) ∙ ap (take (n + n)) blank ∙ ap (λ (i : ℕ). take (n + n) (replicate i 0)) o ∙ take-replicate (n + n) (3 * n) 0
+
+  members-are : membersOf n a (a + m) W ≡ part (graphOf S N) z
+  members-are =
+      let c : 5 * n + (a + m) - (5 * n + a) ≡ m = omega arith in
+      sym (members-lent n a (a + m) W (omega arith) (omega (arith, fits, words-size)))
+      ∙ ap (λ (i : ℕ). take i (drop (5 * n + a) W)) c
+      ∙ ap (λ (l : List ℕ). take m (drop (5 * n + a) l)) (R .words)
+      ∙ scratch-part G (R .walked) h zeros E (5 * n) long
+
+  given : PartGiven (graphOf S N) a (a + m) W L
+  given = record {
+    words = words-size;
+    room = levels-size R;
+    order = omega (arith, some);
+    most = fits;
+    members = members-are ∙ ap (part (graphOf S N)) (sym lowest-is);
+    blank = blank;
+    clean = λ q i.
+        let i′ : memb q (part (graphOf S N) z) ≡ true = sym (ap (λ (x : ℕ). memb q (part (graphOf S N) x)) lowest-is) ∙ i in
+        let A = part-node G Z q i′ in
+        sym (ofNode-at L q (A .low)) ∙ ap (λ (l : List ℕ). ofNode l q) (R .levels) ∙ levels-new G (R .walked) h q A i′;
+  }
+
+  pub part-given : {t : ℕ} {W′ : List ℕ} → t ≡ m → W′ ≡ W → PartGiven (graphOf S N) a (a + t) W′ L
+  part-given {t} t-is e =
+      subst (λ (u : List ℕ). PartGiven (graphOf S N) a (a + t) u L) (sym e) (subst (λ (x : ℕ). PartGiven (graphOf S N) a (a + x) W L) (sym t-is) given)
+
+  -- what is summed up stays small
+  pub few : n ≤ 4096
+  few = starts S N (R .legal) .few
+
+  pub parts-few : j < 4096
+  parts-few = omega (arith, few, parts-most (graphOf S N), h)
+
+  module _ {f : PartFigures} {W′ : List ℕ} (e : W′ ≡ W) (f-is : f ≡ partFiguresOf (partResult (graphOf S N) (firstOf (sizeOf S) a W′) .report)) where
+    first-is : firstOf (sizeOf S) a W′ ≡ z
+    first-is = ap (λ (l : List ℕ). getD l (5 * n + a) 0) e ∙ lowest-is
+
+    figures-are : f ≡ partFiguresOf (partResult (graphOf S N) z .report)
+    figures-are = f-is ∙ ap (λ (x : ℕ). partFiguresOf (partResult (graphOf S N) x .report)) first-is
+
+    k-is : f .k ≡ partResult (graphOf S N) z .report .k
+    k-is = ap (λ (x : PartFigures). x .k) figures-are
+
+    passes-are : f .passes ≡ partResult (graphOf S N) z .report .passes
+    passes-are = ap (λ (x : PartFigures). x .passes) figures-are
+
+    pub k-few : f .k ≤ 4096
+    k-few = omega (arith, k-is, depth-few G (R .walked) h, few)
+
+    pub passes-low : f .passes ≤ 4096
+    passes-low = omega (arith, passes-are, k-is, k-few, passes-few G (R .walked) h)
+
+    pub ran-step : {t w′ : ℕ} {X′ L′ : List ℕ} → t ≡ m → w′ ≡ max w (f .width)
+        → X′ ≡ renewed (graphOf S N) (firstOf (sizeOf S) a W′) (numberFrom a (partResult (graphOf S N) (firstOf (sizeOf S) a W′) .order)) X
+        → L′ ≡ renewed (graphOf S N) (firstOf (sizeOf S) a W′) (ofNode (partResult (graphOf S N) (firstOf (sizeOf S) a W′) .levels)) L
+        → Ran S N (j + 1) (a + t) (k + f .k) w′ (p + f .passes) X′ L′ W
+    unfolding renewed
+    ran-step {t} {w′} {X′} {L′} t-is w-is x l =
+        let x′ : X′ ≡ renewed (graphOf S N) z (numberFrom a (partResult (graphOf S N) z .order)) X =
+        x ∙ ap (λ (y : ℕ). renewed (graphOf S N) y (numberFrom a (partResult (graphOf S N) y .order)) X) first-is in
+        record {
+          legal = R .legal;
+          walked = subst (λ (y : ℕ). Walked (graphOf S N) (j + 1) (a + y)) (sym t-is) (walk-next G (R .walked) h);
+          room = ap length x′ ∙ length-map (nodes (graphOf S N)) (λ q. cond (memb q (part (graphOf S N) z)) (numberFrom a (partResult (graphOf S N) z .order) q) (ofNode X q)) ∙ length-nodes (graphOf S N);
+          numbers = λ q A i. ap (λ (y : List ℕ). ofNode y q) x′ ∙ numbers-next G (R .walked) h X (R .numbers) q A i;
+          levels = l ∙ ap (λ (y : ℕ). renewed (graphOf S N) y (ofNode (partResult (graphOf S N) y .levels)) L) first-is
+              ∙ ap (renewed (graphOf S N) z (ofNode (partResult (graphOf S N) z .levels))) (R .levels)
+              ∙ levels-next G (R .walked) h;
+          depths = omega (arith, R .depths, k-is, sum-next G (R .walked) h (λ r. r .report .k));
+          widest = w-is ∙ omega (arith, R .widest, ap (λ (x : PartFigures). x .width) figures-are, greatest-next G (R .walked) h (λ r. r .report .width));
+          passes = omega (arith, R .passes, passes-are, sum-next G (R .walked) h (λ r. r .report .passes));
+          few-levels = omega (arith, R .few-levels, k-few);
+          few-passes = omega (arith, R .few-passes, passes-low);
+          words = R .words;
+        }
+
+-- ---- after the last part
+
+-- as many were passed as there are
+pub passed-all : {count all j : ℕ} → count ≡ all → count ≤ j → all ≤ j
+passed-all e h = omega arith
+
+module _ {S N : List ℕ} {j a k w p : ℕ} {X L W : List ℕ} (R : Ran S N j a k w p X L W) (end : length (parts (graphOf S N)) ≤ j) where
+  all : foundTo (graphOf S N) j ≡ partResults (graphOf S N)
+  all = found-all (graphOf S N) j end
+
+  legal-graph : LegalGraph (graphOf S N)
+  legal-graph = graph S N (R .legal)
+
+  pub run-numbers : X ≡ run (graphOf S N) .numbers
+  unfolding run runOf
+  run-numbers =
+      let o : List ℕ = wholeOrder (partResults (graphOf S N)) in
+      let P = whole-perm legal-graph in
+      by-node (graphOf S N) X (numbersOf (sizeOf S) (wholeOrder (partResults (graphOf S N)))) (R .room) (numbers-length (sizeOf S) P)
+      (λ q A.
+      R .numbers q A (ap (λ (l : List PartResult). memb q (wholeOrder l)) all ∙ order-memb (sizeOf S) P q (A .low) (A .high))
+      ∙ ap (λ (l : List PartResult). suc (position q (wholeOrder l))) all
+      ∙ sym (number-of (sizeOf S) P q (A .low) (A .high)))
+
+  pub run-levels : L ≡ run (graphOf S N) .levels
+  unfolding run runOf
+  run-levels = R .levels ∙ ap (wholeLevels (graphOf S N)) all
+
+  pub summed : Summed (run (graphOf S N) .figures) j a k w p
+  unfolding run runOf figuresOf
+  summed = record {
+    parts-are = omega (arith, R .walked .some, found-count (graphOf S N));
+    nodes-are = walk-end legal-graph (R .walked) end;
+    levels-are = R .depths ∙ ap (λ (l : List PartResult). sum (map (λ r. r .report .k) l)) all;
+    width-is = R .widest ∙ ap (λ (l : List PartResult). greatest (map (λ r. r .report .width) l)) all;
+    passes-are = R .passes ∙ ap (λ (l : List PartResult). sum (map (λ r. r .report .passes) l)) all;
+  }

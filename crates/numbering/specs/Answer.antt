@@ -1,0 +1,24 @@
+-- What the answer of the whole run means in document 01's numbers and values. Assumes nothing.
+use Rattle.spec.specs.Lent.{Outcome, accepted, refused}
+use Rattle.spec.specs.Numbering.{Figures}
+use Rattle.numbering.specs.declared.answer.RunAnswer.{RunAnswer}
+use Rattle.numbering.specs.declared.answer.RunAnswer.the-variants as run
+use Rattle.numbering.specs.declared.answer.RunFigures.{RunFigures}
+
+-- "the eight figures of the program's first line"
+abbrev pub eight : RunFigures → Figures
+eight f = record {
+  nodes = f .nodes;
+  parts = f .parts;
+  bandwidth = f .bandwidth;
+  profile = f .profile;
+  front = f .front;
+  levels = f .levels;
+  width = f .width;
+  passes = f .passes;
+}
+
+abbrev pub meaning : RunAnswer → Outcome Figures
+-- 1 to 4 or 5, by its number
+meaning (run.Refused c) = refused c
+meaning (run.Numbered f) = accepted (eight f)

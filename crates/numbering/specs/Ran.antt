@@ -1,0 +1,40 @@
+-- How far the run is after some parts, and at its end. Assumes nothing.
+use mathlib.Core.Path.{_≡_}
+use mathlib.Core.Bool.{true}
+use mathlib.Core.List.{List, _++_, map}
+use Prim.Native.Nat.{ℕ, suc, _*_, _≤_}
+use lib.ListN.{length, take, drop, replicate}
+use Rattle.basis.specs.Lists.{joinAll, memb, greatest, sum, position}
+use Rattle.spec.specs.Graph.{Graph, graphOf, sizeOf, graphRefusal, ofNode}
+use Rattle.spec.specs.Levels.{leaders, parts}
+use Rattle.spec.specs.Numbering.{PartResult, Figures, partResult, wholeOrder, wholeLevels}
+use Rattle.laws.specs.Legal.{Node}
+use Rattle.parts.specs.Walked.{Walked}
+
+-- what is found of the first j parts
+abbrev pub foundTo : Graph → ℕ → List PartResult
+foundTo g j = map (partResult g) (take j (leaders g))
+
+-- After j parts with a nodes: X and L are the numbers and the levels by old number, W the scratch with the members of all parts in its sixth
+-- area, and k, w and p what is summed up. The nodes of later parts have level 0; their numbers are not looked at.
+pub record Ran (S N : List ℕ) (j a k w p : ℕ) (X L W : List ℕ) : Type 0 where
+  pub legal : graphRefusal S N ≡ 0
+  pub walked : Walked (graphOf S N) j a
+  pub room : length X ≡ sizeOf S
+  pub numbers : (q : ℕ) → Node (graphOf S N) q → memb q (wholeOrder (foundTo (graphOf S N) j)) ≡ true
+      → ofNode X q ≡ suc (position q (wholeOrder (foundTo (graphOf S N) j)))
+  pub levels : L ≡ wholeLevels (graphOf S N) (foundTo (graphOf S N) j)
+  pub depths : k ≡ sum (map (λ r. r .report .k) (foundTo (graphOf S N) j))
+  pub widest : w ≡ greatest (map (λ r. r .report .width) (foundTo (graphOf S N) j))
+  pub passes : p ≡ sum (map (λ r. r .report .passes) (foundTo (graphOf S N) j))
+  pub few-levels : k ≤ 4096 * j
+  pub few-passes : p ≤ 4096 * j
+  pub words : W ≡ replicate (5 * sizeOf S) 0 ++ (joinAll (parts (graphOf S N)) ++ drop (6 * sizeOf S) W)
+
+-- what is summed up is that of the figures
+pub record Summed (F : Figures) (parts nodes levels width passes : ℕ) : Type 0 where
+  pub parts-are : parts ≡ F .parts
+  pub nodes-are : nodes ≡ F .nodes
+  pub levels-are : levels ≡ F .levels
+  pub width-is : width ≡ F .width
+  pub passes-are : passes ≡ F .passes

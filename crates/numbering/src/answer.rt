@@ -1,0 +1,19 @@
+// What the whole run answers: "the eight figures of the program's first line", or the number of a refusal.
+pub struct RunFigures {
+    pub nodes: u16,
+    pub parts: u16,
+    pub bandwidth: u32,
+    pub profile: u32,
+    pub front: u32,
+    // the levels of all parts
+    pub levels: u32,
+    // the greatest count of a level
+    pub width: u16,
+    // the passes of all parts
+    pub passes: u32,
+}
+
+pub enum RunAnswer {
+    Refused(u16),
+    Numbered(RunFigures),
+}

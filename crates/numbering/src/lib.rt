@@ -1,0 +1,64 @@
+// Document 01's second library: the whole run. It tests what it is handed in the order of the table: 1 to 4, then 5.
+pub mod answer;
+mod whole;
+
+ghost use mathlib.Core.Path.{_≡_};
+ghost use mathlib.Core.Bool.{_||_};
+ghost use Prim.Native.Nat.{_*_, _≤_};
+ghost use lib.Dec.{ltb};
+ghost use lib.ListN.{take};
+ghost use Rattle.spec.specs.CallsNumbering.{runAnswer, runNumbers, runLevels, runScratch};
+ghost use Rattle.spec.specs.Graph.{sizeOf};
+ghost use Rattle.spec.specs.Lent.{accepted, wordsPerNode};
+ghost use Rattle.spec.specs.Numbering.{Figures};
+ghost use Rattle.numbering.specs.Answer.{meaning};
+ghost use Rattle.numbering.specs.Numbered.{Numbered};
+use answer::RunAnswer;
+use graph::Adjacency;
+
+// 5: numbers, levels or scratch are short.
+fn any_short(n: usize, numbers: usize, levels: usize, scratch: usize) -> bool
+    requires { ⌜ n ≤ 4096 ⌝ }
+    ensures { λ r. ⌜ r ≡ ltb numbers n || ltb levels n || ltb scratch (wordsPerNode * n) ⌝ }
+{
+    if numbers < n {
+        return true;
+    }
+    if levels < n {
+        return true;
+    }
+    scratch < whole::WORDS_PER_NODE * n
+}
+
+// The whole run: new numbers and levels by old number in the first n words of the two lists lent, and the eight figures.
+pub fn run(
+    starts: &[u16],
+    neighbours: &[u16],
+    numbers: &mut [u16],
+    levels: &mut [u16],
+    scratch: &mut [u16],
+) -> RunAnswer
+    ensures { λ r. ⌜ meaning r ≡ runAnswer (now (starts .entry)) (now (neighbours .entry)) (now (numbers .entry)) (now (levels .entry)) (now (scratch .entry)) ⌝ }
+    ensures { λ _. ⌜ now (numbers .exit) ≡ runNumbers (now (starts .entry)) (now (neighbours .entry)) (now (numbers .entry)) (now (levels .entry)) (now (scratch .entry)) ⌝ }
+    ensures { λ _. ⌜ now (levels .exit) ≡ runLevels (now (starts .entry)) (now (neighbours .entry)) (now (numbers .entry)) (now (levels .entry)) (now (scratch .entry)) ⌝ }
+    ensures { λ _. ⌜ now (scratch .exit) ≡ runScratch (now (starts .entry)) (now (neighbours .entry)) (now (numbers .entry)) (now (levels .entry)) (now (scratch .entry)) ⌝ }
+    ensures { λ r. ⌜ ((F : Figures) → meaning r ≡ accepted F → Numbered (now (starts .entry)) (now (neighbours .entry)) F (take (sizeOf (now (starts .entry))) (now (numbers .exit))) (take (sizeOf (now (starts .entry))) (now (levels .exit)))) ⌝ }
+{
+    match graph::test_adjacency(starts, neighbours) {
+        Adjacency::Refused(c) => RunAnswer::Refused(c),
+        Adjacency::Legal => {
+            let n = starts.len() - 1;
+            if any_short(n, numbers.len(), levels.len(), scratch.len()) {
+                return RunAnswer::Refused(5);
+            }
+            let f = whole::number_all(
+                starts,
+                neighbours,
+                &mut numbers[..n],
+                &mut levels[..n],
+                scratch,
+            );
+            RunAnswer::Numbered(f)
+        }
+    }
+}

@@ -1,0 +1,137 @@
+// The whole run over a legal graph: the parts in order of lowest old number, each with the next free numbers.
+ghost use mathlib.Core.Path.{_≡_};
+ghost use Prim.Native.Nat.{_+_, _*_, _≤_, _<_, max};
+ghost use lib.ListN.{length};
+ghost use Rattle.spec.specs.Graph.{graphOf, sizeOf, graphRefusal};
+ghost use Rattle.spec.specs.Lent.{zeroed, wordsPerNode};
+ghost use Rattle.spec.specs.Levels.{parts};
+ghost use Rattle.spec.specs.Numbering.{run};
+ghost use Rattle.numbering.specs.Answer.{eight};
+ghost use Rattle.numbering.specs.Ran.{Ran, Summed};
+use crate::answer::RunFigures;
+use measures::legal::figures;
+use parts::legal::members;
+use renumbering::legal::number_part;
+use renumbering::legal::part_size;
+use words::legal::clear;
+use words::wide;
+
+// "scratch 8n words"
+pub const WORDS_PER_NODE: usize = 8;
+
+// What is summed up over the parts that have their numbers.
+struct Tally {
+    parts: u16,
+    nodes: u16,
+    levels: u32,
+    width: u16,
+    passes: u32,
+}
+
+// The larger of two widths.
+fn wider(a: u16, b: u16) -> u16
+    ensures { λ r. ⌜ r ≡ max a b ⌝ }
+{
+    if a < b { b } else { a }
+}
+
+// "take the next free numbers": one part more. The scratch is as before.
+fn next_part(
+    starts: &[u16],
+    neighbours: &[u16],
+    numbers: &mut [u16],
+    levels: &mut [u16],
+    scratch: &mut [u16],
+    t: Tally,
+) -> Tally
+    requires { ⌜ t .parts < length (parts (graphOf (now starts) (now neighbours))) ⌝ }
+    requires { ⌜ Ran (now starts) (now neighbours) (t .parts) (t .nodes) (t .levels) (t .width) (t .passes) (now numbers) (now levels) (now scratch) ⌝ }
+    ensures { λ r. ⌜ r .parts ≡ t .parts + 1 ⌝ }
+    ensures { λ r. ⌜ Ran (now (starts .entry)) (now (neighbours .entry)) (r .parts) (r .nodes) (r .levels) (r .width) (r .passes) (now (numbers .exit)) (now (levels .exit)) (now (scratch .entry)) ⌝ }
+    ensures { λ _. ⌜ now (scratch .exit) ≡ now (scratch .entry) ⌝ }
+{
+    let n = starts.len() - 1;
+    let from = wide(t.nodes);
+    let lowest = scratch[5 * n + from];
+    let m = part_size(starts, neighbours, scratch, lowest);
+    let f = number_part(
+        starts,
+        neighbours,
+        scratch,
+        numbers,
+        levels,
+        from,
+        from + wide(m),
+    );
+    Tally {
+        parts: t.parts + 1,
+        nodes: t.nodes + m,
+        levels: t.levels + f.k as u32,
+        width: wider(t.width, f.width),
+        passes: t.passes + f.passes as u32,
+    }
+}
+
+// "Parts come in order of lowest old number". The scratch is as before.
+fn number_parts(
+    starts: &[u16],
+    neighbours: &[u16],
+    numbers: &mut [u16],
+    levels: &mut [u16],
+    scratch: &mut [u16],
+    count: u16,
+) -> Tally
+    requires { ⌜ count ≡ length (parts (graphOf (now starts) (now neighbours))) ⌝ }
+    requires { ⌜ Ran (now starts) (now neighbours) 0 0 0 0 0 (now numbers) (now levels) (now scratch) ⌝ }
+    ensures { λ r. ⌜ Summed (run (graphOf (now (starts .entry)) (now (neighbours .entry))) .figures) (r .parts) (r .nodes) (r .levels) (r .width) (r .passes) ⌝ }
+    ensures { λ _. ⌜ now (numbers .exit) ≡ run (graphOf (now (starts .entry)) (now (neighbours .entry))) .numbers ⌝ }
+    ensures { λ _. ⌜ now (levels .exit) ≡ run (graphOf (now (starts .entry)) (now (neighbours .entry))) .levels ⌝ }
+    ensures { λ _. ⌜ now (scratch .exit) ≡ now (scratch .entry) ⌝ }
+{
+    let mut t = Tally {
+        parts: 0,
+        nodes: 0,
+        levels: 0,
+        width: 0,
+        passes: 0,
+    };
+    while t.parts < count {
+        t = next_part(starts, neighbours, numbers, levels, scratch, t);
+    }
+    t
+}
+
+// Numbers and levels, n words each by old number, and the figures, in scratch that is set to 0 before and after.
+pub(crate) fn number_all(
+    starts: &[u16],
+    neighbours: &[u16],
+    numbers: &mut [u16],
+    levels: &mut [u16],
+    scratch: &mut [u16],
+) -> RunFigures
+    requires { ⌜ graphRefusal (now starts) (now neighbours) ≡ 0 ⌝ }
+    requires { ⌜ (length (now numbers) ≡ sizeOf (now starts)) × (length (now levels) ≡ sizeOf (now starts)) ⌝ }
+    requires { ⌜ wordsPerNode * sizeOf (now starts) ≤ length (now scratch) ⌝ }
+    ensures { λ r. ⌜ eight r ≡ run (graphOf (now (starts .entry)) (now (neighbours .entry))) .figures ⌝ }
+    ensures { λ _. ⌜ now (numbers .exit) ≡ run (graphOf (now (starts .entry)) (now (neighbours .entry))) .numbers ⌝ }
+    ensures { λ _. ⌜ now (levels .exit) ≡ run (graphOf (now (starts .entry)) (now (neighbours .entry))) .levels ⌝ }
+    ensures { λ _. ⌜ now (scratch .exit) ≡ zeroed (wordsPerNode * sizeOf (now (starts .entry))) (now (scratch .entry)) ⌝ }
+{
+    let n = starts.len() - 1;
+    clear(scratch, WORDS_PER_NODE * n);
+    clear(levels, n);
+    let count = members(starts, neighbours, scratch);
+    let t = number_parts(starts, neighbours, numbers, levels, scratch, count);
+    let m = figures(starts, neighbours, numbers, &mut scratch[..n]);
+    clear(scratch, WORDS_PER_NODE * n);
+    RunFigures {
+        nodes: t.nodes,
+        parts: t.parts,
+        bandwidth: m.bandwidth,
+        profile: m.profile,
+        front: m.front,
+        levels: t.levels,
+        width: t.width,
+        passes: t.passes,
+    }
+}
