@@ -1,17 +1,19 @@
 // The combined levels of one part, for callers that have found the adjacency legal, the ends of the part and the levels rooted at both.
-// The words of a part, n each: levels rooted at v, a queue, levels rooted at u, a queue, counts of levels, members of the parts.
+// The words of a part, n each: levels rooted at v, a queue, levels rooted at u, starts of the pieces and from the end down the counts of
+// the levels, members of the parts, levels by old number. Starts and counts do not meet: each piece has a loose node, each level a settled one.
 ghost use mathlib.Core.Path.{_≡_};
 ghost use mathlib.Core.Bool.{Bool};
+ghost use mathlib.Core.List.{_++_};
 ghost use Prim.Native.Nat.{_+_, _-_, _*_, _≤_, _<_};
-ghost use lib.ListN.{length, replicate};
-ghost use lib.Seq.{sets};
+ghost use lib.ListN.{length, drop, replicate};
+ghost use lib.Seq.{sets, slice};
 ghost use lib.Dec.{ltb};
 ghost use Rattle.basis.specs.Lists.{filterb};
 ghost use Rattle.spec.specs.Combined.{combined, widthOf};
 ghost use Rattle.spec.specs.Ends.{Ends};
 ghost use Rattle.spec.specs.Graph.{graphOf, sizeOf, graphRefusal};
 ghost use Rattle.spec.specs.Lent.{zeroed};
-ghost use Rattle.combining.specs.Model.{written};
+ghost use Rattle.combining.specs.Areas.{wordsOf, levelsOf};
 ghost use Rattle.piecing.specs.Starts.{startsOf, membersOf};
 ghost use Rattle.piecing.specs.Placed.{wordsAfter, levelsAfter, PlaceableAll};
 ghost use Rattle.piecing.specs.Given.{firstOf, endsOf, Given, merged, Entry, Levelled};
@@ -30,7 +32,7 @@ fn turn(scratch: &mut [u16], n: usize, from: usize, to: usize, k: u16)
 {
     let mut i = from;
     while i < to {
-        let at = 2 * n + wide(scratch[5 * n + i]) - 1;
+        let at = 2 * n + wide(scratch[4 * n + i]) - 1;
         scratch[at] = k + 1 - scratch[at];
         i += 1;
     }
@@ -45,7 +47,7 @@ fn gather(scratch: &mut [u16], n: usize, from: usize, to: usize) -> usize
     let mut t = 0;
     let mut i = from;
     while i < to {
-        let z = scratch[5 * n + i];
+        let z = scratch[4 * n + i];
         let at = wide(z);
         if scratch[at - 1] == scratch[2 * n + at - 1] {
             scratch[n + t] = z;
@@ -57,17 +59,17 @@ fn gather(scratch: &mut [u16], n: usize, from: usize, to: usize) -> usize
 }
 
 // Places the m pieces in the order of their starts, each against the counts as they then are.
-fn place_all(scratch: &mut [u16], levels: &mut [u16], n: usize, m: usize, narrow: bool)
-    requires { ⌜ (n ≤ 4096) × (m ≤ n) × (5 * n ≤ length (now scratch)) ⌝ }
-    requires { ⌜ PlaceableAll n narrow (startsOf n m (now scratch)) (now scratch) (now levels) ⌝ }
-    ensures { λ _. ⌜ now (scratch .exit) ≡ wordsAfter n narrow (startsOf n m (now (scratch .entry))) (now (scratch .entry)) (now (levels .entry)) ⌝ }
-    ensures { λ _. ⌜ now (levels .exit) ≡ levelsAfter n narrow (startsOf n m (now (scratch .entry))) (now (scratch .entry)) (now (levels .entry)) ⌝ }
+fn place_all(scratch: &mut [u16], n: usize, m: usize, narrow: bool)
+    requires { ⌜ (n ≤ 4096) × (m ≤ n) × (5 * n ≤ length (wordsOf n (now scratch))) ⌝ }
+    requires { ⌜ PlaceableAll n (n - m) narrow (startsOf n m (wordsOf n (now scratch))) (wordsOf n (now scratch)) (levelsOf n (now scratch)) ⌝ }
+    ensures { λ _. ⌜ wordsOf n (now (scratch .exit)) ≡ wordsAfter n narrow (startsOf n m (wordsOf n (now (scratch .entry)))) (wordsOf n (now (scratch .entry))) (levelsOf n (now (scratch .entry))) ⌝ }
+    ensures { λ _. ⌜ levelsOf n (now (scratch .exit)) ≡ levelsAfter n narrow (startsOf n m (wordsOf n (now (scratch .entry)))) (wordsOf n (now (scratch .entry))) (levelsOf n (now (scratch .entry))) ⌝ }
 {
     let mut i = 0;
     while i < m {
         let s = wide(scratch[3 * n + i]);
-        let t = s + size_at(scratch, levels, n, s);
-        place(scratch, levels, n, s, t, narrow);
+        let t = s + size_at(scratch, n, s);
+        place(scratch, n, s, t, narrow);
         i += 1;
     }
 }
@@ -75,12 +77,12 @@ fn place_all(scratch: &mut [u16], levels: &mut [u16], n: usize, m: usize, narrow
 // Sets the words of the members from base on to 0.
 fn erase(scratch: &mut [u16], n: usize, base: usize, from: usize, to: usize)
     requires { ⌜ Members n from to (now scratch) ⌝ }
-    requires { ⌜ base + n ≤ 5 * n ⌝ }
+    requires { ⌜ base + n ≤ 4 * n ⌝ }
     ensures { λ _. ⌜ now (scratch .exit) ≡ stored base nought (now (scratch .entry)) (membersOf n from to (now (scratch .entry))) ⌝ }
 {
     let mut i = from;
     while i < to {
-        let at = base + wide(scratch[5 * n + i]) - 1;
+        let at = base + wide(scratch[4 * n + i]) - 1;
         scratch[at] = 0;
         i += 1;
     }
@@ -91,24 +93,23 @@ fn level(
     starts: &[u16],
     neighbours: &[u16],
     scratch: &mut [u16],
-    levels: &mut [u16],
     from: usize,
     to: usize,
     k: u16,
     narrow: bool,
 )
     requires { ⌜ graphRefusal (now starts) (now neighbours) ≡ 0 ⌝ }
-    requires { ⌜ Entry (graphOf (now starts) (now neighbours)) (firstOf (sizeOf (now starts)) from (now scratch)) (endsOf (graphOf (now starts) (now neighbours)) from (now scratch)) (sizeOf (now starts)) from to (now scratch) (now levels) ⌝ }
-    requires { ⌜ k ≡ endsOf (graphOf (now starts) (now neighbours)) from (now scratch) .k ⌝ }
-    requires { ⌜ narrow ≡ ltb (endsOf (graphOf (now starts) (now neighbours)) from (now scratch) .widthU) (endsOf (graphOf (now starts) (now neighbours)) from (now scratch) .widthV) ⌝ }
-    ensures { λ _. ⌜ Levelled (graphOf (now (starts .entry)) (now (neighbours .entry))) (firstOf (sizeOf (now (starts .entry))) from (now (scratch .entry))) (endsOf (graphOf (now (starts .entry)) (now (neighbours .entry))) from (now (scratch .entry))) (sizeOf (now (starts .entry))) from to (now (scratch .entry)) (now (levels .entry)) (now (scratch .exit)) (now (levels .exit)) ⌝ }
+    requires { ⌜ Entry (graphOf (now starts) (now neighbours)) (firstOf (sizeOf (now starts)) from (wordsOf (sizeOf (now starts)) (now scratch))) (endsOf (graphOf (now starts) (now neighbours)) from (wordsOf (sizeOf (now starts)) (now scratch))) (sizeOf (now starts)) from to (wordsOf (sizeOf (now starts)) (now scratch)) (levelsOf (sizeOf (now starts)) (now scratch)) ⌝ }
+    requires { ⌜ k ≡ endsOf (graphOf (now starts) (now neighbours)) from (wordsOf (sizeOf (now starts)) (now scratch)) .k ⌝ }
+    requires { ⌜ narrow ≡ ltb (endsOf (graphOf (now starts) (now neighbours)) from (wordsOf (sizeOf (now starts)) (now scratch)) .widthU) (endsOf (graphOf (now starts) (now neighbours)) from (wordsOf (sizeOf (now starts)) (now scratch)) .widthV) ⌝ }
+    ensures { λ _. ⌜ Levelled (graphOf (now (starts .entry)) (now (neighbours .entry))) (firstOf (sizeOf (now (starts .entry))) from (wordsOf (sizeOf (now (starts .entry))) (now (scratch .entry)))) (endsOf (graphOf (now (starts .entry)) (now (neighbours .entry))) from (wordsOf (sizeOf (now (starts .entry))) (now (scratch .entry)))) (sizeOf (now (starts .entry))) from to (wordsOf (sizeOf (now (starts .entry))) (now (scratch .entry))) (levelsOf (sizeOf (now (starts .entry))) (now (scratch .entry))) (wordsOf (sizeOf (now (starts .entry))) (now (scratch .exit))) (levelsOf (sizeOf (now (starts .entry))) (now (scratch .exit))) ⌝ }
 {
     let n = starts.len() - 1;
-    turn(scratch, n, from, to, k);
-    let t = gather(scratch, n, from, to);
-    settle(scratch, levels, n, 0, 0, t);
-    let m = find(starts, neighbours, scratch, levels, from, to);
-    place_all(scratch, levels, n, m, narrow);
+    turn(&mut scratch[..5 * n], n, from, to, k);
+    let t = gather(&mut scratch[..5 * n], n, from, to);
+    settle(scratch, n, 0, 0, t);
+    let m = find(starts, neighbours, scratch, from, to);
+    place_all(scratch, n, m, narrow);
 }
 
 // Sets count words from a on to 0.
@@ -126,22 +127,21 @@ fn blank(scratch: &mut [u16], a: usize, count: usize)
 // Sets the words of a part to 0, in the time of the part.
 fn tidy(scratch: &mut [u16], n: usize, from: usize, to: usize, k: usize)
     requires { ⌜ Clearable n from to k (now scratch) ⌝ }
-    ensures { λ _. ⌜ now (scratch .exit) ≡ zeroed (5 * n) (now (scratch .entry)) ⌝ }
+    ensures { λ _. ⌜ now (scratch .exit) ≡ zeroed (4 * n) (now (scratch .entry)) ⌝ }
 {
     erase(scratch, n, 0, from, to);
     erase(scratch, n, 2 * n, from, to);
     blank(scratch, n, to - from);
     blank(scratch, 3 * n, to - from);
-    blank(scratch, 4 * n, k);
+    blank(scratch, 4 * n - k, k);
 }
 
-// The combined levels of the part whose members stand from..to: in `levels`, n words by old number, and the greatest level count. All
-// words but the members are 0 afterwards.
+// The combined levels of the part whose members stand from..to: in the sixth area, n words by old number, and the greatest level count. The
+// first four areas are 0 afterwards. The counts stand where the queue of the search from u was, which is cleared for them.
 pub fn combine(
     starts: &[u16],
     neighbours: &[u16],
     scratch: &mut [u16],
-    levels: &mut [u16],
     from: usize,
     to: usize,
     k: u16,
@@ -149,23 +149,22 @@ pub fn combine(
     width_u: u16,
 ) -> u16
     requires { ⌜ graphRefusal (now starts) (now neighbours) ≡ 0 ⌝ }
-    requires { ⌜ Given (graphOf (now starts) (now neighbours)) from to k «width_v» «width_u» (now scratch) (now levels) ⌝ }
-    ensures { λ r. ⌜ r ≡ widthOf k (combined (graphOf (now (starts .entry)) (now (neighbours .entry))) (endsOf (graphOf (now (starts .entry)) (now (neighbours .entry))) from (now (scratch .entry)))) ⌝ }
-    ensures { λ _. ⌜ now (scratch .exit) ≡ zeroed (5 * sizeOf (now (starts .entry))) (now (scratch .entry)) ⌝ }
-    ensures { λ _. ⌜ now (levels .exit) ≡ merged (graphOf (now (starts .entry)) (now (neighbours .entry))) (firstOf (sizeOf (now (starts .entry))) from (now (scratch .entry))) (endsOf (graphOf (now (starts .entry)) (now (neighbours .entry))) from (now (scratch .entry))) (now (levels .entry)) ⌝ }
+    requires { ⌜ Given (graphOf (now starts) (now neighbours)) from to k «width_v» «width_u» (wordsOf (sizeOf (now starts)) (now scratch)) (slice (5 * sizeOf (now starts)) (6 * sizeOf (now starts)) (now scratch)) ⌝ }
+    ensures { λ r. ⌜ r ≡ widthOf k (combined (graphOf (now (starts .entry)) (now (neighbours .entry))) (endsOf (graphOf (now (starts .entry)) (now (neighbours .entry))) from (wordsOf (sizeOf (now (starts .entry))) (now (scratch .entry))))) ⌝ }
+    ensures { λ _. ⌜ now (scratch .exit) ≡ zeroed (4 * sizeOf (now (starts .entry))) (wordsOf (sizeOf (now (starts .entry))) (now (scratch .entry))) ++ (merged (graphOf (now (starts .entry)) (now (neighbours .entry))) (firstOf (sizeOf (now (starts .entry))) from (wordsOf (sizeOf (now (starts .entry))) (now (scratch .entry)))) (endsOf (graphOf (now (starts .entry)) (now (neighbours .entry))) from (wordsOf (sizeOf (now (starts .entry))) (now (scratch .entry)))) (slice (5 * sizeOf (now (starts .entry))) (6 * sizeOf (now (starts .entry))) (now (scratch .entry))) ++ drop (6 * sizeOf (now (starts .entry))) (now (scratch .entry))) ⌝ }
 {
     let n = starts.len() - 1;
+    blank(scratch, 3 * n, to - from);
     level(
         starts,
         neighbours,
-        scratch,
-        levels,
+        &mut scratch[..6 * n],
         from,
         to,
         k,
         width_u < width_v,
     );
     let w = widest(scratch, n, wide(k));
-    tidy(scratch, n, from, to, wide(k));
+    tidy(&mut scratch[..5 * n], n, from, to, wide(k));
     w as u16
 }

@@ -6,34 +6,35 @@ ghost use Prim.Native.Nat.{_+_, _-_, _*_, _≤_, _<_};
 ghost use lib.ListN.{length};
 ghost use Rattle.spec.specs.Graph.{graphOf, sizeOf, rowOf, graphRefusal};
 ghost use Rattle.laws.specs.Legal.{Node};
+ghost use Rattle.combining.specs.Areas.{wordsOf, levelsOf};
 ghost use Rattle.piecing.specs.Seek.{looseAt, freshAt, Seek, Nodes, Pushed, Shut, Grown};
 ghost use Rattle.piecing.specs.Starts.{sizeAt, Standing, Listed, Opened, Before, Taken, Findable, Found};
 use graph::legal::row;
 use words::wide;
 
 // Whether node v is loose and not found yet.
-fn fresh(scratch: &[u16], levels: &[u16], n: usize, v: usize) -> bool
-    requires { ⌜ (n ≤ 4096) × (5 * n ≤ length (now scratch)) × (n ≤ length (now levels)) × (1 ≤ v) × (v ≤ n) ⌝ }
-    ensures { λ r. ⌜ r ≡ freshAt n (now (scratch .entry)) (now (levels .entry)) v ⌝ }
+fn fresh(scratch: &[u16], n: usize, v: usize) -> bool
+    requires { ⌜ (n ≤ 4096) × (6 * n ≤ length (now scratch)) × (1 ≤ v) × (v ≤ n) ⌝ }
+    ensures { λ r. ⌜ r ≡ freshAt n (wordsOf n (now (scratch .entry))) (levelsOf n (now (scratch .entry))) v ⌝ }
 {
     if scratch[v - 1] == scratch[2 * n + v - 1] {
         return false;
     }
-    levels[v - 1] == 0
+    scratch[5 * n + v - 1] == 0
 }
 
 // Marks each node of `row` that is fresh, and puts it into the queue at `tail`. Returns where the queue ends then.
-fn visit(row: &[u16], scratch: &mut [u16], levels: &mut [u16], n: usize, tail: usize) -> usize
-    requires { ⌜ Seek n (now scratch) (now levels) tail ⌝ }
+fn visit(row: &[u16], scratch: &mut [u16], n: usize, tail: usize) -> usize
+    requires { ⌜ Seek n (wordsOf n (now scratch)) (levelsOf n (now scratch)) tail ⌝ }
     requires { ⌜ Nodes n (now row) ⌝ }
-    ensures { λ r. ⌜ Pushed n (now (row .entry)) (now (scratch .entry)) (now (levels .entry)) tail (now (scratch .exit)) (now (levels .exit)) r ⌝ }
+    ensures { λ r. ⌜ Pushed n (now (row .entry)) (wordsOf n (now (scratch .entry))) (levelsOf n (now (scratch .entry))) tail (wordsOf n (now (scratch .exit))) (levelsOf n (now (scratch .exit))) r ⌝ }
 {
     let mut t = tail;
     let mut k = 0;
     while k < row.len() {
         let v = wide(row[k]);
-        if fresh(scratch, levels, n, v) {
-            levels[v - 1] = 1;
+        if fresh(scratch, n, v) {
+            scratch[5 * n + v - 1] = 1;
             scratch[n + t] = row[k];
             t += 1;
         }
@@ -44,54 +45,48 @@ fn visit(row: &[u16], scratch: &mut [u16], levels: &mut [u16], n: usize, tail: u
 
 // Finds the piece of z, a fresh node, from the queue's end s on: z first. Marks its nodes, z with their number. Returns where the queue
 // ends then.
-fn grow(
-    starts: &[u16],
-    neighbours: &[u16],
-    scratch: &mut [u16],
-    levels: &mut [u16],
-    s: usize,
-    z: u16,
-) -> usize
+fn grow(starts: &[u16], neighbours: &[u16], scratch: &mut [u16], s: usize, z: u16) -> usize
     requires { ⌜ graphRefusal (now starts) (now neighbours) ≡ 0 ⌝ }
-    requires { ⌜ Seek (sizeOf (now starts)) (now scratch) (now levels) s ⌝ }
+    requires { ⌜ Seek (sizeOf (now starts)) (wordsOf (sizeOf (now starts)) (now scratch)) (levelsOf (sizeOf (now starts)) (now scratch)) s ⌝ }
     requires { ⌜ Node (graphOf (now starts) (now neighbours)) z ⌝ }
-    requires { ⌜ freshAt (sizeOf (now starts)) (now scratch) (now levels) z ≡ true ⌝ }
-    requires { ⌜ Shut (graphOf (now starts) (now neighbours)) (looseAt (sizeOf (now starts)) (now scratch)) (now levels) ⌝ }
-    ensures { λ r. ⌜ Grown (graphOf (now (starts .entry)) (now (neighbours .entry))) (sizeOf (now (starts .entry))) (now (scratch .entry)) (now (levels .entry)) s z (now (scratch .exit)) (now (levels .exit)) r ⌝ }
+    requires { ⌜ freshAt (sizeOf (now starts)) (wordsOf (sizeOf (now starts)) (now scratch)) (levelsOf (sizeOf (now starts)) (now scratch)) z ≡ true ⌝ }
+    requires { ⌜ Shut (graphOf (now starts) (now neighbours)) (looseAt (sizeOf (now starts)) (wordsOf (sizeOf (now starts)) (now scratch))) (levelsOf (sizeOf (now starts)) (now scratch)) ⌝ }
+    ensures { λ r. ⌜ Grown (graphOf (now (starts .entry)) (now (neighbours .entry))) (sizeOf (now (starts .entry))) (wordsOf (sizeOf (now (starts .entry))) (now (scratch .entry))) (levelsOf (sizeOf (now (starts .entry))) (now (scratch .entry))) s z (wordsOf (sizeOf (now (starts .entry))) (now (scratch .exit))) (levelsOf (sizeOf (now (starts .entry))) (now (scratch .exit))) r ⌝ }
 {
     let n = starts.len() - 1;
-    let first = wide(z) - 1;
-    levels[first] = 1;
+    let first = 5 * n + wide(z) - 1;
+    scratch[first] = 1;
     scratch[n + s] = z;
     let mut h = s;
     let mut t = s + 1;
     while h < t {
         let p = wide(scratch[n + h]);
-        t = visit(row(starts, neighbours, p), scratch, levels, n, t);
+        t = visit(row(starts, neighbours, p), scratch, n, t);
         h += 1;
     }
-    levels[first] = (t - s) as u16;
+    scratch[first] = (t - s) as u16;
     t
 }
 
 // The number of nodes of the piece that starts at s in the queue.
-pub(crate) fn size_at(scratch: &[u16], levels: &[u16], n: usize, s: usize) -> usize
-    requires { ⌜ Standing n (now scratch) (now levels) s ⌝ }
-    ensures { λ r. ⌜ r ≡ sizeAt n (now (scratch .entry)) (now (levels .entry)) s ⌝ }
+pub(crate) fn size_at(scratch: &[u16], n: usize, s: usize) -> usize
+    requires { ⌜ Standing n (wordsOf n (now scratch)) (levelsOf n (now scratch)) s ⌝ }
+    ensures { λ r. ⌜ r ≡ sizeAt n (wordsOf n (now (scratch .entry))) (levelsOf n (now (scratch .entry))) s ⌝ }
 {
     let w = wide(scratch[n + s]);
-    wide(levels[w - 1])
+    wide(scratch[5 * n + w - 1])
 }
 
 // Opens a gap in the list of m starts in front of the pieces that are smaller than size. Returns where it is.
-fn make_gap(scratch: &mut [u16], levels: &[u16], n: usize, m: usize, size: usize) -> usize
-    requires { ⌜ Listed n m (now scratch) (now levels) ⌝ }
-    ensures { λ r. ⌜ Opened n m (now (scratch .entry)) (now (levels .entry)) size (now (scratch .exit)) r ⌝ }
+fn make_gap(scratch: &mut [u16], n: usize, m: usize, size: usize) -> usize
+    requires { ⌜ Listed n m (wordsOf n (now scratch)) (levelsOf n (now scratch)) ⌝ }
+    ensures { λ r. ⌜ Opened n m (wordsOf n (now (scratch .entry))) (levelsOf n (now (scratch .entry))) size (wordsOf n (now (scratch .exit))) r ⌝ }
+    ensures { λ _. ⌜ levelsOf n (now (scratch .exit)) ≡ levelsOf n (now (scratch .entry)) ⌝ }
 {
     let mut j = m;
     while j > 0 {
         let o = scratch[3 * n + j - 1];
-        if size <= size_at(scratch, levels, n, wide(o)) {
+        if size <= size_at(scratch, n, wide(o)) {
             return j;
         }
         scratch[3 * n + j] = o;
@@ -105,22 +100,21 @@ fn take_in(
     starts: &[u16],
     neighbours: &[u16],
     scratch: &mut [u16],
-    levels: &mut [u16],
     m: usize,
     s: usize,
     z: u16,
 ) -> usize
     requires { ⌜ graphRefusal (now starts) (now neighbours) ≡ 0 ⌝ }
-    requires { ⌜ Seek (sizeOf (now starts)) (now scratch) (now levels) s ⌝ }
+    requires { ⌜ Seek (sizeOf (now starts)) (wordsOf (sizeOf (now starts)) (now scratch)) (levelsOf (sizeOf (now starts)) (now scratch)) s ⌝ }
     requires { ⌜ Node (graphOf (now starts) (now neighbours)) z ⌝ }
-    requires { ⌜ freshAt (sizeOf (now starts)) (now scratch) (now levels) z ≡ true ⌝ }
-    requires { ⌜ Shut (graphOf (now starts) (now neighbours)) (looseAt (sizeOf (now starts)) (now scratch)) (now levels) ⌝ }
-    requires { ⌜ Before (sizeOf (now starts)) m s (now scratch) ⌝ }
-    ensures { λ r. ⌜ Taken (graphOf (now (starts .entry)) (now (neighbours .entry))) (sizeOf (now (starts .entry))) m (now (scratch .entry)) (now (levels .entry)) s z (now (scratch .exit)) (now (levels .exit)) r ⌝ }
+    requires { ⌜ freshAt (sizeOf (now starts)) (wordsOf (sizeOf (now starts)) (now scratch)) (levelsOf (sizeOf (now starts)) (now scratch)) z ≡ true ⌝ }
+    requires { ⌜ Shut (graphOf (now starts) (now neighbours)) (looseAt (sizeOf (now starts)) (wordsOf (sizeOf (now starts)) (now scratch))) (levelsOf (sizeOf (now starts)) (now scratch)) ⌝ }
+    requires { ⌜ Before (sizeOf (now starts)) m s (wordsOf (sizeOf (now starts)) (now scratch)) ⌝ }
+    ensures { λ r. ⌜ Taken (graphOf (now (starts .entry)) (now (neighbours .entry))) (sizeOf (now (starts .entry))) m (wordsOf (sizeOf (now (starts .entry))) (now (scratch .entry))) (levelsOf (sizeOf (now (starts .entry))) (now (scratch .entry))) s z (wordsOf (sizeOf (now (starts .entry))) (now (scratch .exit))) (levelsOf (sizeOf (now (starts .entry))) (now (scratch .exit))) r ⌝ }
 {
     let n = starts.len() - 1;
-    let t = grow(starts, neighbours, scratch, levels, s, z);
-    let j = make_gap(scratch, levels, n, m, t - s);
+    let t = grow(starts, neighbours, scratch, s, z);
+    let j = make_gap(scratch, n, m, t - s);
     scratch[3 * n + j] = s as u16;
     t
 }
@@ -130,22 +124,21 @@ pub(crate) fn find(
     starts: &[u16],
     neighbours: &[u16],
     scratch: &mut [u16],
-    levels: &mut [u16],
     from: usize,
     to: usize,
 ) -> usize
     requires { ⌜ graphRefusal (now starts) (now neighbours) ≡ 0 ⌝ }
-    requires { ⌜ Findable (graphOf (now starts) (now neighbours)) (sizeOf (now starts)) from to (now scratch) (now levels) ⌝ }
-    ensures { λ r. ⌜ Found (graphOf (now (starts .entry)) (now (neighbours .entry))) (sizeOf (now (starts .entry))) (to - from) (looseAt (sizeOf (now (starts .entry))) (now (scratch .entry))) (now (scratch .entry)) (now (levels .entry)) (now (scratch .exit)) (now (levels .exit)) r ⌝ }
+    requires { ⌜ Findable (graphOf (now starts) (now neighbours)) (sizeOf (now starts)) from to (wordsOf (sizeOf (now starts)) (now scratch)) (levelsOf (sizeOf (now starts)) (now scratch)) ⌝ }
+    ensures { λ r. ⌜ Found (graphOf (now (starts .entry)) (now (neighbours .entry))) (sizeOf (now (starts .entry))) (to - from) (looseAt (sizeOf (now (starts .entry))) (wordsOf (sizeOf (now (starts .entry))) (now (scratch .entry)))) (wordsOf (sizeOf (now (starts .entry))) (now (scratch .entry))) (levelsOf (sizeOf (now (starts .entry))) (now (scratch .entry))) (wordsOf (sizeOf (now (starts .entry))) (now (scratch .exit))) (levelsOf (sizeOf (now (starts .entry))) (now (scratch .exit))) r ⌝ }
 {
     let n = starts.len() - 1;
     let mut tail = 0;
     let mut m = 0;
     let mut i = from;
     while i < to {
-        let z = scratch[5 * n + i];
-        if fresh(scratch, levels, n, wide(z)) {
-            tail = take_in(starts, neighbours, scratch, levels, m, tail, z);
+        let z = scratch[4 * n + i];
+        if fresh(scratch, n, wide(z)) {
+            tail = take_in(starts, neighbours, scratch, m, tail, z);
             m += 1;
         }
         i += 1;

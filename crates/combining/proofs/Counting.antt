@@ -4,10 +4,10 @@ use mathlib.Core.Bool.{Bool, true, false, cond}
 use mathlib.Core.List.{List, [], _∷_, map}
 use Prim.Native.Nat.{ℕ, suc, _+_, _-_, _*_, _≤_, _<_, max}
 use native.Mathlib.Numerals.{add-one}
-use native.Mathlib.Nat.{le-refl, add-zero}
+use native.Mathlib.Nat.{le-refl}
 use native.Mathlib.Omega.{arith}
 use lib.ListN.{length, getD, set, length-set}
-use lib.Seq.{getD-set-other, slice, slice-cons, slice-empty}
+use lib.Seq.{getD-set-other}
 use lib.Dec.{eqb}
 use borrow.Author.Tests.{lt-ltb, le-ltb, eq-eqb, ne-eqb}
 use Rattle.basis.specs.Lists.{memb, upFrom, greatest}
@@ -16,16 +16,16 @@ use Rattle.basis.proofs.Count.{bit-one, bit-most, times-none}
 use Rattle.basis.proofs.Logic.{fails, eqb-self}
 use Rattle.basis.proofs.Lists.{map-cong, map-memb, upFrom-in}
 use Rattle.combining.specs.Tally.{bump, drain, tally, untally, running}
-use Rattle.combining.specs.Model.{nodeAt, numberAt, slotAt, slots, peakOf, written, goesSecond, Readable, Countable, Full, Placeable}
+use Rattle.combining.specs.Model.{nodeAt, numberAt, countOf, slotAt, slots, peakOf, written, goesSecond, Readable, Countable, Full, Placeable}
 use Rattle.combining.proofs.Tally.{Inside, bump-at, drain-at, length-tally, getD-tally, untally-tally, running-is}
 
--- U differs from W in the counts and behind them alone
-pub record Counts (n : ℕ) (W U : List ℕ) : Type 0 where
+-- U differs from W from word b on alone
+pub record Counts (b : ℕ) (W U : List ℕ) : Type 0 where
   pub size : length U ≡ length W
-  pub front : (i : ℕ) → i < 4 * n → getD U i 0 ≡ getD W i 0
+  pub front : (i : ℕ) → i < b → getD U i 0 ≡ getD W i 0
 
-pub counts-set : {n : ℕ} {W U : List ℕ} (i x : ℕ) → Counts n W U → 4 * n ≤ i → Counts n W (set U i x)
-counts-set {n} {W} {U} i x A h = record {
+pub counts-set : {b : ℕ} {W U : List ℕ} (i x : ℕ) → Counts b W U → b ≤ i → Counts b W (set U i x)
+counts-set {b} {W} {U} i x A h = record {
   size = length-set U i x ∙ A .size;
   front = λ j l. getD-set-other U i j x 0 (λ e. omega arith) ∙ A .front j l;
 }
@@ -42,19 +42,19 @@ from-none f p t h = let e : t - p ≡ 0 = omega arith in ap (λ (k : ℕ). map f
 module _ {n base s t : ℕ} {W : List ℕ} (R : Readable n base s t W) where
   -- ---- where the words stand
 
-  pub node-at : (p : ℕ) → p < t → n + p < 4 * n
+  pub node-at : (p : ℕ) → p < t → n + p < 3 * n
   node-at p h = omega (arith, R .most)
 
-  pub number-at : (p : ℕ) → s ≤ p → p < t → base + nodeAt n W p - 1 < 4 * n
+  pub number-at : (p : ℕ) → s ≤ p → p < t → base + nodeAt n W p - 1 < 3 * n
   number-at p l h = omega (arith, R .inside, R .node-low p l h, R .node-high p l h)
 
-  pub slot-low : (p : ℕ) → s ≤ p → p < t → 4 * n ≤ slotAt n base W p
-  slot-low p l h = omega (arith, R .number-low p l h)
+  pub slot-low : (p : ℕ) → s ≤ p → p < t → 3 * n ≤ slotAt n base W p
+  slot-low p l h = omega (arith, R .number-high p l h)
 
-  pub slot-high : (p : ℕ) → s ≤ p → p < t → slotAt n base W p < 5 * n
-  slot-high p l h = omega (arith, R .number-low p l h, R .number-high p l h)
+  pub slot-high : (p : ℕ) → s ≤ p → p < t → slotAt n base W p < 4 * n
+  slot-high p l h = omega (arith, R .number-low p l h, R .most)
 
-  pub slots-in : (i : ℕ) → memb i (slots n base s t W) ≡ true → (4 * n ≤ i) × (i < 5 * n)
+  pub slots-in : (i : ℕ) → memb i (slots n base s t W) ≡ true → (3 * n ≤ i) × (i < 4 * n)
   slots-in i m =
       let e = map-memb (slotAt n base W) (upFrom s (t - s)) i m in
       let b = upFrom-in s (t - s) (e .0) (e .1) in
@@ -64,9 +64,9 @@ module _ {n base s t : ℕ} {W : List ℕ} (R : Readable n base s t W) where
   pub slots-inside : Inside (slots n base s t W) W
   slots-inside i m = omega (arith, slots-in i m .1, R .room)
 
-  -- ---- the same in a list that differs in the counts alone
+  -- ---- the same in a list that differs in the counts and behind them alone
 
-  module _ {U : List ℕ} (A : Counts n W U) where
+  module _ {U : List ℕ} (A : Counts (3 * n) W U) where
     same-node : (p : ℕ) → p < t → nodeAt n U p ≡ nodeAt n W p
     same-node p h = A .front (n + p) (node-at p h)
 
@@ -74,7 +74,7 @@ module _ {n base s t : ℕ} {W : List ℕ} (R : Readable n base s t W) where
     same-number p l h = ap (λ (z : ℕ). getD U (base + z - 1) 0) (same-node p h) ∙ A .front (base + nodeAt n W p - 1) (number-at p l h)
 
     pub same-slot : (p : ℕ) → s ≤ p → p < t → slotAt n base U p ≡ slotAt n base W p
-    same-slot p l h = ap (λ (i : ℕ). 4 * n + i - 1) (same-number p l h)
+    same-slot p l h = ap (λ (i : ℕ). 4 * n - i) (same-number p l h)
 
     pub readable-on : Readable n base s t U
     readable-on = record {
@@ -93,15 +93,29 @@ module _ {n base s t : ℕ} {W : List ℕ} (R : Readable n base s t W) where
     same-slots = map-cong (slotAt n base U) (slotAt n base W) (upFrom s (t - s))
         (λ p m. let b = upFrom-in s (t - s) p m in same-slot p (b .0) (omega (arith, b .1, R .order)))
 
+  -- a word that is no slot is not raised
+  pub tally-other : (i : ℕ) → (memb i (slots n base s t W) ≡ true → ⊥) → getD (tally W (slots n base s t W)) i 0 ≡ getD W i 0
+  tally-other i h =
+      let a = getD-tally W (slots n base s t W) i slots-inside in
+      let z = times-none i (slots n base s t W) (fails (memb i (slots n base s t W)) h) in omega arith
+
   -- the counts are all that raising changes
-  pub counts-tally : Counts n W (tally W (slots n base s t W))
+  pub counts-tally : Counts (3 * n) W (tally W (slots n base s t W))
   counts-tally = record {
     size = length-tally W (slots n base s t W);
-    front = λ i h. let a = getD-tally W (slots n base s t W) i slots-inside in let z = none i h in omega arith;
+    front = λ i h. tally-other i (λ m. omega (arith, slots-in i m .0));
   }
-    where
-      none : (i : ℕ) → i < 4 * n → times i (slots n base s t W) ≡ 0
-      none i h = times-none i (slots n base s t W) (fails (memb i (slots n base s t W)) (λ m. omega (arith, slots-in i m .0)))
+
+  pub tally-behind : (i : ℕ) → 4 * n ≤ i → getD (tally W (slots n base s t W)) i 0 ≡ getD W i 0
+  tally-behind i h = tally-other i (λ m. omega (arith, slots-in i m .1))
+
+  -- if the levels of the nodes are at most b, the words in front of level b's count are the same
+  pub tally-front : (b : ℕ) → ((p : ℕ) → s ≤ p → p < t → numberAt base W (nodeAt n W p) ≤ b)
+      → (i : ℕ) → i + b < 4 * n → getD (tally W (slots n base s t W)) i 0 ≡ getD W i 0
+  tally-front b h i l = tally-other i (λ m.
+      let e = map-memb (slotAt n base W) (upFrom s (t - s)) i m in
+      let r = upFrom-in s (t - s) (e .0) (e .1) in
+      omega (arith, e .2, h (e .0) (r .0) (omega (arith, r .1, R .order))))
 
   -- ---- what was raised can be lowered, and is then as it was
 
@@ -122,7 +136,7 @@ module _ {n base s t : ℕ} {W : List ℕ} (R : Readable n base s t W) where
 
 pub record Located (n base : ℕ) (W : List ℕ) (z : ℕ) : Type 0 where
   pub few : n ≤ 4096
-  pub inside : base + n ≤ 4 * n
+  pub inside : base + n ≤ 3 * n
   pub low : 1 ≤ z
   pub high : z ≤ n
   pub fits : base + z - 1 < length W
@@ -154,8 +168,8 @@ pub record Raising (n base s t : ℕ) (W U : List ℕ) (top p : ℕ) : Type 0 wh
   pub read : Readable n base s t W
   pub low : s ≤ p
   pub most : p ≤ t
-  pub counts : Counts n W U
-  pub small : (i : ℕ) → 4 * n ≤ i → i < 5 * n → getD U i 0 + (t - p) ≤ 65535
+  pub counts : Counts (3 * n) W U
+  pub small : (q : ℕ) → s ≤ q → q < t → getD U (slotAt n base W q) 0 + (t - p) ≤ 65535
   pub goes : tally U (rest n base t W p) ≡ tally W (rest n base t W s)
   pub reach : max top (running U (rest n base t W p)) ≡ running W (rest n base t W s)
 
@@ -174,17 +188,17 @@ module _ {n base s t : ℕ} {W U : List ℕ} {top p at : ℕ} (I : Raising n bas
   at-is : at ≡ slotAt n base W p
   at-is = q ∙ same-slot (I .read) (I .counts) p (I .low) h
 
-  at-low : 4 * n ≤ at
+  at-low : 3 * n ≤ at
   at-low = omega (arith, at-is, slot-low (I .read) p (I .low) h)
 
-  at-high : at < 5 * n
+  at-high : at < 4 * n
   at-high = omega (arith, at-is, slot-high (I .read) p (I .low) h)
 
   pub at-in : at < length U
   at-in = omega (arith, at-high, I .counts .size, I .read .room)
 
   pub at-fits : getD U at 0 + 1 ≤ 65535
-  at-fits = omega (arith, I .small at at-low at-high)
+  at-fits = let f = ap (λ (i : ℕ). getD U i 0) at-is in omega (arith, I .small p (I .low) h)
 
   rest-is : rest n base t W p ≡ at ∷ rest n base t W (p + 1)
   rest-is = from-cons (slotAt n base W) p t h ∙ ap (λ (i : ℕ). i ∷ rest n base t W (p + 1)) (sym at-is)
@@ -198,7 +212,9 @@ module _ {n base s t : ℕ} {W U : List ℕ} {top p at : ℕ} (I : Raising n bas
         low = omega (arith, I .low);
         most = omega arith;
         counts = counts-set at (getD U at 0 + 1) (I .counts) at-low;
-        small = λ i l l′. omega (arith, bump-at U at i at-in, bit-most (eqb i at), I .small i l l′);
+        small = λ q l l′.
+            let i : ℕ = slotAt n base W q in
+            omega (arith, bump-at U at i at-in, bit-most (eqb i at), I .small q l l′);
         goes = sym (ap (tally U) rest-is) ∙ I .goes;
         reach = omega (arith, I .reach);
       }
@@ -219,7 +235,7 @@ pub record Lowering (n base s t : ℕ) (W U : List ℕ) (p : ℕ) : Type 0 where
   pub read : Readable n base s t W
   pub low : s ≤ p
   pub most : p ≤ t
-  pub counts : Counts n W U
+  pub counts : Counts (3 * n) W U
   pub holds : (i : ℕ) → times i (rest n base t W p) ≤ getD U i 0
   pub goes : untally U (rest n base t W p) ≡ untally W (rest n base t W s)
 
@@ -237,7 +253,7 @@ module _ {n base s t : ℕ} {W U : List ℕ} {p at : ℕ} (I : Lowering n base s
   lat-is : at ≡ slotAt n base W p
   lat-is = q ∙ same-slot (I .read) (I .counts) p (I .low) h
 
-  lat-low : 4 * n ≤ at
+  lat-low : 3 * n ≤ at
   lat-low = omega (arith, lat-is, slot-low (I .read) p (I .low) h)
 
   pub lat-in : at < length U
@@ -293,28 +309,29 @@ pub write-done : {f node : ℕ → ℕ} {s t : ℕ} {L M : List ℕ} {p : ℕ} �
 unfolding written
 write-done {f} {node} {s} {t} {L} {M} {p} I h = sym (ap (written f M) (from-none node p t h)) ∙ I .goes
 
--- ---- the greatest of a run of words
+-- ---- the greatest count
 
--- at the loop's head: top is the greatest of the first i words from a on
-pub record Topping (a k : ℕ) (W : List ℕ) (top i : ℕ) : Type 0 where
+-- at the loop's head: top is the greatest count of the first i levels
+pub record Topping (n k : ℕ) (W : List ℕ) (top i : ℕ) : Type 0 where
+  pub few : n ≤ 4096
+  pub deep : k ≤ n
+  pub room : 5 * n ≤ length W
   pub most : i ≤ k
-  pub room : a + k ≤ length W
-  pub reach : max top (greatest (slice (a + i) (a + k) W)) ≡ greatest (slice a (a + k) W)
+  pub reach : max top (greatest (map (countOf n W) (upFrom (i + 1) (k + 1 - (i + 1))))) ≡ greatest (map (countOf n W) (upFrom 1 k))
 
-pub top-begin : (a k : ℕ) (W : List ℕ) → a + k ≤ length W → Topping a k W 0 0
-top-begin a k W h = record { most = omega arith; room = h; reach = ap (λ (b : ℕ). max 0 (greatest (slice b (a + k) W))) (add-zero a) ∙ omega arith }
+pub top-begin : {n k : ℕ} {W : List ℕ} → n ≤ 4096 → k ≤ n → 5 * n ≤ length W → Topping n k W 0 0
+top-begin {n} {k} {W} f d r =
+    let e : k + 1 - 1 ≡ k = omega arith in
+    record { few = f; deep = d; room = r; most = omega arith; reach = ap (λ (j : ℕ). max 0 (greatest (map (countOf n W) (upFrom 1 j)))) e ∙ omega arith }
 
-pub top-step : {a k : ℕ} {W : List ℕ} {top i top′ : ℕ} → Topping a k W top i → i < k → top′ ≡ max top (getD W (a + i) 0) → Topping a k W top′ (i + 1)
-top-step {a} {k} {W} {top} {i} {top′} I h e =
-    let s : a + (i + 1) ≡ suc (a + i) = omega arith in
-    let c = ap greatest (slice-cons (a + i) (a + k) W 0 (omega arith) (I .room)) in
-    let d = ap (λ (b : ℕ). greatest (slice b (a + k) W)) s in
-    record { most = omega arith; room = I .room; reach = omega (arith, I .reach) }
+pub top-step : {n k : ℕ} {W : List ℕ} {top i top′ : ℕ} → Topping n k W top i → i < k → top′ ≡ max top (getD W (4 * n - (i + 1)) 0) → Topping n k W top′ (i + 1)
+top-step {n} {k} {W} {top} {i} {top′} I h e =
+    let c = ap greatest (from-cons (countOf n W) (i + 1) (k + 1) (omega arith)) in
+    record { few = I .few; deep = I .deep; room = I .room; most = omega arith; reach = omega (arith, I .reach) }
 
-pub top-done : {a k : ℕ} {W : List ℕ} {top i : ℕ} → Topping a k W top i → k ≤ i → top ≡ greatest (slice a (a + k) W)
-top-done {a} {k} {W} {top} {i} I h =
-    let e : a + i ≡ a + k = omega (arith, I .most) in
-    let c : greatest (slice (a + i) (a + k) W) ≡ 0 = ap (λ (b : ℕ). greatest (slice b (a + k) W)) e ∙ ap greatest (slice-empty (a + k) W) in
+pub top-done : {n k : ℕ} {W : List ℕ} {top i : ℕ} → Topping n k W top i → k ≤ i → top ≡ greatest (map (countOf n W) (upFrom 1 k))
+top-done {n} {k} {W} {top} {i} I h =
+    let c = ap greatest (from-none (countOf n W) (i + 1) (k + 1) (omega arith)) in
     omega (arith, I .reach)
 
 -- ---- the choice

@@ -1,5 +1,5 @@
 -- What the functions of this crate do, as functions on lists. W is the words of a part: n first numbers, a queue of n nodes, n second
--- numbers, n words that stand aside, n counts of levels. Assumes nothing.
+-- numbers, n words that end in the counts of the levels, the first level's count last, and n words that stand aside. Assumes nothing.
 use mathlib.Core.Bool.{Bool, _&&_, _||_, cond}
 use mathlib.Core.List.{List, [], _∷_, map}
 use Prim.Native.Nat.{ℕ, _+_, _-_, _*_, _≤_, _<_}
@@ -21,13 +21,17 @@ queued n s t W = map (nodeAt n W) (upFrom s (t - s))
 abbrev pub numberAt : ℕ → List ℕ → ℕ → ℕ
 numberAt base W z = getD W (base + z - 1) 0
 
--- the count word of the level of node z
+-- the count word of the level of node z: level i has the word 4n - i
 abbrev pub slotOf : ℕ → ℕ → List ℕ → ℕ → ℕ
-slotOf n base W z = 4 * n + numberAt base W z - 1
+slotOf n base W z = 4 * n - numberAt base W z
 
 -- the same of the p-th node of the queue
 abbrev pub slotAt : ℕ → ℕ → List ℕ → ℕ → ℕ
 slotAt n base W p = slotOf n base W (nodeAt n W p)
+
+-- the count of level i
+abbrev pub countOf : ℕ → List ℕ → ℕ → ℕ
+countOf n W i = getD W (4 * n - i) 0
 
 -- the count words of the nodes s..t of the queue
 abbrev pub slots : ℕ → ℕ → ℕ → ℕ → List ℕ → List ℕ
@@ -56,16 +60,16 @@ pub record Readable (n base s t : ℕ) (W : List ℕ) : Type 0 where
   pub most : t ≤ n
   pub few : n ≤ 4096
   pub room : 5 * n ≤ length W
-  pub inside : base + n ≤ 4 * n
+  pub inside : base + n ≤ 3 * n
   pub node-low : (p : ℕ) → s ≤ p → p < t → 1 ≤ nodeAt n W p
   pub node-high : (p : ℕ) → s ≤ p → p < t → nodeAt n W p ≤ n
   pub number-low : (p : ℕ) → s ≤ p → p < t → 1 ≤ numberAt base W (nodeAt n W p)
   pub number-high : (p : ℕ) → s ≤ p → p < t → numberAt base W (nodeAt n W p) ≤ n
 
--- and there is room for them in the counts
+-- and there is room for them in the counts of their levels
 pub record Countable (n base s t : ℕ) (W : List ℕ) : Type 0 where
   pub read : Readable n base s t W
-  pub small : (i : ℕ) → 4 * n ≤ i → i < 5 * n → getD W i 0 + (t - s) ≤ 65535
+  pub small : (p : ℕ) → s ≤ p → p < t → getD W (slotAt n base W p) 0 + (t - s) ≤ 65535
 
 -- the counts hold the nodes s..t of the queue
 pub record Full (n base s t : ℕ) (W : List ℕ) : Type 0 where

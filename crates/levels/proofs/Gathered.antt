@@ -25,7 +25,7 @@ use Rattle.levels.specs.Part.{placed}
 -- ---- a search in the first 2n words, and its nodes collected
 
 module _ (S N : List ℕ) (p : ℕ) (W : List ℕ) (ok : graphRefusal S N ≡ 0) (range : (1 ≤ p) × (p ≤ sizeOf S))
-    (room : 6 * sizeOf S ≤ length W) (blank : take (2 * sizeOf S) W ≡ replicate (2 * sizeOf S) 0) where
+    (room : 5 * sizeOf S ≤ length W) (blank : take (2 * sizeOf S) W ≡ replicate (2 * sizeOf S) 0) where
   abbrev g : Graph
   g = graphOf S N
 
@@ -51,7 +51,7 @@ module _ (S N : List ℕ) (p : ℕ) (W : List ℕ) (ok : graphRefusal S N ≡ 0)
     X-size : length X ≡ 2 * n
     X-size = K .holds .full ∙ sym twice
 
-    pub collect-ask : (n ≤ 4096) × (6 * n ≤ length W₁)
+    pub collect-ask : (n ≤ 4096) × (5 * n ≤ length W₁)
     collect-ask = (
       starts-of (passed S N ok) .few,
       omega (arith, ap length is, length-append X (drop (2 * n) W), X-size, length-drop (2 * n) W),
@@ -69,30 +69,30 @@ module _ (S N : List ℕ) (p : ℕ) (W : List ℕ) (ok : graphRefusal S N ≡ 0)
     placed-is =
         filter-cong (λ q. ltb 0 (ofNode W₁ q)) (λ q. ltb 0 (levelOf (levels g p) q)) (upFrom 1 n) (λ q m. ap (ltb 0) (level-at q (node-in g q m)))
 
-    module _ {count : ℕ} (c : count ≡ length (placed n W₁)) {U : List ℕ} (u : U ≡ sets W₁ (5 * n) (placed n W₁)) where
+    module _ {count : ℕ} (c : count ≡ length (placed n W₁)) {U : List ℕ} (u : U ≡ sets W₁ (4 * n) (placed n W₁)) where
       pub gathered-count : count ≡ length P
       gathered-count = c ∙ ap length placed-is
 
-      U-is : U ≡ sets W₁ (5 * n) P
-      U-is = u ∙ ap (sets W₁ (5 * n)) placed-is
+      U-is : U ≡ sets W₁ (4 * n) P
+      U-is = u ∙ ap (sets W₁ (4 * n)) placed-is
 
       U-front : take (2 * n - 0) U ≡ X
       U-front =
-          front-lent (2 * n) U ∙ ap (take (2 * n)) U-is ∙ take-sets (2 * n) W₁ (5 * n) P (omega arith)
+          front-lent (2 * n) U ∙ ap (take (2 * n)) U-is ∙ take-sets (2 * n) W₁ (4 * n) P (omega arith)
           ∙ take-at X (postOf 0 (2 * n - 0) W) (2 * n) X-size
 
       pub wipe-ask : {r : ℕ} → r ≡ reached (levels g p) → Queued n r (take (2 * n - 0) U)
       wipe-ask {r} e = rw (e, U-front) (K .holds)
 
-      behind : drop (2 * n) U ≡ drop (2 * n) (sets W (5 * n) P)
+      behind : drop (2 * n) U ≡ drop (2 * n) (sets W (4 * n) P)
       behind =
-          let h : 5 * n ≡ 2 * n + 3 * n = omega arith in
-          ap (drop (2 * n)) U-is ∙ ap (λ (t : ℕ). drop (2 * n) (sets W₁ t P)) h ∙ drop-sets-add (2 * n) W₁ (3 * n) P
-          ∙ ap (λ (l : List ℕ). sets l (3 * n) P) (ap (drop (2 * n)) is ∙ drop-at X (drop (2 * n) W) (2 * n) X-size)
-          ∙ sym (drop-sets-add (2 * n) W (3 * n) P) ∙ ap (λ (t : ℕ). drop (2 * n) (sets W t P)) (sym h)
+          let h : 4 * n ≡ 2 * n + 2 * n = omega arith in
+          ap (drop (2 * n)) U-is ∙ ap (λ (t : ℕ). drop (2 * n) (sets W₁ t P)) h ∙ drop-sets-add (2 * n) W₁ (2 * n) P
+          ∙ ap (λ (l : List ℕ). sets l (2 * n) P) (ap (drop (2 * n)) is ∙ drop-at X (drop (2 * n) W) (2 * n) X-size)
+          ∙ sym (drop-sets-add (2 * n) W (2 * n) P) ∙ ap (λ (t : ℕ). drop (2 * n) (sets W t P)) (sym h)
 
-      pub gathered-words : {R : List ℕ} → R ≡ replicate (n + n) 0 → R ++ postOf 0 (2 * n - 0) U ≡ sets W (5 * n) P
+      pub gathered-words : {R : List ℕ} → R ≡ replicate (n + n) 0 → R ++ postOf 0 (2 * n - 0) U ≡ sets W (4 * n) P
       gathered-words {R} v =
-          let f : R ≡ take (2 * n) (sets W (5 * n) P) =
-          v ∙ ap (λ (k : ℕ). replicate k 0) (sym twice) ∙ sym blank ∙ sym (take-sets (2 * n) W (5 * n) P (omega arith)) in
-          front-back (2 * n) U R ∙ (λ i. f i ++ behind i) ∙ take-append-drop (2 * n) (sets W (5 * n) P)
+          let f : R ≡ take (2 * n) (sets W (4 * n) P) =
+          v ∙ ap (λ (k : ℕ). replicate k 0) (sym twice) ∙ sym blank ∙ sym (take-sets (2 * n) W (4 * n) P (omega arith)) in
+          front-back (2 * n) U R ∙ (λ i. f i ++ behind i) ∙ take-append-drop (2 * n) (sets W (4 * n) P)

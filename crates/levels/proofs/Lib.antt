@@ -5,3 +5,4 @@ pub mod OnePart
 pub mod Collecting
 pub mod Gathered
 pub mod Alone
+pub mod Copying

@@ -4,12 +4,12 @@ use mathlib.Core.Bool.{true}
 use mathlib.Core.List.{List, _++_}
 use Prim.Native.Nat.{ℕ, zero, suc, _+_, _-_, _*_, _≤_, _<_}
 use native.Mathlib.Omega.{arith}
-use lib.ListN.{length, getD, take, drop, replicate, length-append, length-drop, length-map, take-append-drop, List·getD-append}
-use lib.Seq.{slice, ext-getD, take-append-le, take-take, getD-take, getD-drop}
+use lib.ListN.{length, getD, take, drop, replicate, length-append, length-take, length-drop, length-map, take-append-drop, List·getD-append}
+use lib.Seq.{slice, length-slice, ext-getD, take-append-le, take-take, getD-take, getD-drop}
 use borrow.Rule.Slice.PartMut.{postOf, mid-len}
 use Rattle.basis.specs.Lists.{memb, upFrom}
-use Rattle.basis.proofs.Index.{getD-right, getD-map-upFrom}
-use Rattle.basis.proofs.Lists.{map-cong, length-upFrom}
+use Rattle.basis.proofs.Index.{getD-map-upFrom}
+use Rattle.basis.proofs.Lists.{map-cong, upFrom-in, length-upFrom}
 use Rattle.spec.specs.Combined.{combined, widthOf}
 use Rattle.spec.specs.Ends.{Ends, ends}
 use Rattle.spec.specs.Graph.{Graph, graphOf, sizeOf, graphRefusal, firstInE}
@@ -24,13 +24,14 @@ use Rattle.laws.proofs.Levels.{part-node, part-same}
 use Rattle.laws.proofs.Parts.{part-inside}
 use Rattle.laws.proofs.Refused.{passed, starts-of, not-refused}
 use Rattle.search.specs.Queue.{Queued}
-use Rattle.search.proofs.Stores.{take-replicate}
 use Rattle.sorting.specs.Nodes.{Nodes}
 use Rattle.ends.specs.Answer.{foundOf, Ended}
 use Rattle.ends.specs.Passes.{half}
 use Rattle.ends.specs.declared.shape.Found.{Found}
 use Rattle.ends.proofs.Areas.{front-lent, front-back, slice-front, slice-shift}
+use Rattle.combining.specs.Areas.{wordsOf}
 use Rattle.piecing.specs.Given.{Given, firstOf, endsOf, merged}
+use Rattle.piecing.specs.Seek.{at}
 use Rattle.piecing.specs.Starts.{membersOf}
 use Rattle.piecing.proofs.Storing.{member-in}
 use Rattle.levels.specs.Part.{PartGiven, partLevelsOf}
@@ -53,42 +54,59 @@ past-queue {n} {count} {W} Q i h =
     ∙ zeros-at (n - count) (i - (n + count))
 
 -- the members as they are lent
-pub members-lent : (n from to : ℕ) (W : List ℕ) → from ≤ to → 5 * n + to ≤ length W → take (5 * n + to - (5 * n + from)) (drop (5 * n + from) W) ≡ membersOf n from to W
+pub members-lent : (n from to : ℕ) (W : List ℕ) → from ≤ to → 4 * n + to ≤ length W → take (4 * n + to - (4 * n + from)) (drop (4 * n + from) W) ≡ membersOf n from to W
 members-lent n from to W l h =
-    ext-getD 0 (take (5 * n + to - (5 * n + from)) (drop (5 * n + from) W)) (membersOf n from to W)
-    (omega (arith, size, length-map (upFrom from (to - from)) (λ i. getD W (5 * n + i) 0), length-upFrom from (to - from)))
+    ext-getD 0 (take (4 * n + to - (4 * n + from)) (drop (4 * n + from) W)) (membersOf n from to W)
+    (omega (arith, size, length-map (upFrom from (to - from)) (λ i. getD W (4 * n + i) 0), length-upFrom from (to - from)))
     (λ i k.
-    let e : 5 * n + from + i ≡ 5 * n + (from + i) = omega arith in
-    getD-take (5 * n + to - (5 * n + from)) (drop (5 * n + from) W) i 0 (omega (arith, size)) ∙ getD-drop (5 * n + from) W i 0
-    ∙ ap (λ (j : ℕ). getD W j 0) e ∙ sym (getD-map-upFrom (λ j. getD W (5 * n + j) 0) from (to - from) i 0 (omega (arith, size))))
+    let e : 4 * n + from + i ≡ 4 * n + (from + i) = omega arith in
+    getD-take (4 * n + to - (4 * n + from)) (drop (4 * n + from) W) i 0 (omega (arith, size)) ∙ getD-drop (4 * n + from) W i 0
+    ∙ ap (λ (j : ℕ). getD W j 0) e ∙ sym (getD-map-upFrom (λ j. getD W (4 * n + j) 0) from (to - from) i 0 (omega (arith, size))))
   where
-    size : length (take (5 * n + to - (5 * n + from)) (drop (5 * n + from) W)) ≡ 5 * n + to - (5 * n + from)
-    size = mid-len (5 * n + from) (5 * n + to) W h
+    size : length (take (4 * n + to - (4 * n + from)) (drop (4 * n + from) W)) ≡ 4 * n + to - (4 * n + from)
+    size = mid-len (4 * n + from) (4 * n + to) W h
 
-module _ (S N : List ℕ) (ok : graphRefusal S N ≡ 0) {from to : ℕ} {W L : List ℕ} (A : PartGiven (graphOf S N) from to W L) where
+module _ (S N : List ℕ) (ok : graphRefusal S N ≡ 0) {from to : ℕ} (X : List ℕ)
+    (A : PartGiven (graphOf S N) from to (wordsOf (sizeOf S) X) (slice (5 * sizeOf S) (6 * sizeOf S) X)) where
   abbrev g : Graph
   g = graphOf S N
 
   abbrev n : ℕ
   n = sizeOf S
 
+  abbrev W : List ℕ
+  W = wordsOf n X
+
+  abbrev L : List ℕ
+  L = slice (5 * n) (6 * n) X
+
   abbrev z : ℕ
   z = firstOf n from W
 
   abbrev lent : List ℕ
-  lent = take (5 * n + to - (5 * n + from)) (drop (5 * n + from) W)
+  lent = take (4 * n + to - (4 * n + from)) (drop (4 * n + from) X)
 
   G : LegalGraph g
   G = not-refused S N ok
+
+  pub room : 6 * n ≤ length X
+  room = omega (arith, A .room, A .order, A .most, length-drop (5 * n) (take (6 * n) X), length-take (6 * n) X)
+
+  same-word : (i : ℕ) → i < 5 * n → getD W i 0 ≡ getD X i 0
+  same-word i h = getD-take (5 * n) X i 0 h
 
   z-node : Node g z
   z-node = part-inside g z z (ap (memb z) (sym (A .members)) ∙ member-in n from to W from (omega arith) (A .order))
 
   lent-is : lent ≡ part g z
-  lent-is = members-lent n from to W (omega (arith, A .order)) (omega (arith, A .words, A .most)) ∙ A .members
+  lent-is =
+      members-lent n from to X (omega (arith, A .order)) (omega (arith, room, A .most))
+      ∙ map-cong (λ i. getD X (4 * n + i) 0) (λ i. getD W (4 * n + i) 0) (upFrom from (to - from))
+      (λ i m. sym (same-word (4 * n + i) (omega (arith, upFrom-in from (to - from) i m .1, A .most, A .order))))
+      ∙ A .members
 
   part-size : length (part g z) ≡ to - from
-  part-size = ap length (sym (A .members)) ∙ length-map (upFrom from (to - from)) (λ i. getD W (5 * n + i) 0) ∙ length-upFrom from (to - from)
+  part-size = ap length (sym (A .members)) ∙ length-map (upFrom from (to - from)) (λ i. getD W (4 * n + i) 0) ∙ length-upFrom from (to - from)
 
   -- ---- the first node
 
@@ -107,23 +125,24 @@ module _ (S N : List ℕ) (ok : graphRefusal S N ≡ 0) {from to : ℕ} {W L : L
 
     -- ---- the ends
 
-    front : take (4 * n - 0) W ≡ replicate (half S + half S) 0
+    front : take (4 * n - 0) X ≡ replicate (half S + half S) 0
     front =
         let e : 4 * n ≡ half S + half S = omega arith in
-        let f : 5 * n ≡ 4 * n + n = omega arith in
-        front-lent (4 * n) W ∙ sym (take-take (4 * n) (5 * n) W (omega arith)) ∙ ap (take (4 * n)) (A .blank)
-        ∙ ap (λ (j : ℕ). take (4 * n) (replicate j 0)) f ∙ take-replicate (4 * n) n 0 ∙ ap (λ (j : ℕ). replicate j 0) e
+        front-lent (4 * n) X ∙ sym (take-take (4 * n) (5 * n) X (omega arith)) ∙ A .blank ∙ ap (λ (j : ℕ). replicate j 0) e
 
-    pub ends-ask : (graphRefusal S N ≡ 0) × (((1 ≤ v) × (v ≤ sizeOf S)) × ((v ≡ firstInE g (part g v)) × (take (4 * n - 0) W ≡ replicate (half S + half S) 0)))
+    pub ends-ask : (graphRefusal S N ≡ 0) × (((1 ≤ v) × (v ≤ sizeOf S)) × ((v ≡ firstInE g (part g v)) × (take (4 * n - 0) X ≡ replicate (half S + half S) 0)))
     ends-ask = (ok, (first-range S N ok z-node v-first, (first-own S N ok z-node v-first, front)))
 
     module _ {f : Found} (found : f ≡ foundOf (ends g v)) {Y : List ℕ} (ended : Ended S N (ends g v) Y) where
       abbrev e : Ends
       e = ends g z
 
-      -- the words as they come back
+      -- the slice as it comes back
+      abbrev X₁ : List ℕ
+      X₁ = Y ++ postOf 0 (4 * n - 0) X
+
       abbrev W₁ : List ℕ
-      W₁ = Y ++ postOf 0 (4 * n - 0) W
+      W₁ = wordsOf n X₁
 
       same : ends g v ≡ e
       same = same-ends S N ok z-node v-first
@@ -131,23 +150,42 @@ module _ (S N : List ℕ) (ok : graphRefusal S N ≡ 0) {from to : ℕ} {W L : L
       E : Ended S N e Y
       E = subst (λ (x : Ends). Ended S N x Y) same ended
 
-      is : W₁ ≡ Y ++ drop (4 * n) W
-      is = front-back (4 * n) W Y
+      is : X₁ ≡ Y ++ drop (4 * n) X
+      is = front-back (4 * n) X Y
 
       Y-size : length Y ≡ 4 * n
       Y-size = E .full ∙ omega arith
 
       in-front : (i : ℕ) → i < 4 * n → getD W₁ i 0 ≡ getD Y i 0
-      in-front i h = List·getD-append Y (postOf 0 (4 * n - 0) W) 0 i (omega (arith, Y-size))
+      in-front i h = getD-take (5 * n) X₁ i 0 (omega arith) ∙ List·getD-append Y (postOf 0 (4 * n - 0) X) 0 i (omega (arith, Y-size))
 
-      behind : (i : ℕ) → 4 * n ≤ i → getD W₁ i 0 ≡ getD W i 0
-      behind i h =
-          let q : 4 * n + (i - length Y) ≡ i = omega (arith, Y-size) in
-          ap (λ (l : List ℕ). getD l i 0) is ∙ getD-right 0 Y (drop (4 * n) W) i (omega (arith, Y-size))
-          ∙ getD-drop (4 * n) W (i - length Y) 0 ∙ ap (λ (j : ℕ). getD W j 0) q
+      behind : drop (4 * n) X₁ ≡ drop (4 * n) X
+      behind = ap (drop (4 * n)) is ∙ behind-front (4 * n) (4 * n) Y X Y-size (omega arith)
+
+      -- the members' words, and the levels behind them
+      member-same : (i : ℕ) → i < n → getD W₁ (4 * n + i) 0 ≡ getD W (4 * n + i) 0
+      member-same i h =
+          getD-take (5 * n) X₁ (4 * n + i) 0 (omega arith) ∙ sym (getD-drop (4 * n) X₁ i 0) ∙ ap (λ (l : List ℕ). getD l i 0) behind
+          ∙ getD-drop (4 * n) X i 0 ∙ sym (same-word (4 * n + i) (omega arith))
+
+      further : (m : ℕ) → 4 * n ≤ m → drop m X₁ ≡ drop m X
+      further m h = ap (drop m) is ∙ behind-front (4 * n) m Y X Y-size h
+
+      size-same : length X₁ ≡ length X
+      size-same = ap length is ∙ length-append Y (drop (4 * n) X) ∙ omega (arith, Y-size, length-drop (4 * n) X, room)
+
+      levels-same : slice (5 * n) (6 * n) X₁ ≡ L
+      levels-same =
+          ext-getD 0 (slice (5 * n) (6 * n) X₁) L
+          (length-slice (5 * n) (6 * n) X₁ (omega (arith, size-same, room)) ∙ sym (length-slice (5 * n) (6 * n) X room))
+          (λ i l.
+          let h : i < n = omega (arith, length-slice (5 * n) (6 * n) X₁ (omega (arith, size-same, room))) in
+          getD-drop (5 * n) (take (6 * n) X₁) i 0 ∙ getD-take (6 * n) X₁ (5 * n + i) 0 (omega arith) ∙ sym (getD-drop (5 * n) X₁ i 0)
+          ∙ ap (λ (x : List ℕ). getD x i 0) (further (5 * n) (omega arith)) ∙ getD-drop (5 * n) X i 0
+          ∙ sym (getD-take (6 * n) X (5 * n + i) 0 (omega arith)) ∙ sym (getD-drop (5 * n) (take (6 * n) X) i 0))
 
       z-same : firstOf n from W₁ ≡ z
-      z-same = behind (5 * n + from) (omega arith)
+      z-same = member-same from (omega (arith, A .order, A .most))
 
       ends-same : endsOf g from W₁ ≡ e
       ends-same = ap (ends g) z-same
@@ -162,25 +200,27 @@ module _ (S N : List ℕ) (ok : graphRefusal S N ≡ 0) {from to : ℕ} {W L : L
       O : EndsOf g z e
       O = ends-of G z-node
 
-      given : Given g from to (f .k) (f .widthv) (f .widthu) W₁ L
+      given : Given g from to (f .k) (f .widthv) (f .widthu) W₁ (slice (5 * n) (6 * n) X₁)
       given = record {
-        words = omega (arith, ap length is, length-append Y (drop (4 * n) W), Y-size, length-drop (4 * n) W, A .words);
-        room = A .room;
+        words = omega (arith, length-take (5 * n) X₁, size-same, room);
+        room = ap length levels-same ∙ A .room;
         order = A .order;
         most = A .most;
         members =
-            map-cong (λ i. getD W₁ (5 * n + i) 0) (λ i. getD W (5 * n + i) 0) (upFrom from (to - from)) (λ i m. behind (5 * n + i) (omega arith))
+            map-cong (λ i. getD W₁ (4 * n + i) 0) (λ i. getD W (4 * n + i) 0) (upFrom from (to - from))
+            (λ i m. member-same i (omega (arith, upFrom-in from (to - from) i m .1, A .most, A .order)))
             ∙ A .members ∙ ap (part g) (sym z-same);
         depth = ap (λ (x : Found). x .k) found-is ∙ ap (λ (x : Ends). x .k) (sym ends-same);
         width-v = ap (λ (x : Found). x .widthv) found-is ∙ ap (λ (x : Ends). x .widthV) (sym ends-same);
         width-u = ap (λ (x : Found). x .widthu) found-is ∙ ap (λ (x : Ends). x .widthU) (sym ends-same);
         firsts =
-            take-append-le n Y (postOf 0 (4 * n - 0) W) (omega (arith, Y-size)) ∙ sym (take-take n (half S) Y (omega arith)) ∙ E .first .listed
-            ∙ ap (λ (x : Ends). levelList g (levels g (x .v))) (sym ends-same);
+            take-take n (5 * n) X₁ (omega arith) ∙ take-append-le n Y (postOf 0 (4 * n - 0) X) (omega (arith, Y-size))
+            ∙ sym (take-take n (half S) Y (omega arith)) ∙ E .first .listed ∙ ap (λ (x : Ends). levelList g (levels g (x .v))) (sym ends-same);
         seconds =
             let a : 2 * n ≡ half S + 0 = omega arith in
             let b : 3 * n ≡ half S + n = omega arith in
-            slice-front (2 * n) (3 * n) Y (postOf 0 (4 * n - 0) W) (omega (arith, Y-size)) ∙ (λ i. slice (a i) (b i) Y)
+            ap (drop (2 * n)) (take-take (3 * n) (5 * n) X₁ (omega arith))
+            ∙ slice-front (2 * n) (3 * n) Y (postOf 0 (4 * n - 0) X) (omega (arith, Y-size)) ∙ (λ i. slice (a i) (b i) Y)
             ∙ slice-shift (half S) 0 n Y ∙ E .second .listed ∙ ap (λ (x : Ends). levelList g (levels g (x .u))) (sym ends-same);
         queue-v = λ i l h.
             in-front i (omega arith) ∙ sym (getD-take (half S) Y i 0 (omega arith))
@@ -189,12 +229,10 @@ module _ (S N : List ℕ) (ok : graphRefusal S N ≡ 0) {from to : ℕ} {W L : L
             let q : half S + (i - half S) ≡ i = omega arith in
             in-front i (omega arith) ∙ ap (λ (j : ℕ). getD Y j 0) (sym q) ∙ sym (getD-drop (half S) Y (i - half S) 0)
             ∙ past-queue (E .second .holds) (i - half S) (omega (arith, reaches (e .u) (O .u-part)));
-        counts = λ i l h.
-            behind i l ∙ sym (getD-take (5 * n) W i 0 h) ∙ ap (λ (x : List ℕ). getD x i 0) (A .blank) ∙ zeros-at (5 * n) i;
-        clean = λ q m. A .clean q (ap (λ (x : ℕ). memb q (part g x)) (sym z-same) ∙ m);
+        clean = λ q m. ap (λ (l : List ℕ). at l q) levels-same ∙ A .clean q (ap (λ (x : ℕ). memb q (part g x)) (sym z-same) ∙ m);
       }
 
-      pub combine-ask : (graphRefusal S N ≡ 0) × Given g from to (f .k) (f .widthv) (f .widthu) W₁ L
+      pub combine-ask : (graphRefusal S N ≡ 0) × Given g from to (f .k) (f .widthv) (f .widthu) W₁ (slice (5 * n) (6 * n) X₁)
       combine-ask = (ok, given)
 
       -- ---- what is returned and left
@@ -205,11 +243,17 @@ module _ (S N : List ℕ) (ok : graphRefusal S N ≡ 0) {from to : ℕ} {W L : L
             let q : w ≡ widthOf (e .k) (combined g e) = wide ∙ (λ i. widthOf (found-is i .k) (combined g (ends-same i))) in
             λ i. record { v = found-is i .v; u = found-is i .u; k = found-is i .k; width = q i; passes = found-is i .passes }
 
-      pub words-again : {X : List ℕ} → X ≡ zeroed (5 * n) W₁ → X ≡ W
-      words-again x =
-          x ∙ zeroed-is (5 * n) W₁
-          ∙ (λ i. sym (A .blank) i ++ (ap (drop (5 * n)) is ∙ behind-front (4 * n) (5 * n) Y W Y-size (omega arith)) i)
-          ∙ take-append-drop (5 * n) W
+      -- the words are as before, and the levels are merged
+      words-same : zeroed (4 * n) W₁ ≡ W
+      words-same =
+          let b : drop (4 * n) W₁ ≡ drop (4 * n) W = ext-getD 0 (drop (4 * n) W₁) (drop (4 * n) W)
+          (omega (arith, length-drop (4 * n) W₁, length-drop (4 * n) W, length-take (5 * n) X₁, length-take (5 * n) X, size-same))
+          (λ i l. getD-drop (4 * n) W₁ i 0 ∙ member-same i (omega (arith, length-drop (4 * n) W₁, length-take (5 * n) X₁)) ∙ sym (getD-drop (4 * n) W i 0)) in
+          zeroed-is (4 * n) W₁ ∙ (λ i. sym (A .blank) i ++ b i) ∙ take-append-drop (4 * n) W
 
-      pub levels-merged : {X : List ℕ} → X ≡ merged g (firstOf n from W₁) (endsOf g from W₁) L → X ≡ merged g z e L
-      levels-merged x = x ∙ ap (λ (y : ℕ). merged g y (ends g y) L) z-same
+      pub part-merged : {R : List ℕ} → R ≡ zeroed (4 * n) W₁ ++ (merged g (firstOf n from W₁) (endsOf g from W₁) (slice (5 * n) (6 * n) X₁) ++ drop (6 * n) X₁)
+          → R ≡ W ++ (merged g z e L ++ drop (6 * n) X)
+      part-merged r =
+          let m : merged g (firstOf n from W₁) (endsOf g from W₁) (slice (5 * n) (6 * n) X₁) ≡ merged g z e L =
+          ap (λ (y : ℕ). merged g y (ends g y) (slice (5 * n) (6 * n) X₁)) z-same ∙ ap (merged g z e) levels-same in
+          r ∙ (λ i. words-same i ++ (m i ++ further (6 * n) (omega arith) i))

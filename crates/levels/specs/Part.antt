@@ -19,14 +19,14 @@ use Rattle.levels.specs.declared.shape.PartLevels.{PartLevels}
 abbrev pub placed : ℕ → List ℕ → List ℕ
 placed n W = filterb (λ q. ltb 0 (ofNode W q)) (upFrom 1 n)
 
--- the members of one part stand from..to in the sixth area of n words, the five in front are 0, and so are the levels of its nodes
+-- the members of one part stand from..to in the fifth area of n words, the four in front are 0, and so are the levels of its nodes
 pub record PartGiven (g : Graph) (from to : ℕ) (W L : List ℕ) : Type 0 where
-  pub words : 6 * g .size ≤ length W
+  pub words : 5 * g .size ≤ length W
   pub room : length L ≡ g .size
   pub order : from < to
   pub most : to ≤ g .size
   pub members : membersOf (g .size) from to W ≡ part g (firstOf (g .size) from W)
-  pub blank : take (5 * g .size) W ≡ replicate (5 * g .size) 0
+  pub blank : take (4 * g .size) W ≡ replicate (4 * g .size) 0
   pub clean : (q : ℕ) → memb q (part g (firstOf (g .size) from W)) ≡ true → at L q ≡ 0
 
 -- the ends, k, the greatest level count and the passes

@@ -36,7 +36,19 @@ pub(crate) fn find_ends(starts: &[u16], neighbours: &[u16], node: u16, scratch: 
     f
 }
 
-// The combined levels of the part of `node`, in scratch and n levels that are set to 0 before; the scratch is afterwards too.
+// Copies the words of `from` over those of `to`, which are as many.
+fn copy(to: &mut [u16], from: &[u16])
+    requires { ⌜ length (now to) ≡ length (now from) ⌝ }
+    ensures { λ _. ⌜ now (to .exit) ≡ now (from .entry) ⌝ }
+{
+    let mut i = 0;
+    while i < from.len() {
+        to[i] = from[i];
+        i += 1;
+    }
+}
+
+// The combined levels of the part of `node`, in scratch that is set to 0 before and after.
 pub(crate) fn find_levels(
     starts: &[u16],
     neighbours: &[u16],
@@ -53,10 +65,10 @@ pub(crate) fn find_levels(
     ensures { λ _. ⌜ now (scratch .exit) ≡ zeroed (wordsPerNode * sizeOf (now (starts .entry))) (now (scratch .entry)) ⌝ }
 {
     let n = starts.len() - 1;
-    clear(levels, n);
     clear(scratch, WORDS_PER_NODE * n);
     let count = gather_part(starts, neighbours, node, scratch);
-    let f = combine_part(starts, neighbours, scratch, levels, 0, count);
+    let f = combine_part(starts, neighbours, scratch, 0, count);
+    copy(levels, &scratch[5 * n..6 * n]);
     clear(scratch, WORDS_PER_NODE * n);
     f
 }

@@ -2,11 +2,13 @@
 use mathlib.Core.Path.{_≡_, sym, ap, _∙_}
 use mathlib.Core.Bool.{true}
 use mathlib.Core.List.{List, _++_}
-use Prim.Native.Nat.{ℕ, _+_, _*_, _≤_}
+use Prim.Native.Nat.{ℕ, _+_, _-_, _*_, _≤_}
 use native.Mathlib.Omega.{arith}
 use lib.ListN.{length, take, drop, replicate, length-append, length-drop, length-replicate}
-use lib.Seq.{length-take-le}
+use lib.Seq.{slice, length-take-le, drop-at}
 use Rattle.basis.specs.Lists.{joinAll}
+use Rattle.basis.proofs.Walk.{part-slice}
+use Rattle.search.proofs.Stores.{drop-replicate}
 use Rattle.spec.specs.CallsNumbering.{MeasureFigures, measureFigures}
 use Rattle.spec.specs.Graph.{graphOf, sizeOf, graphRefusal}
 use Rattle.spec.specs.Lent.{zeroed}
@@ -36,21 +38,35 @@ module _ (S N : List ℕ) (legal : graphRefusal S N ≡ 0) where
     pub cleared-size : length W₁ ≡ length W₀
     cleared-size = ap length w₁ ∙ zeroed-length (8 * n) W₀ room
 
-    pub members-room : 6 * n ≤ length W₁
+    pub members-room : 5 * n ≤ length W₁
     members-room = omega (arith, cleared-size, room)
 
-    pub members-blank : take (6 * n) W₁ ≡ replicate (6 * n) 0
-    members-blank = ap (take (6 * n)) w₁ ∙ zero-front (6 * n) (8 * n) W₀ (omega arith)
+    pub members-blank : take (5 * n) W₁ ≡ replicate (5 * n) 0
+    members-blank = ap (take (5 * n)) w₁ ∙ zero-front (5 * n) (8 * n) W₀ (omega arith)
 
-    module _ {W₂ : List ℕ} (w₂ : W₂ ≡ replicate (5 * n) 0 ++ (joinAll (parts (graphOf S N)) ++ drop (6 * n) W₁)) where
+    module _ {W₂ : List ℕ} (w₂ : W₂ ≡ replicate (4 * n) 0 ++ (joinAll (parts (graphOf S N)) ++ drop (5 * n) W₁)) where
       abbrev front-part : List ℕ
       front-part = areas S N legal
 
-      two-is : W₂ ≡ front-part ++ drop (6 * n) W₁
-      two-is = areas-front S N legal (drop (6 * n) W₁) w₂
+      two-is : W₂ ≡ front-part ++ drop (5 * n) W₁
+      two-is = areas-front S N legal (drop (5 * n) W₁) w₂
 
       pub filled-size : length W₂ ≡ length W₀
-      filled-size = ap length two-is ∙ omega (arith, length-append front-part (drop (6 * n) W₁), areas-size S N legal, length-drop (6 * n) W₁, members-room, cleared-size)
+      filled-size = ap length two-is ∙ omega (arith, length-append front-part (drop (5 * n) W₁), areas-size S N legal, length-drop (5 * n) W₁, members-room, cleared-size)
+
+      pub filled-room : 6 * n ≤ length W₂
+      filled-room = omega (arith, filled-size, room)
+
+      -- the area for levels is 0
+      pub levels-blank : slice (5 * n) (6 * n) W₂ ≡ replicate n 0
+      levels-blank =
+          let c : 6 * n - 5 * n ≡ n = omega arith in
+          sym (part-slice (5 * n) (6 * n) W₂)
+          ∙ ap (take (6 * n - 5 * n)) (ap (drop (5 * n)) two-is ∙ drop-at front-part (drop (5 * n) W₁) (5 * n) (areas-size S N legal))
+          ∙ part-slice (5 * n) (6 * n) W₁
+          ∙ ap (drop (5 * n)) (ap (take (6 * n)) w₁ ∙ zero-front (6 * n) (8 * n) W₀ (omega arith))
+          ∙ drop-replicate (5 * n) (6 * n) 0
+          ∙ ap (λ (k : ℕ). replicate k 0) c
 
       module _ {W₃ : List ℕ} (w₃ : W₃ ≡ W₂) where
         three-size : length W₃ ≡ length W₀
@@ -72,7 +88,7 @@ module _ (S N : List ℕ) (legal : graphRefusal S N ≡ 0) where
             zeroed-again (8 * n) (C ++ drop n W₃) W₀
             (behind-front n (8 * n) C W₃ (ap length c ∙ length-replicate n 0) (omega arith)
             ∙ ap (drop (8 * n)) (w₃ ∙ two-is)
-            ∙ behind-front (6 * n) (8 * n) front-part W₁ (areas-size S N legal) (omega arith)
+            ∙ behind-front (5 * n) (8 * n) front-part W₁ (areas-size S N legal) (omega arith)
             ∙ ap (drop (8 * n)) w₁ ∙ zeroed-behind (8 * n) W₀)
 
         pub last-size : {C W₅ : List ℕ} → C ≡ replicate n 0 → W₅ ≡ zeroed (8 * n) (C ++ drop n W₃) → length W₅ ≡ length W₀

@@ -5,8 +5,9 @@ use mathlib.Core.List.{List, _++_, map, append-assoc}
 use Prim.Native.Nat.{ℕ, suc, _+_, _-_, _*_, _≤_, _<_, max}
 use native.Mathlib.Omega.{arith}
 use lib.ListN.{length, getD, take, drop, replicate, length-append, length-map, length-replicate, getD-replicate}
-use lib.Seq.{take-at, take-take, drop-at}
-use Rattle.basis.specs.Lists.{joinAll, memb, greatest, sum, position}
+use lib.Seq.{slice, take-at, take-take, drop-at, getD-take, length-take-le}
+use Rattle.basis.specs.Lists.{joinAll, memb, greatest, sum, position, upFrom}
+use Rattle.basis.proofs.Lists.{map-cong, upFrom-in}
 use Rattle.basis.proofs.Logic.{clash}
 use Rattle.spec.specs.Graph.{Graph, graphOf, sizeOf, graphRefusal, nodes, ofNode}
 use Rattle.spec.specs.Levels.{part, parts}
@@ -18,11 +19,12 @@ use Rattle.laws.proofs.Levels.{part-node}
 use Rattle.laws.proofs.Numberings.{number-of, numbers-length, order-memb}
 use Rattle.laws.proofs.Refused.{passed, starts-of, not-refused}
 use Rattle.laws.proofs.Whole.{whole-perm}
+use Rattle.combining.specs.Areas.{wordsOf}
 use Rattle.piecing.specs.Given.{firstOf}
 use Rattle.piecing.specs.Starts.{membersOf}
 use Rattle.search.proofs.Stores.{take-replicate}
 use Rattle.levels.specs.Part.{PartGiven}
-use Rattle.levels.proofs.OnePart.{members-lent}
+use Rattle.levels.proofs.OnePart.{members-lent, zeros-at}
 use Rattle.parts.specs.Walked.{Walked, leaderAt}
 use Rattle.parts.proofs.Leads.{parts-length}
 use Rattle.parts.proofs.Walk.{walk-begin, walk-end, walk-next, next-node, next-some, next-fits, scratch-first, scratch-part}
@@ -38,21 +40,21 @@ module _ (S N : List ℕ) (legal : graphRefusal S N ≡ 0) where
   pub starts : Starts S N
   starts = starts-of (passed S N legal)
 
-  -- the six areas of n words that the run works in: five of zeros, and the members
+  -- the first five areas of n words: four of zeros, and the members
   abbrev pub areas : List ℕ
-  areas = replicate (5 * sizeOf S) 0 ++ joinAll (parts (graphOf S N))
+  areas = replicate (4 * sizeOf S) 0 ++ joinAll (parts (graphOf S N))
 
-  pub areas-size : length areas ≡ 6 * sizeOf S
+  pub areas-size : length areas ≡ 5 * sizeOf S
   areas-size =
       omega (
         arith,
-        length-append (replicate (5 * sizeOf S) 0) (joinAll (parts (graphOf S N))),
-        length-replicate {A = ℕ} (5 * sizeOf S) 0,
+        length-append (replicate (4 * sizeOf S) 0) (joinAll (parts (graphOf S N))),
+        length-replicate {A = ℕ} (4 * sizeOf S) 0,
         parts-length graph,
       )
 
-  pub areas-front : (E : List ℕ) {W : List ℕ} → W ≡ replicate (5 * sizeOf S) 0 ++ (joinAll (parts (graphOf S N)) ++ E) → W ≡ areas ++ E
-  areas-front E w = w ∙ sym (append-assoc (replicate (5 * sizeOf S) 0) (joinAll (parts (graphOf S N))) E)
+  pub areas-front : (E : List ℕ) {W : List ℕ} → W ≡ replicate (4 * sizeOf S) 0 ++ (joinAll (parts (graphOf S N)) ++ E) → W ≡ areas ++ E
+  areas-front E w = w ∙ sym (append-assoc (replicate (4 * sizeOf S) 0) (joinAll (parts (graphOf S N))) E)
 
 -- ---- before the first part
 
@@ -61,9 +63,10 @@ zero-level g q N =
     ofNode-at (replicate (g .size) 0) q (N .low) ∙ getD-replicate (g .size) (q - 1) 0 0 (omega (arith, N .low, N .high))
 
 pub ran-begin : {S N X L W : List ℕ} (E : List ℕ) → graphRefusal S N ≡ 0 → length X ≡ sizeOf S → L ≡ replicate (sizeOf S) 0
-    → W ≡ replicate (5 * sizeOf S) 0 ++ (joinAll (parts (graphOf S N)) ++ E) → Ran S N 0 0 0 0 0 X L W
+    → W ≡ replicate (4 * sizeOf S) 0 ++ (joinAll (parts (graphOf S N)) ++ E) → 6 * sizeOf S ≤ length W
+    → slice (5 * sizeOf S) (6 * sizeOf S) W ≡ replicate (sizeOf S) 0 → Ran S N 0 0 0 0 0 X L W
 unfolding wholeOrder wholeLevels
-ran-begin {S} {N} {X} {L} {W} E legal x l w =
+ran-begin {S} {N} {X} {L} {W} E legal x l w full blank =
     let g : Graph = graphOf S N in
     record {
       legal = legal;
@@ -79,8 +82,10 @@ ran-begin {S} {N} {X} {L} {W} E legal x l w =
       few-levels = omega arith;
       few-passes = omega arith;
       words = w
-          ∙ ap (λ (e : List ℕ). replicate (5 * sizeOf S) 0 ++ (joinAll (parts g) ++ e))
-          (sym (ap (drop (6 * sizeOf S)) (areas-front S N legal E w) ∙ drop-at (areas S N legal) E (6 * sizeOf S) (areas-size S N legal)));
+          ∙ ap (λ (e : List ℕ). replicate (4 * sizeOf S) 0 ++ (joinAll (parts g) ++ e))
+          (sym (ap (drop (5 * sizeOf S)) (areas-front S N legal E w) ∙ drop-at (areas S N legal) E (5 * sizeOf S) (areas-size S N legal)));
+      full = full;
+      blank = blank;
     }
 
 -- a level for each node
@@ -108,10 +113,10 @@ module _ {S N : List ℕ} {j a k w p : ℕ} {X L W : List ℕ} (R : Ran S N j a 
   z = leaderAt (graphOf S N) j
 
   abbrev zeros : List ℕ
-  zeros = replicate (5 * sizeOf S) 0
+  zeros = replicate (4 * sizeOf S) 0
 
   abbrev E : List ℕ
-  E = drop (6 * sizeOf S) W
+  E = drop (5 * sizeOf S) W
 
   G : LegalGraph (graphOf S N)
   G = graph S N (R .legal)
@@ -119,12 +124,11 @@ module _ {S N : List ℕ} {j a k w p : ℕ} {X L W : List ℕ} (R : Ran S N j a 
   Z : Node (graphOf S N) z
   Z = next-node G (R .walked) h
 
-  long : length zeros ≡ 5 * n
-  long = length-replicate (5 * n) 0
+  long : length zeros ≡ 4 * n
+  long = length-replicate (4 * n) 0
 
   pub words-size : 6 * n ≤ length W
-  words-size =
-      omega (arith, ap length (areas-front S N (R .legal) E (R .words)), length-append (areas S N (R .legal)) E, areas-size S N (R .legal))
+  words-size = R .full
 
   -- its size
   abbrev m : ℕ
@@ -137,49 +141,68 @@ module _ {S N : List ℕ} {j a k w p : ℕ} {X L W : List ℕ} (R : Ran S N j a 
   some = next-some G (R .walked) h
 
   -- its lowest node stands first
-  lowest-is : getD W (5 * n + a) 0 ≡ z
-  lowest-is = ap (λ (l : List ℕ). getD l (5 * n + a) 0) (R .words) ∙ scratch-first G (R .walked) h zeros E (5 * n) long
+  lowest-is : getD W (4 * n + a) 0 ≡ z
+  lowest-is = ap (λ (l : List ℕ). getD l (4 * n + a) 0) (R .words) ∙ scratch-first G (R .walked) h zeros E (4 * n) long
 
-  pub lowest-node : {q : ℕ} → q ≡ getD W (5 * n + a) 0 → (1 ≤ q) × (q ≤ n)
+  pub lowest-node : {q : ℕ} → q ≡ getD W (4 * n + a) 0 → (1 ≤ q) × (q ≤ n)
   lowest-node e = let A = Z in let s = e ∙ lowest-is in (omega (arith, A .low), omega (arith, A .high))
 
-  pub size-is : {q t : ℕ} → q ≡ getD W (5 * n + a) 0 → t ≡ length (part (graphOf S N) q) → t ≡ m
+  pub size-is : {q t : ℕ} → q ≡ getD W (4 * n + a) 0 → t ≡ length (part (graphOf S N) q) → t ≡ m
   size-is e t = t ∙ ap (λ (x : ℕ). length (part (graphOf S N) x)) (e ∙ lowest-is)
 
   -- the words that a search works in are 0
-  blank : take (5 * n) W ≡ zeros
-  blank = ap (take (5 * n)) (R .words) ∙ take-at zeros (joinAll (parts (graphOf S N)) ++ E) (5 * n) long
+  front-blank : take (4 * n) W ≡ zeros
+  front-blank = ap (take (4 * n)) (R .words) ∙ take-at zeros (joinAll (parts (graphOf S N)) ++ E) (4 * n) long
 
   pub half-blank : take (n + n) W ≡ replicate (n + n) 0
   half-blank =
-      let o : 5 * n ≡ n + n + 3 * n = omega arith in
-      sym (take-take (n + n) (5 * n) W (omega arith)) ∙ ap (take (n + n)) blank ∙ ap (λ (i : ℕ). take (n + n) (replicate i 0)) o ∙ take-replicate (n + n) (3 * n) 0
+      let o : 4 * n ≡ n + n + 2 * n = omega arith in
+      sym (take-take (n + n) (4 * n) W (omega arith)) ∙ ap (take (n + n)) front-blank ∙ ap (λ (i : ℕ). take (n + n) (replicate i 0)) o ∙ take-replicate (n + n) (2 * n) 0
 
   members-are : membersOf n a (a + m) W ≡ part (graphOf S N) z
   members-are =
-      let c : 5 * n + (a + m) - (5 * n + a) ≡ m = omega arith in
+      let c : 4 * n + (a + m) - (4 * n + a) ≡ m = omega arith in
       sym (members-lent n a (a + m) W (omega arith) (omega (arith, fits, words-size)))
-      ∙ ap (λ (i : ℕ). take i (drop (5 * n + a) W)) c
-      ∙ ap (λ (l : List ℕ). take m (drop (5 * n + a) l)) (R .words)
-      ∙ scratch-part G (R .walked) h zeros E (5 * n) long
+      ∙ ap (λ (i : ℕ). take i (drop (4 * n + a) W)) c
+      ∙ ap (λ (l : List ℕ). take m (drop (4 * n + a) l)) (R .words)
+      ∙ scratch-part G (R .walked) h zeros E (4 * n) long
 
-  given : PartGiven (graphOf S N) a (a + m) W L
+  abbrev U : List ℕ
+  U = wordsOf (sizeOf S) W
+
+  same-word : (i : ℕ) → i < 5 * n → getD U i 0 ≡ getD W i 0
+  same-word i b = getD-take (5 * n) W i 0 b
+
+  first-word : firstOf n a U ≡ z
+  first-word = same-word (4 * n + a) (omega (arith, fits, some)) ∙ lowest-is
+
+  members-words : membersOf n a (a + m) U ≡ part (graphOf S N) z
+  members-words =
+      map-cong (λ i. getD U (4 * n + i) 0) (λ i. getD W (4 * n + i) 0) (upFrom a (a + m - a))
+      (λ i x. same-word (4 * n + i) (omega (arith, upFrom-in a (a + m - a) i x .1, fits)))
+      ∙ members-are
+
+  levels-zero : (q : ℕ) → getD (slice (5 * n) (6 * n) W) (q - 1) 0 ≡ 0
+  levels-zero q = ap (λ (l : List ℕ). getD l (q - 1) 0) (R .blank) ∙ zeros-at n (q - 1)
+
+  given : PartGiven (graphOf S N) a (a + m) U (slice (5 * n) (6 * n) W)
   given = record {
-    words = words-size;
-    room = levels-size R;
+    words = omega (arith, length-take-le (5 * n) W (omega (arith, words-size)));
+    room = ap length (R .blank) ∙ length-replicate n 0;
     order = omega (arith, some);
     most = fits;
-    members = members-are ∙ ap (part (graphOf S N)) (sym lowest-is);
-    blank = blank;
-    clean = λ q i.
-        let i′ : memb q (part (graphOf S N) z) ≡ true = sym (ap (λ (x : ℕ). memb q (part (graphOf S N) x)) lowest-is) ∙ i in
-        let A = part-node G Z q i′ in
-        sym (ofNode-at L q (A .low)) ∙ ap (λ (l : List ℕ). ofNode l q) (R .levels) ∙ levels-new G (R .walked) h q A i′;
+    members = members-words ∙ ap (part (graphOf S N)) (sym first-word);
+    blank = take-take (4 * n) (5 * n) W (omega arith) ∙ front-blank;
+    clean = λ q i. levels-zero q;
   }
 
-  pub part-given : {t : ℕ} {W′ : List ℕ} → t ≡ m → W′ ≡ W → PartGiven (graphOf S N) a (a + t) W′ L
+  pub part-given : {t : ℕ} {W′ : List ℕ} → t ≡ m → W′ ≡ W → PartGiven (graphOf S N) a (a + t) (wordsOf n W′) (slice (5 * n) (6 * n) W′)
   part-given {t} t-is e =
-      subst (λ (u : List ℕ). PartGiven (graphOf S N) a (a + t) u L) (sym e) (subst (λ (x : ℕ). PartGiven (graphOf S N) a (a + x) W L) (sym t-is) given)
+      subst (λ (u : List ℕ). PartGiven (graphOf S N) a (a + t) (wordsOf n u) (slice (5 * n) (6 * n) u)) (sym e)
+      (subst (λ (x : ℕ). PartGiven (graphOf S N) a (a + x) U (slice (5 * n) (6 * n) W)) (sym t-is) given)
+
+  pub levels-blank : {W′ : List ℕ} → W′ ≡ W → slice (5 * n) (6 * n) W′ ≡ replicate n 0
+  levels-blank e = ap (slice (5 * n) (6 * n)) e ∙ R .blank
 
   -- what is summed up stays small
   pub few : n ≤ 4096
@@ -188,9 +211,9 @@ module _ {S N : List ℕ} {j a k w p : ℕ} {X L W : List ℕ} (R : Ran S N j a 
   pub parts-few : j < 4096
   parts-few = omega (arith, few, parts-most (graphOf S N), h)
 
-  module _ {f : PartFigures} {W′ : List ℕ} (e : W′ ≡ W) (f-is : f ≡ partFiguresOf (partResult (graphOf S N) (firstOf (sizeOf S) a W′) .report)) where
-    first-is : firstOf (sizeOf S) a W′ ≡ z
-    first-is = ap (λ (l : List ℕ). getD l (5 * n + a) 0) e ∙ lowest-is
+  module _ {f : PartFigures} {W′ : List ℕ} (e : W′ ≡ W) (f-is : f ≡ partFiguresOf (partResult (graphOf S N) (firstOf (sizeOf S) a (wordsOf (sizeOf S) W′)) .report)) where
+    first-is : firstOf (sizeOf S) a (wordsOf (sizeOf S) W′) ≡ z
+    first-is = ap (λ (l : List ℕ). firstOf n a (wordsOf n l)) e ∙ first-word
 
     figures-are : f ≡ partFiguresOf (partResult (graphOf S N) z .report)
     figures-are = f-is ∙ ap (λ (x : ℕ). partFiguresOf (partResult (graphOf S N) x .report)) first-is
@@ -208,8 +231,8 @@ module _ {S N : List ℕ} {j a k w p : ℕ} {X L W : List ℕ} (R : Ran S N j a 
     passes-low = omega (arith, passes-are, k-is, k-few, passes-few G (R .walked) h)
 
     pub ran-step : {t w′ : ℕ} {X′ L′ : List ℕ} → t ≡ m → w′ ≡ max w (f .width)
-        → X′ ≡ renewed (graphOf S N) (firstOf (sizeOf S) a W′) (numberFrom a (partResult (graphOf S N) (firstOf (sizeOf S) a W′) .order)) X
-        → L′ ≡ renewed (graphOf S N) (firstOf (sizeOf S) a W′) (ofNode (partResult (graphOf S N) (firstOf (sizeOf S) a W′) .levels)) L
+        → X′ ≡ renewed (graphOf S N) (firstOf (sizeOf S) a (wordsOf (sizeOf S) W′)) (numberFrom a (partResult (graphOf S N) (firstOf (sizeOf S) a (wordsOf (sizeOf S) W′)) .order)) X
+        → L′ ≡ renewed (graphOf S N) (firstOf (sizeOf S) a (wordsOf (sizeOf S) W′)) (ofNode (partResult (graphOf S N) (firstOf (sizeOf S) a (wordsOf (sizeOf S) W′)) .levels)) L
         → Ran S N (j + 1) (a + t) (k + f .k) w′ (p + f .passes) X′ L′ W
     unfolding renewed
     ran-step {t} {w′} {X′} {L′} t-is w-is x l =
@@ -229,6 +252,8 @@ module _ {S N : List ℕ} {j a k w p : ℕ} {X L W : List ℕ} (R : Ran S N j a 
           few-levels = omega (arith, R .few-levels, k-few);
           few-passes = omega (arith, R .few-passes, passes-low);
           words = R .words;
+          full = R .full;
+          blank = R .blank;
         }
 
 -- ---- after the last part

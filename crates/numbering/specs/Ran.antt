@@ -4,6 +4,7 @@ use mathlib.Core.Bool.{true}
 use mathlib.Core.List.{List, _++_, map}
 use Prim.Native.Nat.{ℕ, suc, _*_, _≤_}
 use lib.ListN.{length, take, drop, replicate}
+use lib.Seq.{slice}
 use Rattle.basis.specs.Lists.{joinAll, memb, greatest, sum, position}
 use Rattle.spec.specs.Graph.{Graph, graphOf, sizeOf, graphRefusal, ofNode}
 use Rattle.spec.specs.Levels.{leaders, parts}
@@ -15,8 +16,8 @@ use Rattle.parts.specs.Walked.{Walked}
 abbrev pub foundTo : Graph → ℕ → List PartResult
 foundTo g j = map (partResult g) (take j (leaders g))
 
--- After j parts with a nodes: X and L are the numbers and the levels by old number, W the scratch with the members of all parts in its sixth
--- area, and k, w and p what is summed up. The nodes of later parts have level 0; their numbers are not looked at.
+-- After j parts with a nodes: X and L are the numbers and the levels by old number, W the scratch with the members of all parts in its fifth
+-- area of n words and zeros before and behind, and k, w and p what is summed up. The nodes of later parts have level 0; their numbers are not looked at.
 pub record Ran (S N : List ℕ) (j a k w p : ℕ) (X L W : List ℕ) : Type 0 where
   pub legal : graphRefusal S N ≡ 0
   pub walked : Walked (graphOf S N) j a
@@ -29,7 +30,9 @@ pub record Ran (S N : List ℕ) (j a k w p : ℕ) (X L W : List ℕ) : Type 0 wh
   pub passes : p ≡ sum (map (λ r. r .report .passes) (foundTo (graphOf S N) j))
   pub few-levels : k ≤ 4096 * j
   pub few-passes : p ≤ 4096 * j
-  pub words : W ≡ replicate (5 * sizeOf S) 0 ++ (joinAll (parts (graphOf S N)) ++ drop (6 * sizeOf S) W)
+  pub words : W ≡ replicate (4 * sizeOf S) 0 ++ (joinAll (parts (graphOf S N)) ++ drop (5 * sizeOf S) W)
+  pub full : 6 * sizeOf S ≤ length W
+  pub blank : slice (5 * sizeOf S) (6 * sizeOf S) W ≡ replicate (sizeOf S) 0
 
 -- what is summed up is that of the figures
 pub record Summed (F : Figures) (parts nodes levels width passes : ℕ) : Type 0 where

@@ -52,7 +52,7 @@ fn next_part(
 {
     let n = starts.len() - 1;
     let from = wide(t.nodes);
-    let lowest = scratch[5 * n + from];
+    let lowest = scratch[4 * n + from];
     let m = part_size(starts, neighbours, scratch, lowest);
     let f = number_part(
         starts,

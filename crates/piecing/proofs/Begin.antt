@@ -11,10 +11,10 @@ use lib.Dec.{eqb, ltb}
 use borrow.Author.Tests.{ne-eqb}
 use Rattle.basis.specs.Lists.{filterb, countb, memb, upFrom}
 use Rattle.basis.specs.Perm.{times, Once}
-use Rattle.basis.proofs.Count.{times-none, count-cong, count-map, count-filter, count-length, length-filter}
+use Rattle.basis.proofs.Count.{count-cong, count-map, count-filter, count-length, length-filter}
 use Rattle.basis.proofs.Index.{getD-map-upFrom, memb-getD}
 use Rattle.basis.proofs.Lists.{filter-in, filter-make, filter-again, map-cong, map-map, memb-map, upFrom-make, length-upFrom}
-use Rattle.basis.proofs.Logic.{by-test, clash, fails, eqb-sym}
+use Rattle.basis.proofs.Logic.{by-test, clash, eqb-sym}
 use Rattle.basis.proofs.Rise.{rise-once}
 use Rattle.spec.specs.Combined.{LevelPairs, mirrored, levelPairs, settled, settledLevels, countAt}
 use Rattle.spec.specs.Ends.{Ends, depthAt}
@@ -26,8 +26,8 @@ use Rattle.laws.proofs.Legal.{node-in}
 use Rattle.laws.proofs.Levels.{level-most, part-level, level-part, part-node, part-same}
 use Rattle.laws.proofs.Parts.{part-rises}
 use Rattle.combining.specs.Tally.{tally}
-use Rattle.combining.specs.Model.{nodeAt, queued, numberAt, slotOf, slots, written, Countable}
-use Rattle.combining.proofs.Counting.{slots-in, slots-inside, counts-tally}
+use Rattle.combining.specs.Model.{nodeAt, queued, numberAt, countOf, slotOf, slotAt, slots, written, Readable, Countable}
+use Rattle.combining.proofs.Counting.{slot-low, slot-high, slots-inside, tally-front, tally-behind}
 use Rattle.combining.proofs.Tally.{getD-tally, length-tally}
 use Rattle.piecing.specs.Given.{Entry}
 use Rattle.piecing.specs.Members.{Members, Turnable, settledAt, stored, turnedAt}
@@ -99,10 +99,10 @@ module _ {g : Graph} {z : ℕ} {e : Ends} {n from to : ℕ} {W L : List ℕ} (A 
       go zero c = c
       go (suc i) c = clash (ap (memb q) (sym (part-same G w (A .node) m)) ∙ level-part G (part-node G (A .node) w m) q (omega arith)) o
 
-  x-is : (q : ℕ) → Node g q → X q ≡ levelOf (levels g (e .v)) q
+  pub x-is : (q : ℕ) → Node g q → X q ≡ levelOf (levels g (e .v)) q
   x-is q N = first-number g e q N
 
-  y-is : (q : ℕ) → Node g q → Y q ≡ mirrored k (levelOf (levels g (e .u)) q)
+  pub y-is : (q : ℕ) → Node g q → Y q ≡ mirrored k (levelOf (levels g (e .u)) q)
   y-is q N = second-number g e q N
 
   pub x-range : (q : ℕ) → memb q (part g z) ≡ true → (1 ≤ X q) × (X q ≤ k)
@@ -127,9 +127,9 @@ module _ {g : Graph} {z : ℕ} {e : Ends} {n from to : ℕ} {W L : List ℕ} (A 
   m-once : Once M
   m-once = subst Once (sym (A .members)) (rise-once (part g z) (part-rises g z))
 
-  member-word : (i : ℕ) → from ≤ i → i < to → memb (getD W (5 * n + i) 0) (part g z) ≡ true
+  member-word : (i : ℕ) → from ≤ i → i < to → memb (getD W (4 * n + i) 0) (part g z) ≡ true
   member-word i l h =
-      sym (m-part (getD W (5 * n + i) 0)) ∙ memb-map (λ j. getD W (5 * n + j) 0) (upFrom from (to - from)) i (upFrom-make from (to - from) i l (omega arith))
+      sym (m-part (getD W (4 * n + i) 0)) ∙ memb-map (λ j. getD W (4 * n + j) 0) (upFrom from (to - from)) i (upFrom-make from (to - from) i l (omega arith))
 
   pub members-at : Members n from to W
   members-at = record {
@@ -138,8 +138,8 @@ module _ {g : Graph} {z : ℕ} {e : Ends} {n from to : ℕ} {W L : List ℕ} (A 
     most = A .most;
     words = A .words;
     once = m-once;
-    low = λ i l h. part-is-node (getD W (5 * n + i) 0) (member-word i l h) .low;
-    high = λ i l h. omega (arith, part-is-node (getD W (5 * n + i) 0) (member-word i l h) .high, A .is);
+    low = λ i l h. part-is-node (getD W (4 * n + i) 0) (member-word i l h) .low;
+    high = λ i l h. omega (arith, part-is-node (getD W (4 * n + i) 0) (member-word i l h) .high, A .is);
   }
 
   pub turnable : Turnable n from to k W
@@ -186,8 +186,8 @@ module _ {g : Graph} {z : ℕ} {e : Ends} {n from to : ℕ} {W L : List ℕ} (A 
       (λ m. rw m (A .seconds q N ∙ out-level (e .u) q (A .ends .u-part) (sym (m-part q) ∙ m) ∙ sym (y-out q N (sym (m-part q) ∙ m))))
 
   -- the members are the same wherever these words are
-  pub same-members : (U : List ℕ) → ((i : ℕ) → 5 * n ≤ i → getD U i 0 ≡ getD W i 0) → membersOf n from to U ≡ M
-  same-members U h = map-cong (λ i. getD U (5 * n + i) 0) (λ i. getD W (5 * n + i) 0) (upFrom from (to - from)) (λ i m. h (5 * n + i) (omega arith))
+  pub same-members : (U : List ℕ) → ((i : ℕ) → 4 * n ≤ i → getD U i 0 ≡ getD W i 0) → membersOf n from to U ≡ M
+  same-members U h = map-cong (λ i. getD U (4 * n + i) 0) (λ i. getD W (4 * n + i) 0) (upFrom from (to - from)) (λ i m. h (4 * n + i) (omega arith))
 
   one-members : membersOf n from to W₁ ≡ M
   one-members = same-members W₁ (λ i h. one-high i (omega arith))
@@ -201,8 +201,8 @@ module _ {g : Graph} {z : ℕ} {e : Ends} {n from to : ℕ} {W L : List ℕ} (A 
         most = B .most;
         words = omega (arith, B .words, one-size);
         once = subst Once (sym one-members) m-once;
-        low = λ i l h. rw (one-high (5 * n + i) (omega arith)) (B .low i l h);
-        high = λ i l h. rw (one-high (5 * n + i) (omega arith)) (B .high i l h);
+        low = λ i l h. rw (one-high (4 * n + i) (omega arith)) (B .low i l h);
+        high = λ i l h. rw (one-high (4 * n + i) (omega arith)) (B .high i l h);
       }
 
   -- ---- the settled nodes
@@ -224,7 +224,7 @@ module _ {g : Graph} {z : ℕ} {e : Ends} {n from to : ℕ} {W L : List ℕ} (A 
   z-make q p s = filter-make (settledAt n W₁) (membersOf n from to W₁) q (ap (memb q) one-members ∙ m-part q ∙ p) (settled-one q (part-is-node q p) ∙ s)
 
   pub z-few : length Z ≤ n
-  z-few = omega (arith, length-filter (settledAt n W₁) (membersOf n from to W₁), count-length (settledAt n W₁) (membersOf n from to W₁), length-map (upFrom from (to - from)) (λ i. getD W₁ (5 * n + i) 0), length-upFrom from (to - from), A .most, A .order)
+  z-few = omega (arith, length-filter (settledAt n W₁) (membersOf n from to W₁), count-length (settledAt n W₁) (membersOf n from to W₁), length-map (upFrom from (to - from)) (λ i. getD W₁ (4 * n + i) 0), length-upFrom from (to - from), A .most, A .order)
 
   abbrev pub W₂ : List ℕ
   W₂ = sets W₁ n Z
@@ -260,23 +260,26 @@ module _ {g : Graph} {z : ℕ} {e : Ends} {n from to : ℕ} {W L : List ℕ} (A 
   two-second : (q : ℕ) → Node g q → numberAt (2 * n) W₂ q ≡ Y q
   two-second q N = two-high (2 * n + q - 1) (omega (arith, N .low)) ∙ one-second q N
 
-  two-counts : (i : ℕ) → 4 * n ≤ i → i < 5 * n → getD W₂ i 0 ≡ 0
+  two-counts : (i : ℕ) → 3 * n ≤ i → i < 4 * n → getD W₂ i 0 ≡ 0
   two-counts i l h = two-high i (omega arith) ∙ one-high i (omega arith) ∙ A .counts i l h
+
+  readable-two : Readable n 0 0 (length Z) W₂
+  readable-two = record {
+    order = omega arith;
+    most = z-few;
+    few = A .few;
+    room = omega (arith, two-size, A .words);
+    inside = omega arith;
+    node-low = λ p l h. part-is-node (nodeAt n W₂ p) (z-in (nodeAt n W₂ p) (z-at p h) .0) .low;
+    node-high = λ p l h. omega (arith, part-is-node (nodeAt n W₂ p) (z-in (nodeAt n W₂ p) (z-at p h) .0) .high, A .is);
+    number-low = λ p l h. let m = z-in (nodeAt n W₂ p) (z-at p h) .0 in omega (arith, two-first (nodeAt n W₂ p) (part-is-node (nodeAt n W₂ p) m), x-range (nodeAt n W₂ p) m .0);
+    number-high = λ p l h. let m = z-in (nodeAt n W₂ p) (z-at p h) .0 in omega (arith, two-first (nodeAt n W₂ p) (part-is-node (nodeAt n W₂ p) m), x-range (nodeAt n W₂ p) m .1, A .deep);
+  }
 
   pub countable-two : Countable n 0 0 (length Z) W₂
   countable-two = record {
-    read = record {
-      order = omega arith;
-      most = z-few;
-      few = A .few;
-      room = omega (arith, two-size, A .words);
-      inside = omega arith;
-      node-low = λ p l h. part-is-node (nodeAt n W₂ p) (z-in (nodeAt n W₂ p) (z-at p h) .0) .low;
-      node-high = λ p l h. omega (arith, part-is-node (nodeAt n W₂ p) (z-in (nodeAt n W₂ p) (z-at p h) .0) .high, A .is);
-      number-low = λ p l h. let m = z-in (nodeAt n W₂ p) (z-at p h) .0 in omega (arith, two-first (nodeAt n W₂ p) (part-is-node (nodeAt n W₂ p) m), x-range (nodeAt n W₂ p) m .0);
-      number-high = λ p l h. let m = z-in (nodeAt n W₂ p) (z-at p h) .0 in omega (arith, two-first (nodeAt n W₂ p) (part-is-node (nodeAt n W₂ p) m), x-range (nodeAt n W₂ p) m .1, A .deep);
-    };
-    small = λ i l h. omega (arith, two-counts i l h, z-few, A .few);
+    read = readable-two;
+    small = λ p l h. omega (arith, two-counts (slotAt n 0 W₂ p) (slot-low readable-two p l h) (slot-high readable-two p l h), z-few, A .few);
   }
 
   -- ---- placed
@@ -293,21 +296,18 @@ module _ {g : Graph} {z : ℕ} {e : Ends} {n from to : ℕ} {W L : List ℕ} (A 
   pub three-size : length W₃ ≡ length W
   three-size = length-tally W₂ sl ∙ two-size
 
-  pub three-front : (i : ℕ) → i < 4 * n → getD W₃ i 0 ≡ getD W₂ i 0
-  three-front = counts-tally (countable-two .read) .front
+  pub three-front : (i : ℕ) → i + k < 4 * n → getD W₃ i 0 ≡ getD W₂ i 0
+  three-front = tally-front readable-two k (λ p l h. let m = z-in (nodeAt n W₂ p) (z-at p h) .0 in
+      omega (arith, two-first (nodeAt n W₂ p) (part-is-node (nodeAt n W₂ p) m), x-range (nodeAt n W₂ p) m .1))
 
-  pub three-behind : (i : ℕ) → 5 * n ≤ i → getD W₃ i 0 ≡ getD W i 0
-  three-behind i h =
-      let a = getD-tally W₂ sl i (slots-inside (countable-two .read)) in
-      let t = times-none i sl (fails (memb i sl) (λ m. omega (arith, slots-in (countable-two .read) i m .1))) in
-      let b : getD W₃ i 0 ≡ getD W₂ i 0 = omega arith in
-      b ∙ two-high i (omega arith) ∙ one-high i (omega arith)
+  pub three-behind : (i : ℕ) → 4 * n ≤ i → getD W₃ i 0 ≡ getD W i 0
+  three-behind i h = tally-behind readable-two i h ∙ two-high i (omega arith) ∙ one-high i (omega arith)
 
   pub three-first : (q : ℕ) → Node g q → numberAt 0 W₃ q ≡ X q
-  three-first q N = three-front (0 + q - 1) (omega (arith, N .low, N .high, A .is)) ∙ two-first q N
+  three-first q N = three-front (0 + q - 1) (omega (arith, N .low, N .high, A .is, A .deep)) ∙ two-first q N
 
   pub three-second : (q : ℕ) → Node g q → numberAt (2 * n) W₃ q ≡ Y q
-  three-second q N = three-front (2 * n + q - 1) (omega (arith, N .low, N .high, A .is)) ∙ two-second q N
+  three-second q N = three-front (2 * n + q - 1) (omega (arith, N .low, N .high, A .is, A .deep)) ∙ two-second q N
 
   pub level-three : (q : ℕ) → Node g q → at L₃ q ≡ cond (memb q Z) (X q) (at L q)
   level-three q N =
@@ -316,14 +316,14 @@ module _ {g : Graph} {z : ℕ} {e : Ends} {n from to : ℕ} {W L : List ℕ} (A 
       ∙ ap (λ (x : ℕ). cond (memb q Z) x (at L q)) (two-first q N)
 
   -- the counts are those of the settled levels
-  pub three-counts : (i : ℕ) → 1 ≤ i → i ≤ n → getD W₃ (4 * n + i - 1) 0 ≡ countAt (settledLevels g pr) i
+  pub three-counts : (i : ℕ) → 1 ≤ i → i ≤ n → countOf n W₃ i ≡ countAt (settledLevels g pr) i
   three-counts i l h =
-      let a = getD-tally W₂ sl (4 * n + i - 1) (slots-inside (countable-two .read)) in
-      let b : times (4 * n + i - 1) sl ≡ countb (λ y. eqb (X y) i) Z =
-      ap (times (4 * n + i - 1)) (sym (map-map (slotOf n 0 W₂) (nodeAt n W₂) (upFrom 0 (length Z - 0))) ∙ ap (map (slotOf n 0 W₂)) queue-is)
-      ∙ named-by n 0 W₂ Z (pr .firsts) (λ y m. let p = z-in y m .0 in (two-first y (part-is-node y p), x-range y p .0)) i l in
+      let a = getD-tally W₂ sl (4 * n - i) (slots-inside readable-two) in
+      let b : times (4 * n - i) sl ≡ countb (λ y. eqb (X y) i) Z =
+      ap (times (4 * n - i)) (sym (map-map (slotOf n 0 W₂) (nodeAt n W₂) (upFrom 0 (length Z - 0))) ∙ ap (map (slotOf n 0 W₂)) queue-is)
+      ∙ named-by n 0 W₂ Z (pr .firsts) (λ y m. let p = z-in y m .0 in (two-first y (part-is-node y p), omega (arith, x-range y p .1, A .deep))) i h in
       let c = settled-count i l in
-      omega (arith, two-counts (4 * n + i - 1) (omega arith) (omega arith))
+      omega (arith, two-counts (4 * n - i) (omega arith) (omega arith))
     where
       settled-count : (i : ℕ) → 1 ≤ i → countb (λ y. eqb (X y) i) Z ≡ countAt (settledLevels g pr) i
       settled-count i l =

@@ -45,17 +45,17 @@ pub blank-done : {a count : ℕ} {W U : List ℕ} {i : ℕ} → Blanking a count
 blank-done {a} {count} {W} {U} {i} I h = let e : i ≡ count = omega (arith, I .most) in I .on ∙ ap (λ (j : ℕ). sets W a (replicate j 0)) e
 
 -- such a run: 0 inside, as before outside
-run-in : (W : List ℕ) (a c i : ℕ) → a + c ≤ length W → a ≤ i → i < a + c → getD (sets W a (replicate c 0)) i 0 ≡ 0
+pub run-in : (W : List ℕ) (a c i : ℕ) → a + c ≤ length W → a ≤ i → i < a + c → getD (sets W a (replicate c 0)) i 0 ≡ 0
 run-in W a c i r l h =
     let e : i ≡ a + (i - a) = omega arith in
     ap (λ (j : ℕ). getD (sets W a (replicate c 0)) j 0) e
     ∙ sets-at W a (replicate c 0) (i - a) (omega (arith, length-replicate {A = ℕ} c 0)) (omega (arith, length-replicate {A = ℕ} c 0))
     ∙ getD-replicate c (i - a) 0 0 (omega arith)
 
-run-before : (W : List ℕ) (a c i : ℕ) → i < a → getD (sets W a (replicate c 0)) i 0 ≡ getD W i 0
+pub run-before : (W : List ℕ) (a c i : ℕ) → i < a → getD (sets W a (replicate c 0)) i 0 ≡ getD W i 0
 run-before W a c i h = sets-before W a (replicate c 0) i h
 
-run-behind : (W : List ℕ) (a c i : ℕ) → a + c ≤ i → getD (sets W a (replicate c 0)) i 0 ≡ getD W i 0
+pub run-behind : (W : List ℕ) (a c i : ℕ) → a + c ≤ i → getD (sets W a (replicate c 0)) i 0 ≡ getD W i 0
 run-behind W a c i h = sets-behind W a (replicate c 0) i (omega (arith, length-replicate {A = ℕ} c 0))
 
 -- ---- the words of a cleared list
@@ -94,7 +94,7 @@ module _ {n from to k : ℕ} {W : List ℕ} (A : Clearable n from to k W) where
   one-behind i h = stored-other 0 n nought W M range i (λ z l r e. omega arith)
 
   one-members : membersOf n from to U₁ ≡ M
-  one-members = map-cong (λ i. getD U₁ (5 * n + i) 0) (λ i. getD W (5 * n + i) 0) (upFrom from (to - from)) (λ i m. one-behind (5 * n + i) (omega arith))
+  one-members = map-cong (λ i. getD U₁ (4 * n + i) 0) (λ i. getD W (4 * n + i) 0) (upFrom from (to - from)) (λ i m. one-behind (4 * n + i) (omega arith))
 
   -- the members are still there
   pub members-one : Members n from to U₁
@@ -106,8 +106,8 @@ module _ {n from to k : ℕ} {W : List ℕ} (A : Clearable n from to k W) where
         most = B .most;
         words = omega (arith, B .words, one-size);
         once = subst Once (sym one-members) (B .once);
-        low = λ i l h. rw (one-behind (5 * n + i) (omega arith)) (B .low i l h);
-        high = λ i l h. rw (one-behind (5 * n + i) (omega arith)) (B .high i l h);
+        low = λ i l h. rw (one-behind (4 * n + i) (omega arith)) (B .low i l h);
+        high = λ i l h. rw (one-behind (4 * n + i) (omega arith)) (B .high i l h);
       }
 
   abbrev pub U₂ : List ℕ
@@ -132,17 +132,17 @@ module _ {n from to k : ℕ} {W : List ℕ} (A : Clearable n from to k W) where
   four-size = length-sets U₃ (3 * n) (replicate c 0) ∙ three-size
 
   abbrev U₅ : List ℕ
-  U₅ = sets U₄ (4 * n) (replicate k 0)
+  U₅ = sets U₄ (4 * n - k) (replicate k 0)
 
   five-size : length U₅ ≡ length W
-  five-size = length-sets U₄ (4 * n) (replicate k 0) ∙ four-size
+  five-size = length-sets U₄ (4 * n - k) (replicate k 0) ∙ four-size
 
-  -- the five areas
+  -- the four areas
   first-area : (i : ℕ) → i < n → getD U₅ i 0 ≡ 0
   first-area i h =
       let e : i ≡ 0 + (i + 1) - 1 = omega arith in
       let d : 0 + (i + 1) - 1 ≡ i + 1 - 1 = omega arith in
-      run-before U₄ (4 * n) k i (omega arith) ∙ run-before U₃ (3 * n) c i (omega arith) ∙ run-before U₂ n c i h ∙ two-other i (λ z l r q. omega arith)
+      run-before U₄ (4 * n - k) k i (omega (arith, A .deep)) ∙ run-before U₃ (3 * n) c i (omega arith) ∙ run-before U₂ n c i h ∙ two-other i (λ z l r q. omega arith)
       ∙ ap (λ (j : ℕ). getD U₁ j 0) e
       ∙ stored-at 0 nought W M (λ z m. range z m .0) (i + 1) (omega arith) (omega (arith, A .members .words))
       ∙ by-test (memb (i + 1) M) (λ m. rw m)
@@ -150,7 +150,7 @@ module _ {n from to k : ℕ} {W : List ℕ} (A : Clearable n from to k W) where
 
   queue-area : (i : ℕ) → n ≤ i → i < 2 * n → getD U₅ i 0 ≡ 0
   queue-area i l h =
-      run-before U₄ (4 * n) k i (omega arith) ∙ run-before U₃ (3 * n) c i (omega arith) ∙ ⊎-elim
+      run-before U₄ (4 * n - k) k i (omega (arith, A .deep)) ∙ run-before U₃ (3 * n) c i (omega arith) ∙ ⊎-elim
       (λ a. run-in U₂ n c i (omega (arith, two-size, A .members .words, A .members .most)) l a)
       (λ a. run-behind U₂ n c i a ∙ two-other i (λ z b r q. omega arith) ∙ one-behind i l ∙ A .queue i a h)
       (lt-or-le i (n + c))
@@ -159,43 +159,36 @@ module _ {n from to k : ℕ} {W : List ℕ} (A : Clearable n from to k W) where
   second-area i l h =
       let q : ℕ = i - 2 * n + 1 in
       let e : i ≡ 2 * n + q - 1 = omega arith in
-      run-before U₄ (4 * n) k i (omega arith) ∙ run-before U₃ (3 * n) c i h ∙ run-behind U₂ n c i (omega (arith, A .members .most))
+      run-before U₄ (4 * n - k) k i (omega (arith, A .deep)) ∙ run-before U₃ (3 * n) c i h ∙ run-behind U₂ n c i (omega (arith, A .members .most))
       ∙ ap (λ (j : ℕ). getD U₂ j 0) e
       ∙ stored-at (2 * n) nought U₁ (membersOf n from to U₁) (λ z m. range z (sym (ap (memb z) one-members) ∙ m) .0) q (omega arith) (omega (arith, one-size, A .members .words))
       ∙ by-test (memb q (membersOf n from to U₁)) (λ m. rw m)
       (λ m. rw m (one-behind (2 * n + q - 1) (omega arith) ∙ A .seconds q (omega arith) (omega arith) (sym (ap (memb q) one-members) ∙ m)))
 
   starts-area : (i : ℕ) → 3 * n ≤ i → i < 4 * n → getD U₅ i 0 ≡ 0
-  starts-area i l h =
-      run-before U₄ (4 * n) k i h ∙ ⊎-elim
-      (λ a. run-in U₃ (3 * n) c i (omega (arith, three-size, A .members .words, A .members .most)) l a)
-      (λ a. run-behind U₃ (3 * n) c i a ∙ run-behind U₂ n c i (omega (arith, A .members .most)) ∙ two-other i (λ z b r q. omega arith) ∙ one-behind i (omega arith) ∙ A .starts i a h)
-      (lt-or-le i (3 * n + c))
+  starts-area i l h = ⊎-elim
+      (λ a. run-before U₄ (4 * n - k) k i a ∙ ⊎-elim
+      (λ b. run-in U₃ (3 * n) c i (omega (arith, three-size, A .members .words, A .members .most)) l b)
+      (λ b. run-behind U₃ (3 * n) c i b ∙ run-behind U₂ n c i (omega (arith, A .members .most)) ∙ two-other i (λ z d r q. omega arith) ∙ one-behind i (omega arith) ∙ A .starts i b (omega arith))
+      (lt-or-le i (3 * n + c)))
+      (λ a. run-in U₄ (4 * n - k) k i (omega (arith, four-size, A .members .words, A .deep)) a (omega (arith, A .deep)))
+      (lt-or-le i (4 * n - k))
 
-  counts-area : (i : ℕ) → 4 * n ≤ i → i < 5 * n → getD U₅ i 0 ≡ 0
-  counts-area i l h = ⊎-elim
-      (λ a. run-in U₄ (4 * n) k i (omega (arith, four-size, A .members .words, A .deep)) l a)
-      (λ a. run-behind U₄ (4 * n) k i a ∙ old i (omega arith) ∙ A .counts i a h)
-      (lt-or-le i (4 * n + k))
-    where
-      old : (i : ℕ) → 4 * n ≤ i → getD U₄ i 0 ≡ getD W i 0
-      old i l = run-behind U₃ (3 * n) c i (omega (arith, A .members .most)) ∙ run-behind U₂ n c i (omega (arith, A .members .most)) ∙ two-other i (λ z b r q. omega arith) ∙ one-behind i (omega arith)
-
-  behind : (i : ℕ) → 5 * n ≤ i → getD U₅ i 0 ≡ getD W i 0
+  behind : (i : ℕ) → 4 * n ≤ i → getD U₅ i 0 ≡ getD W i 0
   behind i l =
-      run-behind U₄ (4 * n) k i (omega (arith, A .deep)) ∙ run-behind U₃ (3 * n) c i (omega (arith, A .members .most)) ∙ run-behind U₂ n c i (omega (arith, A .members .most))
+      run-behind U₄ (4 * n - k) k i (omega (arith, A .deep)) ∙ run-behind U₃ (3 * n) c i (omega (arith, A .members .most)) ∙ run-behind U₂ n c i (omega (arith, A .members .most))
       ∙ two-other i (λ z b r q. omega arith) ∙ one-behind i (omega arith)
 
-  low : (i : ℕ) → i < 5 * n → getD U₅ i 0 ≡ 0
-  low i h = ⊎-elim (first-area i) (λ a. ⊎-elim (queue-area i a) (λ b. ⊎-elim (second-area i b) (λ d. ⊎-elim (starts-area i d) (λ f. counts-area i f h) (lt-or-le i (4 * n))) (lt-or-le i (3 * n))) (lt-or-le i (2 * n))) (lt-or-le i n)
+  low : (i : ℕ) → i < 4 * n → getD U₅ i 0 ≡ 0
+  low i h = ⊎-elim (first-area i) (λ a. ⊎-elim (queue-area i a) (λ b. ⊎-elim (second-area i b) (λ d. starts-area i d h) (lt-or-le i (3 * n))) (lt-or-le i (2 * n))) (lt-or-le i n)
 
-  pub tidied : U₅ ≡ zeroed (5 * n) W
-  tidied = ext-getD 0 U₅ (zeroed (5 * n) W) (five-size ∙ sym (zeroed-length (5 * n) W (omega (arith, A .members .words))))
+  pub tidied : U₅ ≡ zeroed (4 * n) W
+  tidied = ext-getD 0 U₅ (zeroed (4 * n) W) (five-size ∙ sym (zeroed-length (4 * n) W (omega (arith, A .members .words))))
       (λ i l. ⊎-elim
-      (λ a. low i a ∙ sym (zeroed-low (5 * n) W i a))
-      (λ a. behind i a ∙ sym (zeroed-high (5 * n) W i a))
-      (lt-or-le i (5 * n)))
+      (λ a. low i a ∙ sym (zeroed-low (4 * n) W i a))
+      (λ a. behind i a ∙ sym (zeroed-high (4 * n) W i a))
+      (lt-or-le i (4 * n)))
 
   -- room for the last three
-  pub rooms : (n + c ≤ length U₂) × (3 * n + c ≤ length U₃) × (4 * n + k ≤ length U₄)
+  pub rooms : (n + c ≤ length U₂) × (3 * n + c ≤ length U₃) × (4 * n - k + k ≤ length U₄)
   rooms = (omega (arith, two-size, A .members .words, A .members .most), omega (arith, three-size, A .members .words, A .members .most), omega (arith, four-size, A .members .words, A .deep))

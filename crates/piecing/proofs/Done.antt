@@ -63,8 +63,8 @@ module _ {g : Graph} {n from to : ℕ} {W₀ L₀ W L : List ℕ} {tail m i : �
       let r : tail ≤ n = omega (arith, I .seek .room) in
       record {
         most = omega (arith, I .count);
+        less = omega (arith, I .count, I .spare);
         queue = λ k l h. I .queue k (omega (arith, I .spare)) h;
-        starts = λ k l h. I .starts k (omega (arith, I .spare, I .count)) h;
         each = λ k h. record {
           few = I .seek .few;
           words = I .seek .words;

@@ -1,19 +1,18 @@
 -- The combined levels and their counts stand in the words and the levels, and what is asked before the words are cleared. Assumes nothing.
 use mathlib.Core.Path.{_≡_, refl, sym, ap, _∙_, subst}
+use mathlib.Core.Logic.{⊎-elim}
 use mathlib.Core.Bool.{Bool, true, false, cond}
 use mathlib.Core.List.{List, [], _∷_, map}
 use Prim.Native.Nat.{ℕ, zero, suc, _+_, _-_, _*_, _≤_, _<_}
 use native.Mathlib.Omega.{arith}
-use lib.ListN.{length, getD, length-map, take}
-use lib.Seq.{slice, ext-getD, length-slice, getD-take, getD-drop}
-use lib.Dec.{eqb, ltb}
-use borrow.Author.Tests.{ne-eqb}
-use Rattle.basis.specs.Lists.{countb, anyb, memb, upFrom, greatest, All}
+use lib.ListN.{length, getD, length-map, take, replicate}
+use lib.Seq.{sets, length-sets, getD-take, getD-drop}
+use lib.Dec.{ltb}
+use Rattle.basis.specs.Lists.{anyb, memb, upFrom, greatest, All}
 use Rattle.basis.specs.Perm.{Once}
-use Rattle.basis.proofs.Count.{count-map, count-none, length-filter, count-length}
-use Rattle.basis.proofs.Index.{getD-map-upFrom}
-use Rattle.basis.proofs.Lists.{filter-in, length-upFrom}
-use Rattle.basis.proofs.Logic.{by-test, clash, fails, or-neither}
+use Rattle.basis.proofs.Count.{length-filter, count-length}
+use Rattle.basis.proofs.Lists.{filter-in, map-cong, upFrom-in, length-upFrom}
+use Rattle.basis.proofs.Logic.{by-test, clash, fails, or-neither, lt-or-le}
 use Rattle.spec.specs.Combined.{LevelPairs, levelPairs, settled, settledLevels, pieces, countAt, combined, widthOf}
 use Rattle.spec.specs.Ends.{Ends, ends, depthAt}
 use Rattle.spec.specs.Graph.{Graph, nodes, ofNode}
@@ -22,15 +21,17 @@ use Rattle.laws.specs.Legal.{Node, LegalGraph}
 use Rattle.laws.specs.Structure.{EndsOf}
 use Rattle.laws.proofs.Combined.{combined-of}
 use Rattle.laws.proofs.Ends.{ends-of}
-use Rattle.laws.proofs.Legal.{node-in, ofNode-map, as-map, by-node, length-nodes}
+use Rattle.laws.proofs.Legal.{node-in, ofNode-map, by-node, length-nodes}
 use Rattle.laws.proofs.Levels.{levelList-at, depth-most}
 use Rattle.laws.proofs.Pieces.{settled-apart, some-piece}
+use Rattle.combining.specs.Model.{countOf}
 use Rattle.piecing.specs.Given.{Entry, Levelled, Given, firstOf, endsOf, merged}
 use Rattle.piecing.specs.Members.{Clearable, settledAt}
 use Rattle.piecing.specs.Placed.{wordsAfter, levelsAfter}
 use Rattle.piecing.specs.Seek.{at, looseAt}
 use Rattle.piecing.specs.Starts.{startsOf, membersOf, Found}
 use Rattle.piecing.proofs.Begin.{W₁, W₃, L₃, Z, part-is-node, x-out, y-out, z-in, z-make, m-part, same-members, members-at, three-size, three-behind, three-front, three-first, three-second, level-three, one-low, one-high, two-high}
+use Rattle.piecing.proofs.Clearing.{run-in, run-before, run-behind}
 use Rattle.piecing.proofs.Folding.{After}
 use Rattle.piecing.proofs.Start.{settled-out, loose-three, levels-three, after}
 use Rattle.piecing.proofs.Storing.{member-in}
@@ -55,10 +56,10 @@ module _ {g : Graph} {z : ℕ} {e : Ends} {n from to : ℕ} {W L : List ℕ} (A 
   pr = levelPairs g e
 
   z-less : length (Z A) ≤ to - from
-  z-less = omega (arith, length-filter (settledAt n (W₁ A)) (membersOf n from to (W₁ A)), count-length (settledAt n (W₁ A)) (membersOf n from to (W₁ A)), length-map (upFrom from (to - from)) (λ i. getD (W₁ A) (5 * n + i) 0), length-upFrom from (to - from))
+  z-less = omega (arith, length-filter (settledAt n (W₁ A)) (membersOf n from to (W₁ A)), count-length (settledAt n (W₁ A)) (membersOf n from to (W₁ A)), length-map (upFrom from (to - from)) (λ i. getD (W₁ A) (4 * n + i) 0), length-upFrom from (to - from))
 
   module _ {W₄ L₄ : List ℕ} {m : ℕ} (F : Found g n (to - from) (looseAt n (W₃ A)) (W₃ A) (L₃ A) W₄ L₄ m) {narrow : Bool} (w : narrow ≡ ltb (e .widthU) (e .widthV)) where
-    R : After g e pr n narrow (startsOf n m W₄) (pieces g pr) W₄ L₄ (settledLevels g pr)
+    R : After g e pr n (n - m) narrow (startsOf n m W₄) (pieces g pr) W₄ L₄ (settledLevels g pr)
     R = after A F narrow w
 
     -- a settled node has kept its level since it was placed
@@ -74,17 +75,17 @@ module _ {g : Graph} {z : ℕ} {e : Ends} {n from to : ℕ} {W L : List ℕ} (A 
       room = R .levels-size ∙ F .levels ∙ levels-three A;
       first-out = λ q N o.
           let i : 0 + q - 1 ≡ q - 1 = omega arith in
-          R .front (q - 1) (omega (arith, N .low, N .high, A .is)) ∙ F .beside .firsts (q - 1) (omega (arith, N .low, N .high, A .is))
+          R .front (q - 1) (omega (arith, N .low, N .high, A .is, A .deep)) ∙ F .beside .firsts (q - 1) (omega (arith, N .low, N .high, A .is))
           ∙ sym (ap (λ (j : ℕ). getD (W₃ A) j 0) i) ∙ three-first A q N ∙ x-out A q N o;
       second-out = λ q N o.
-          R .front (2 * n + q - 1) (omega (arith, N .low, N .high, A .is)) ∙ F .beside .seconds (2 * n + q - 1) (omega (arith, N .low)) (omega (arith, N .low, N .high, A .is))
+          R .front (2 * n + q - 1) (omega (arith, N .low, N .high, A .is, A .deep)) ∙ F .beside .seconds (2 * n + q - 1) (omega (arith, N .low)) (omega (arith, N .low, N .high, A .is))
           ∙ three-second A q N ∙ y-out A q N o;
       queue = λ i l h.
-          R .front i (omega arith) ∙ F .queue i l h ∙ three-front A i (omega arith)
+          R .front i (omega (arith, A .deep)) ∙ F .queue i l h ∙ three-front A i (omega (arith, A .deep))
           ∙ sets-behind (W₁ A) n (Z A) i (omega (arith, z-less)) ∙ one-low A i h;
-      starts = λ i l h. R .front i h ∙ F .starts i l h ∙ three-front A i h ∙ two-high A i (omega arith) ∙ one-high A i (omega arith);
+      starts = λ i l h. R .front i h ∙ F .beside .behind i (omega (arith, F .less)) ∙ three-front A i h ∙ two-high A i (omega arith) ∙ one-high A i (omega arith);
       counts = λ i l h. R .laid .counts i l h;
-      behind = λ i l. R .behind i l ∙ F .beside .behind i (omega arith) ∙ three-behind A i l;
+      behind = λ i l. R .behind i l ∙ F .beside .behind i (omega (arith, F .most)) ∙ three-behind A i l;
       inside = λ q p.
           let N = part-is-node A q p in
           by-test (anyb (memb q) (pieces g pr))
@@ -103,22 +104,8 @@ module _ {g : Graph} {z : ℕ} {e : Ends} {n from to : ℕ} {W L : List ℕ} (A 
     members-same : membersOf n from to W′ ≡ membersOf n from to W
     members-same = same-members A W′ (K .behind)
 
-    -- past level k nothing counts
-    beyond : (j : ℕ) → e .k < j → countAt (combined g e) j ≡ 0
-    unfolding countAt
-    beyond j h =
-        let S = combined-of (A .graph) (A .node) (A .ends) in
-        ap (countb (eqb j)) (sym (as-map g (combined g e) (S .size))) ∙ count-map (eqb j) (ofNode (combined g e)) (nodes g)
-        ∙ count-none (λ q. eqb j (ofNode (combined g e) q)) (nodes g)
-        (λ q a.
-        let N = node-in g q a in
-        ne-eqb j (ofNode (combined g e) q) (λ x. by-test (memb q (part g z))
-        (λ p. omega (arith, S .most q p))
-        (λ p. omega (arith, S .outside q N p))))
-
-    pub clearable : ((i : ℕ) → n + (to - from) ≤ i → i < 2 * n → getD W i 0 ≡ 0) → ((i : ℕ) → 3 * n + (to - from) ≤ i → i < 4 * n → getD W i 0 ≡ 0)
-        → Clearable n from to (e .k) W′
-    clearable qv qu =
+    pub clearable : ((i : ℕ) → n + (to - from) ≤ i → i < 2 * n → getD W i 0 ≡ 0) → Clearable n from to (e .k) W′
+    clearable qv =
         let B = members-at A in
         record {
           members = record {
@@ -127,32 +114,21 @@ module _ {g : Graph} {z : ℕ} {e : Ends} {n from to : ℕ} {W L : List ℕ} (A 
             most = B .most;
             words = omega (arith, B .words, K .words);
             once = subst Once (sym members-same) (B .once);
-            low = λ i l h. rw (K .behind (5 * n + i) (omega arith)) (B .low i l h);
-            high = λ i l h. rw (K .behind (5 * n + i) (omega arith)) (B .high i l h);
+            low = λ i l h. rw (K .behind (4 * n + i) (omega arith)) (B .low i l h);
+            high = λ i l h. rw (K .behind (4 * n + i) (omega arith)) (B .high i l h);
           };
           deep = A .deep;
           firsts = λ q l h o. K .first-out q (record { low = l; high = omega (arith, A .is) }) (sym (m-part A q) ∙ sym (ap (memb q) members-same) ∙ o);
           seconds = λ q l h o. K .second-out q (record { low = l; high = omega (arith, A .is) }) (sym (m-part A q) ∙ sym (ap (memb q) members-same) ∙ o);
           queue = λ i l h. K .queue i l h ∙ qv i l h;
-          starts = λ i l h. K .starts i l h ∙ qu i l h;
-          counts = λ i l h.
-              let j : ℕ = i - 4 * n + 1 in
-              let q : i ≡ 4 * n + j - 1 = omega arith in
-              ap (λ (x : ℕ). getD W′ x 0) q ∙ K .counts j (omega arith) (omega arith) ∙ beyond j (omega arith);
+          starts = λ i l h. K .starts i l h ∙ A .counts i (omega arith) (omega arith);
         }
 
     -- the greatest count
-    pub width-is : greatest (slice (4 * n) (4 * n + e .k) W′) ≡ widthOf (e .k) (combined g e)
+    pub width-is : greatest (map (countOf n W′) (upFrom 1 (e .k))) ≡ widthOf (e .k) (combined g e)
     unfolding widthOf
-    width-is = ap greatest
-        (ext-getD 0 (slice (4 * n) (4 * n + e .k) W′) (map (countAt (combined g e)) (upFrom 1 (e .k)))
-        (omega (arith, length-slice (4 * n) (4 * n + e .k) W′ (omega (arith, K .words, A .words, A .deep)), length-map (upFrom 1 (e .k)) (countAt (combined g e)), length-upFrom 1 (e .k)))
-        (λ i l.
-        let h : i < e .k = omega (arith, length-slice (4 * n) (4 * n + e .k) W′ (omega (arith, K .words, A .words, A .deep))) in
-        let q : 4 * n + i ≡ 4 * n + (1 + i) - 1 = omega arith in
-        getD-drop (4 * n) (take (4 * n + e .k) W′) i 0 ∙ getD-take (4 * n + e .k) W′ (4 * n + i) 0 (omega arith)
-        ∙ ap (λ (x : ℕ). getD W′ x 0) q ∙ K .counts (1 + i) (omega arith) (omega (arith, A .deep))
-        ∙ sym (getD-map-upFrom (countAt (combined g e)) 1 (e .k) i 0 h)))
+    width-is = ap greatest (map-cong (countOf n W′) (countAt (combined g e)) (upFrom 1 (e .k))
+        (λ i m. let b = upFrom-in 1 (e .k) i m in K .counts i (b .0) (omega (arith, b .1))))
 
     -- the levels
     pub merged-is : length L ≡ g .size → L′ ≡ merged g z e L
@@ -162,48 +138,72 @@ module _ {g : Graph} {z : ℕ} {e : Ends} {n from to : ℕ} {W L : List ℕ} (A 
         (λ p. K .inside q p ∙ sym (ofNode-map g (λ y. cond (memb y (part g z)) (ofNode (combined g e) y) (ofNode L y)) q N ∙ rw p))
         (λ p. K .outside q N p ∙ sym (of-node L q (N .low)) ∙ sym (ofNode-map g (λ y. cond (memb y (part g z)) (ofNode (combined g e) y) (ofNode L y)) q N ∙ rw p)))
 
--- ---- what is given is an entry
+-- ---- what is given is an entry, once u's queue is cleared
 
 in-part-node : (g : Graph) (z q : ℕ) → memb q (part g z) ≡ true → Node g q
 unfolding part
 in-part-node g z q m = node-in g q (filter-in (λ y. ltb 0 (levelOf (levels g z) y)) (nodes g) q m .0)
 
-pub entry-of : {g : Graph} {from to k widthV widthU : ℕ} {W L : List ℕ} → LegalGraph g → g .size ≤ 4096 → Given g from to k widthV widthU W L
-    → Entry g (firstOf (g .size) from W) (endsOf g from W) (g .size) from to W L
-unfolding depthAt
-entry-of {g} {from} {to} {k} {widthV} {widthU} {W} {L} G few A =
-    let n : ℕ = g .size in
-    let z : ℕ = firstOf n from W in
-    let e : Ends = endsOf g from W in
-    let m : memb z (part g z) ≡ true = sym (ap (memb z) (A .members)) ∙ first-in in
-    let N : Node g z = in-part-node g z z m in
-    let E = ends-of G N in
-    record {
-      graph = G;
-      node = N;
-      ends = E;
-      is = refl;
-      few = few;
-      words = A .words;
-      room = omega (arith, A .room);
-      order = omega (arith, A .order);
-      most = A .most;
-      deep = omega (arith, E .k-depth, depth-most g (e .v));
-      members = A .members;
-      firsts = λ q Q.
-          sym (getD-take n W (q - 1) 0 (omega (arith, Q .low, Q .high))) ∙ ap (λ (l : List ℕ). getD l (q - 1) 0) (A .firsts)
-          ∙ sym (of-node (levelList g (levels g (e .v))) q (Q .low)) ∙ levelList-at g (levels g (e .v)) q Q;
-      seconds = λ q Q.
-          let i : 2 * n + q - 1 ≡ 2 * n + (q - 1) = omega (arith, Q .low) in
-          ap (λ (j : ℕ). getD W j 0) i ∙ sym (getD-take (3 * n) W (2 * n + (q - 1)) 0 (omega (arith, Q .low, Q .high)))
-          ∙ sym (getD-drop (2 * n) (take (3 * n) W) (q - 1) 0) ∙ ap (λ (l : List ℕ). getD l (q - 1) 0) (A .seconds)
-          ∙ sym (of-node (levelList g (levels g (e .u))) q (Q .low)) ∙ levelList-at g (levels g (e .u)) q Q;
-      counts = A .counts;
-      clean = A .clean;
-    }
-  where
-    first-in : memb (firstOf (g .size) from W) (membersOf (g .size) from to W) ≡ true
-    first-in = member-in (g .size) from to W from (omega arith) (A .order)
+module _ {g : Graph} {from to k widthV widthU : ℕ} {W L : List ℕ} (G : LegalGraph g) (few : g .size ≤ 4096) (A : Given g from to k widthV widthU W L)
+    {U : List ℕ} (q : U ≡ sets W (3 * g .size) (replicate (to - from) 0)) where
+  abbrev n : ℕ
+  n = g .size
+
+  abbrev e : Ends
+  e = endsOf g from W
+
+  low-same : (i : ℕ) → i < 3 * n → getD U i 0 ≡ getD W i 0
+  low-same i h = ap (λ (x : List ℕ). getD x i 0) q ∙ run-before W (3 * n) (to - from) i h
+
+  pub high-same : (i : ℕ) → 4 * n ≤ i → getD U i 0 ≡ getD W i 0
+  high-same i h = ap (λ (x : List ℕ). getD x i 0) q ∙ run-behind W (3 * n) (to - from) i (omega (arith, A .most))
+
+  pub size-same : length U ≡ length W
+  size-same = ap length q ∙ length-sets W (3 * n) (replicate (to - from) 0)
+
+  pub first-same : firstOf n from U ≡ firstOf n from W
+  first-same = high-same (4 * n + from) (omega arith)
+
+  pub queue-same : (i : ℕ) → n + (to - from) ≤ i → i < 2 * n → getD U i 0 ≡ 0
+  queue-same i l h = low-same i (omega arith) ∙ A .queue-v i l h
+
+  -- with u's queue cleared
+  pub entry-of : Entry g (firstOf n from W) e n from to U L
+  unfolding depthAt
+  entry-of =
+      let z : ℕ = firstOf n from W in
+      let m : memb z (part g z) ≡ true = sym (ap (memb z) (A .members)) ∙ first-in in
+      let N : Node g z = in-part-node g z z m in
+      let E = ends-of G N in
+      record {
+        graph = G;
+        node = N;
+        ends = E;
+        is = refl;
+        few = few;
+        words = omega (arith, A .words, size-same);
+        room = omega (arith, A .room);
+        order = omega (arith, A .order);
+        most = A .most;
+        deep = omega (arith, E .k-depth, depth-most g (e .v));
+        members = map-cong (λ i. getD U (4 * n + i) 0) (λ i. getD W (4 * n + i) 0) (upFrom from (to - from)) (λ i x. high-same (4 * n + i) (omega arith)) ∙ A .members;
+        firsts = λ y Q.
+            low-same (y - 1) (omega (arith, Q .low, Q .high)) ∙ sym (getD-take n W (y - 1) 0 (omega (arith, Q .low, Q .high))) ∙ ap (λ (l : List ℕ). getD l (y - 1) 0) (A .firsts)
+            ∙ sym (of-node (levelList g (levels g (e .v))) y (Q .low)) ∙ levelList-at g (levels g (e .v)) y Q;
+        seconds = λ y Q.
+            let i : 2 * n + y - 1 ≡ 2 * n + (y - 1) = omega (arith, Q .low) in
+            low-same (2 * n + y - 1) (omega (arith, Q .low, Q .high)) ∙ ap (λ (j : ℕ). getD W j 0) i ∙ sym (getD-take (3 * n) W (2 * n + (y - 1)) 0 (omega (arith, Q .low, Q .high)))
+            ∙ sym (getD-drop (2 * n) (take (3 * n) W) (y - 1) 0) ∙ ap (λ (l : List ℕ). getD l (y - 1) 0) (A .seconds)
+            ∙ sym (of-node (levelList g (levels g (e .u))) y (Q .low)) ∙ levelList-at g (levels g (e .u)) y Q;
+        counts = λ i l h. ap (λ (x : List ℕ). getD x i 0) q ∙ ⊎-elim
+            (λ a. run-in W (3 * n) (to - from) i (omega (arith, A .words, A .most)) l a)
+            (λ a. run-behind W (3 * n) (to - from) i a ∙ A .queue-u i a h)
+            (lt-or-le i (3 * n + (to - from)));
+        clean = A .clean;
+      }
+    where
+      first-in : memb (firstOf n from W) (membersOf n from to W) ≡ true
+      first-in = member-in n from to W from (omega arith) (A .order)
 
 -- where every other node has 0, the levels are the combined levels
 pub merged-alone : {g : Graph} {z : ℕ} {e : Ends} → LegalGraph g → Node g z → EndsOf g z e → (L : List ℕ)

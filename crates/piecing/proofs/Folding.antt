@@ -3,7 +3,7 @@ use mathlib.Core.Path.{_≡_, refl, sym, _∙_}
 use mathlib.Core.Logic.{⊎-elim}
 use mathlib.Core.Bool.{Bool, true, false}
 use mathlib.Core.List.{List, [], _∷_, foldl}
-use Prim.Native.Nat.{ℕ, _*_, _≤_, _<_}
+use Prim.Native.Nat.{ℕ, _+_, _*_, _≤_, _<_}
 use native.Mathlib.Omega.{arith}
 use lib.ListN.{length, getD}
 use lib.Dec.{ltb}
@@ -17,16 +17,16 @@ use Rattle.laws.specs.Legal.{Node}
 use Rattle.laws.proofs.Pieces.{place-out}
 use Rattle.piecing.specs.Seek.{at}
 use Rattle.piecing.specs.Placed.{placedWords, placedLevels, wordsAfter, levelsAfter, PlaceableAll}
-use Rattle.piecing.proofs.Laying.{Piece, Stand, Laid, can-place, words-front, words-behind, words-length, levels-length, level-in, level-out, laid-next, piece-on}
+use Rattle.piecing.proofs.Laying.{Piece, Stand, Laid, can-place, shallow, words-front, words-behind, words-length, levels-length, level-in, level-out, laid-next, piece-on}
 
--- what holds once the pieces ps, that start at os, are placed
-pub record After (g : Graph) (e : Ends) (pr : LevelPairs) (n : ℕ) (narrow : Bool) (os : List ℕ) (ps : List (List ℕ)) (W L placed : List ℕ) : Type 0 where
-  pub can : PlaceableAll n narrow os W L
+-- what holds once the pieces ps, that start at os, are placed, at levels up to b
+pub record After (g : Graph) (e : Ends) (pr : LevelPairs) (n b : ℕ) (narrow : Bool) (os : List ℕ) (ps : List (List ℕ)) (W L placed : List ℕ) : Type 0 where
+  pub can : PlaceableAll n b narrow os W L
   pub laid : Laid g e pr n (wordsAfter n narrow os W L) (levelsAfter n narrow os W L) (foldl (placePiece g e pr) placed ps) []
   pub words-size : length (wordsAfter n narrow os W L) ≡ length W
   pub levels-size : length (levelsAfter n narrow os W L) ≡ length L
-  pub front : (i : ℕ) → i < 4 * n → getD (wordsAfter n narrow os W L) i 0 ≡ getD W i 0
-  pub behind : (i : ℕ) → 5 * n ≤ i → getD (wordsAfter n narrow os W L) i 0 ≡ getD W i 0
+  pub front : (i : ℕ) → i + e .k < 4 * n → getD (wordsAfter n narrow os W L) i 0 ≡ getD W i 0
+  pub behind : (i : ℕ) → 4 * n ≤ i → getD (wordsAfter n narrow os W L) i 0 ≡ getD W i 0
   pub placed-in : (q : ℕ) → Node g q → anyb (memb q) ps ≡ true → at (levelsAfter n narrow os W L) q ≡ ofNode (foldl (placePiece g e pr) placed ps) q
   pub placed-out : (q : ℕ) → Node g q → anyb (memb q) ps ≡ false
       → (at (levelsAfter n narrow os W L) q ≡ at L q) × (ofNode (foldl (placePiece g e pr) placed ps) q ≡ ofNode placed q)
@@ -36,7 +36,7 @@ any-count q [] h = clash h refl
 any-count q (P ∷ ps) h =
     ⊎-elim (λ a. omega (arith, bit-one (memb q P) a)) (λ a. omega (arith, any-count q ps a)) (or-split (memb q P) (anyb (memb q) ps) h)
 
-module _ (g : Graph) (e : Ends) (pr : LevelPairs) (n : ℕ) (narrow : Bool) (w : narrow ≡ ltb (e .widthU) (e .widthV)) where
+module _ (g : Graph) (e : Ends) (pr : LevelPairs) (n b : ℕ) (d : e .k ≤ b) (narrow : Bool) (w : narrow ≡ ltb (e .widthU) (e .widthV)) where
   -- the pieces behind the first stand as before
   stand-on : {W L placed P : List ℕ} {qs : List (List ℕ)} {o : ℕ} (I : Laid g e pr n W L placed (P ∷ qs)) (S : Piece g n (e .k) pr W L o P)
       (os : List ℕ) (ps : List (List ℕ)) → ((q : ℕ) → memb q P ≡ true → anyb (memb q) ps ≡ false)
@@ -51,7 +51,7 @@ module _ (g : Graph) (e : Ends) (pr : LevelPairs) (n : ℕ) (narrow : Bool) (w :
   )
 
   pub lay-all : (os : List ℕ) (ps : List (List ℕ)) (W L placed : List ℕ) → Laid g e pr n W L placed ps → Stand g n (e .k) pr W L os ps
-      → After g e pr n narrow os ps W L placed
+      → After g e pr n b narrow os ps W L placed
   unfolding Stand wordsAfter levelsAfter PlaceableAll
   lay-all [] [] W L placed I T = record {
     can = tt;
@@ -71,7 +71,7 @@ module _ (g : Graph) (e : Ends) (pr : LevelPairs) (n : ℕ) (narrow : Bool) (w :
       λ q m. fails (anyb (memb q) ps) (λ a. omega (arith, I .ready .once q, bit-one (memb q P) m, any-count q ps a)) in
       let R = lay-all os ps (placedWords n narrow o W L) (placedLevels n narrow o W L) (placePiece g e pr placed P) (laid-next w I S) (stand-on I S os ps apart (T .1)) in
       record {
-        can = (S .stands, can-place w I S, R .can);
+        can = (S .stands, can-place w I S, shallow w I S b d, R .can);
         laid = R .laid;
         words-size = R .words-size ∙ words-length w I S;
         levels-size = R .levels-size ∙ levels-length w I S;

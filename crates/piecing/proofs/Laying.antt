@@ -10,7 +10,7 @@ use lib.Dec.{eqb, ltb}
 use borrow.Author.Tests.{eq-eqb, eqb-true}
 use Rattle.basis.specs.Lists.{countb, memb, upFrom, greatest}
 use Rattle.basis.specs.Perm.{times, Perm}
-use Rattle.basis.proofs.Count.{times-none, count-cong, count-map, count-length}
+use Rattle.basis.proofs.Count.{count-cong, count-map, count-length}
 use Rattle.basis.proofs.Index.{greatest-memb, greatest-le}
 use Rattle.basis.proofs.Lists.{memb-map, map-cong, map-map, upFrom-in, upFrom-make}
 use Rattle.basis.proofs.Logic.{by-test, fails, same}
@@ -23,12 +23,12 @@ use Rattle.laws.specs.Structure.{Ready}
 use Rattle.laws.proofs.Pieces.{second, place-in}
 use Rattle.laws.proofs.Placing.{peak-nodes, ready-step, ready-counts}
 use Rattle.combining.specs.Tally.{tally}
-use Rattle.combining.specs.Model.{nodeAt, queued, numberAt, slotOf, slots, peakOf, goesSecond, chosen, Readable, Countable, Placeable}
-use Rattle.combining.proofs.Counting.{slots-in, slots-inside, counts-tally}
+use Rattle.combining.specs.Model.{nodeAt, queued, numberAt, countOf, slotOf, slots, peakOf, goesSecond, chosen, Readable, Countable, Placeable}
+use Rattle.combining.proofs.Counting.{slots-inside, counts-tally, tally-front, tally-behind}
 use Rattle.combining.proofs.Tally.{getD-tally}
 use Rattle.piecing.specs.Seek.{at}
 use Rattle.piecing.specs.Starts.{sizeAt, Standing}
-use Rattle.piecing.specs.Placed.{endOf, placedWords, placedLevels}
+use Rattle.piecing.specs.Placed.{endOf, placedWords, placedLevels, Shallow}
 use Rattle.piecing.proofs.Stores.{length-written, written-at}
 
 perm-greatest : (f : ℕ → ℕ) {a b : List ℕ} → Perm a b → greatest (map f a) ≡ greatest (map f b)
@@ -38,14 +38,14 @@ perm-greatest f {a} {b} p =
     (greatest-le f b (greatest (map f a)) (λ x m. greatest-memb f a x (perm-memb p x ∙ m)))
 
 -- a level's word is named as often as there are nodes of that level
-pub named-by : (n base : ℕ) (W zs xs : List ℕ) → ((z : ℕ) → memb z zs ≡ true → (numberAt base W z ≡ ofNode xs z) × (1 ≤ ofNode xs z)) → (i : ℕ) → 1 ≤ i
-    → times (4 * n + i - 1) (map (slotOf n base W) zs) ≡ countb (λ z. eqb (ofNode xs z) i) zs
+pub named-by : (n base : ℕ) (W zs xs : List ℕ) → ((z : ℕ) → memb z zs ≡ true → (numberAt base W z ≡ ofNode xs z) × (ofNode xs z ≤ n)) → (i : ℕ) → i ≤ n
+    → times (4 * n - i) (map (slotOf n base W) zs) ≡ countb (λ z. eqb (ofNode xs z) i) zs
 named-by n base W zs xs r i l =
-    count-map (eqb (4 * n + i - 1)) (slotOf n base W) zs
-    ∙ count-cong (λ z. eqb (4 * n + i - 1) (slotOf n base W z)) (λ z. eqb (ofNode xs z) i) zs (λ z m.
-    same (eqb (4 * n + i - 1) (slotOf n base W z)) (eqb (ofNode xs z) i)
-    (λ a. let x = eqb-true (4 * n + i - 1) (slotOf n base W z) a in eq-eqb (ofNode xs z) i (omega (arith, r z m .0, r z m .1)))
-    (λ a. let x = eqb-true (ofNode xs z) i a in eq-eqb (4 * n + i - 1) (slotOf n base W z) (omega (arith, r z m .0, r z m .1))))
+    count-map (eqb (4 * n - i)) (slotOf n base W) zs
+    ∙ count-cong (λ z. eqb (4 * n - i) (slotOf n base W z)) (λ z. eqb (ofNode xs z) i) zs (λ z m.
+    same (eqb (4 * n - i) (slotOf n base W z)) (eqb (ofNode xs z) i)
+    (λ a. let x = eqb-true (4 * n - i) (slotOf n base W z) a in eq-eqb (ofNode xs z) i (omega (arith, r z m .0, r z m .1)))
+    (λ a. let x = eqb-true (ofNode xs z) i a in eq-eqb (4 * n - i) (slotOf n base W z) (omega (arith, r z m .0, r z m .1))))
 
 -- the piece P stands in the queue from o on, and is no longer than its first node's mark says
 pub record Piece (g : Graph) (n k : ℕ) (pr : LevelPairs) (W L : List ℕ) (o : ℕ) (P : List ℕ) : Type 0 where
@@ -73,7 +73,7 @@ pub record Laid (g : Graph) (e : Ends) (pr : LevelPairs) (n : ℕ) (W L placed :
   pub deep : e .k ≤ n
   pub first : (q : ℕ) → Node g q → numberAt 0 W q ≡ ofNode (pr .firsts) q
   pub second : (q : ℕ) → Node g q → numberAt (2 * n) W q ≡ ofNode (pr .seconds) q
-  pub counts : (i : ℕ) → 1 ≤ i → i ≤ n → getD W (4 * n + i - 1) 0 ≡ countAt placed i
+  pub counts : (i : ℕ) → 1 ≤ i → i ≤ e .k → countOf n W i ≡ countAt placed i
   pub ready : Ready g placed ps
 
 module _ {g : Graph} {e : Ends} {pr : LevelPairs} {n : ℕ} {W L placed P : List ℕ} {ps : List (List ℕ)} {o : ℕ} {narrow : Bool}
@@ -91,7 +91,7 @@ module _ {g : Graph} {e : Ends} {pr : LevelPairs} {n : ℕ} {W L placed P : List
   node-in p l h = sym (zs-memb (nodeAt n W p)) ∙ memb-map (nodeAt n W) (upFrom o (end - o)) p (upFrom-make o (end - o) p l (omega arith))
 
   -- by either list xs of numbers, in the words from base on
-  module _ (base : ℕ) (xs : List ℕ) (b : base + n ≤ 4 * n) (num : (q : ℕ) → Node g q → numberAt base W q ≡ ofNode xs q)
+  module _ (base : ℕ) (xs : List ℕ) (b : base + n ≤ 3 * n) (num : (q : ℕ) → Node g q → numberAt base W q ≡ ofNode xs q)
       (range : (q : ℕ) → memb q P ≡ true → (1 ≤ ofNode xs q) × (ofNode xs q ≤ e .k)) where
     number : (q : ℕ) → memb q P ≡ true → numberAt base W q ≡ ofNode xs q
     number q m = num q (S .nodes q m)
@@ -113,10 +113,11 @@ module _ {g : Graph} {e : Ends} {pr : LevelPairs} {n : ℕ} {W L placed P : List
     unfolding countAt
     countable = record {
       read = readable;
-      small = λ i l h.
-          let j : ℕ = i - 4 * n + 1 in
-          let q : 4 * n + j - 1 ≡ i = omega arith in
-          let c : getD W i 0 ≡ countAt placed j = sym (ap (λ (x : ℕ). getD W x 0) q) ∙ I .counts j (omega arith) (omega arith) in
+      small = λ p l h.
+          let z : ℕ = nodeAt n W p in
+          let m = node-in p l h in
+          let j : ℕ = ofNode xs z in
+          let c : countOf n W (numberAt base W z) ≡ countAt placed j = ap (countOf n W) (number z m) ∙ I .counts j (range z m .0) (range z m .1) in
           omega (arith, c, count-length (eqb j) placed, I .ready .size, I .is, I .few, S .fits);
     }
 
@@ -127,19 +128,19 @@ module _ {g : Graph} {e : Ends} {pr : LevelPairs} {n : ℕ} {W L placed P : List
     slots-are = sym (map-map (slotOf n base W) (nodeAt n W) (upFrom o (end - o)))
 
     -- a level's word is named as often as the piece has nodes of that level
-    named : (i : ℕ) → 1 ≤ i → times (4 * n + i - 1) sl ≡ added xs P i
+    named : (i : ℕ) → i ≤ n → times (4 * n - i) sl ≡ added xs P i
     unfolding added
     named i l =
-        ap (times (4 * n + i - 1)) slots-are
-        ∙ named-by n base W zs xs (λ z m. let p = sym (zs-memb z) ∙ m in (number z p, range z p .0)) i l
+        ap (times (4 * n - i)) slots-are
+        ∙ named-by n base W zs xs (λ z m. let p = sym (zs-memb z) ∙ m in (number z p, omega (arith, range z p .1, I .deep))) i l
         ∙ perm-count (λ z. eqb (ofNode xs z) i) (S .perm)
 
     -- so the counts are the raised ones
-    counted : (i : ℕ) → 1 ≤ i → i ≤ n → getD (tally W sl) (4 * n + i - 1) 0 ≡ raised placed xs P i
+    counted : (i : ℕ) → 1 ≤ i → i ≤ e .k → countOf n (tally W sl) i ≡ raised placed xs P i
     unfolding raised
     counted i l h =
-        let a = getD-tally W sl (4 * n + i - 1) (slots-inside readable) in
-        omega (arith, I .counts i l h, named i l)
+        let a = getD-tally W sl (4 * n - i) (slots-inside readable) in
+        omega (arith, I .counts i l h, named i (omega (arith, I .deep)))
 
     -- h, or l
     peak-is : peakOf n base o end W ≡ peak (e .k) placed xs P
@@ -150,8 +151,8 @@ module _ {g : Graph} {e : Ends} {pr : LevelPairs} {n : ℕ} {W L placed P : List
         ∙ map-cong (λ z. getD (tally W sl) (slotOf n base W z) 0) (λ z. raised placed xs P (ofNode xs z)) zs
         (λ z m.
         let p = sym (zs-memb z) ∙ m in
-        ap (λ (x : ℕ). getD (tally W sl) (4 * n + x - 1) 0) (number z p)
-        ∙ counted (ofNode xs z) (range z p .0) (omega (arith, range z p .1, I .deep))))
+        ap (countOf n (tally W sl)) (number z p)
+        ∙ counted (ofNode xs z) (range z p .0) (range z p .1)))
         ∙ perm-greatest (λ z. raised placed xs P (ofNode xs z)) (S .perm)
         ∙ sym (peak-nodes (e .k) placed xs P range)
 
@@ -162,6 +163,13 @@ module _ {g : Graph} {e : Ends} {pr : LevelPairs} {n : ℕ} {W L placed P : List
     first = countable 0 (pr .firsts) (omega arith) (I .first) (S .firsts);
     second = countable (2 * n) (pr .seconds) (omega arith) (I .second) (S .seconds);
     levels = I .levels;
+  }
+
+  -- at levels up to k
+  pub shallow : (b : ℕ) → e .k ≤ b → Shallow n b o end W
+  shallow b h = record {
+    first = λ p l r. let m = node-in p l r in omega (arith, I .first (nodeAt n W p) (S .nodes (nodeAt n W p) m), S .firsts (nodeAt n W p) m .1);
+    second = λ p l r. let m = node-in p l r in omega (arith, I .second (nodeAt n W p) (S .nodes (nodeAt n W p) m), S .seconds (nodeAt n W p) m .1);
   }
 
   abbrev goes : Bool
@@ -180,7 +188,7 @@ module _ {g : Graph} {e : Ends} {pr : LevelPairs} {n : ℕ} {W L placed P : List
   abbrev xs-chosen : List ℕ
   xs-chosen = cond goes (pr .seconds) (pr .firsts)
 
-  base-inside : base + n ≤ 4 * n
+  base-inside : base + n ≤ 3 * n
   base-inside = by-test goes (λ a. let c : base ≡ 2 * n = choice ∙ rw a in omega arith) (λ a. let c : base ≡ 0 = choice ∙ rw a in omega arith)
 
   base-number : (q : ℕ) → Node g q → numberAt base W q ≡ ofNode xs-chosen q
@@ -200,14 +208,12 @@ module _ {g : Graph} {e : Ends} {pr : LevelPairs} {n : ℕ} {W L placed P : List
   abbrev L′ : List ℕ
   L′ = placedLevels n narrow o W L
 
-  pub words-front : (i : ℕ) → i < 4 * n → getD W′ i 0 ≡ getD W i 0
-  words-front = counts-tally base-readable .front
+  pub words-front : (i : ℕ) → i + e .k < 4 * n → getD W′ i 0 ≡ getD W i 0
+  words-front = tally-front base-readable (e .k) (λ p l h. let m = node-in p l h in
+      omega (arith, number base xs-chosen base-inside base-number base-range (nodeAt n W p) m, base-range (nodeAt n W p) m .1))
 
-  pub words-behind : (i : ℕ) → 5 * n ≤ i → getD W′ i 0 ≡ getD W i 0
-  words-behind i h =
-      let a = getD-tally W (slots n base o end W) i (slots-inside base-readable) in
-      let z = times-none i (slots n base o end W) (fails (memb i (slots n base o end W)) (λ m. omega (arith, slots-in base-readable i m .1))) in
-      omega arith
+  pub words-behind : (i : ℕ) → 4 * n ≤ i → getD W′ i 0 ≡ getD W i 0
+  words-behind = tally-behind base-readable
 
   pub words-length : length W′ ≡ length W
   words-length = counts-tally base-readable .size
@@ -235,8 +241,8 @@ module _ {g : Graph} {e : Ends} {pr : LevelPairs} {n : ℕ} {W L placed P : List
     room = omega (arith, words-length, I .room);
     levels = omega (arith, levels-length, I .levels);
     deep = I .deep;
-    first = λ q N. words-front (0 + q - 1) (omega (arith, N .low, N .high, I .is)) ∙ I .first q N;
-    second = λ q N. words-front (2 * n + q - 1) (omega (arith, N .low, N .high, I .is)) ∙ I .second q N;
+    first = λ q N. words-front (0 + q - 1) (omega (arith, N .low, N .high, I .is, I .deep)) ∙ I .first q N;
+    second = λ q N. words-front (2 * n + q - 1) (omega (arith, N .low, N .high, I .is, I .deep)) ∙ I .second q N;
     counts = λ i l h. counted base xs-chosen base-inside base-number base-range i l h ∙ sym (ready-counts g e pr placed P ps (I .ready) i l);
     ready = ready-step g e pr placed P ps (I .ready);
   }
@@ -265,7 +271,7 @@ module _ {g : Graph} {e : Ends} {pr : LevelPairs} {n : ℕ} {W L placed P : List
   }
     where
       same-node : nodeAt n W′ o₂ ≡ nodeAt n W o₂
-      same-node = words-front (n + o₂) (omega (arith, T .stands .most))
+      same-node = words-front (n + o₂) (omega (arith, T .stands .most, I .deep))
 
       first-there : memb (nodeAt n W o₂) Q ≡ true
       first-there =
@@ -279,4 +285,4 @@ module _ {g : Graph} {e : Ends} {pr : LevelPairs} {n : ℕ} {W L placed P : List
 
       same-queue : queued n o₂ (endOf n W L o₂) W′ ≡ queued n o₂ (endOf n W L o₂) W
       same-queue = map-cong (nodeAt n W′) (nodeAt n W) (upFrom o₂ (endOf n W L o₂ - o₂))
-          (λ p m. words-front (n + p) (omega (arith, upFrom-in o₂ (endOf n W L o₂ - o₂) p m .1, T .fits, T .some)))
+          (λ p m. words-front (n + p) (omega (arith, upFrom-in o₂ (endOf n W L o₂ - o₂) p m .1, T .fits, T .some, I .deep)))

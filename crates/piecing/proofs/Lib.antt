@@ -15,3 +15,6 @@ pub mod Start
 pub mod Clearing
 pub mod Finish
 pub mod Steps
+pub mod Slices
+pub mod Levelling
+pub mod Whole

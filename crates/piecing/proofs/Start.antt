@@ -3,21 +3,23 @@ use mathlib.Core.Path.{_≡_, refl, sym, ap, _∙_, subst}
 use mathlib.Core.Logic.{⊎-elim}
 use mathlib.Core.Bool.{Bool, true, false, not, _&&_}
 use mathlib.Core.List.{List, [], _∷_, map}
-use Prim.Native.Nat.{ℕ, _+_, _-_, _*_, _<_}
+use Prim.Native.Nat.{ℕ, zero, suc, _+_, _-_, _*_, _≤_, _<_}
 use native.Mathlib.Omega.{arith}
-use lib.ListN.{length, getD}
-use lib.Dec.{eqb, ltb}
+use lib.ListN.{length, getD, length-map}
+use lib.Dec.{eqb, leb, ltb}
 use borrow.Author.Tests.{eq-eqb, eqb-true, not-true}
-use Rattle.basis.specs.Lists.{filterb, chainb, sortb, memb, upFrom, All}
+use Rattle.basis.specs.Lists.{filterb, countb, chainb, sortb, memb, upFrom, sum, All}
 use Rattle.basis.specs.Perm.{Perm}
-use Rattle.basis.proofs.Lists.{filter-cong, map-memb, memb-here, upFrom-in}
-use Rattle.basis.proofs.Logic.{by-test, clash, fails, or-split, or-right}
+use Rattle.basis.proofs.Count.{count-length, count-mono, count-parted, count-range, length-filter, memb-times}
+use Rattle.basis.proofs.Lists.{filter-cong, filter-make, map-memb, memb-map, memb-here, upFrom-in, length-upFrom}
+use Rattle.basis.proofs.Logic.{by-test, clash, fails, and-split, or-split, or-right}
 use Rattle.spec.specs.Combined.{LevelPairs, levelPairs, settled, settledLevels, pieces, largerPiece}
 use Rattle.spec.specs.Ends.{Ends}
 use Rattle.spec.specs.Graph.{Graph, nodes, restrict}
-use Rattle.spec.specs.Levels.{levels, part, leads}
+use Rattle.spec.specs.Levels.{levels, levelOf, part, leads}
 use Rattle.laws.specs.Legal.{Node}
-use Rattle.laws.proofs.Legal.{node-in, restrict-node, restrict-legal}
+use Rattle.laws.proofs.Combined.{diagonal, mirror-sum}
+use Rattle.laws.proofs.Legal.{node-in, in-nodes, length-nodes, restrict-node, restrict-legal}
 use Rattle.laws.proofs.Levels.{part-node}
 use Rattle.laws.proofs.Parts.{part-rises}
 use Rattle.laws.proofs.Pieces.{loose, settled-apart}
@@ -26,10 +28,11 @@ use Rattle.combining.specs.Model.{nodeAt, queued, numberAt}
 use Rattle.piecing.specs.Given.{Entry}
 use Rattle.piecing.specs.Seek.{looseAt}
 use Rattle.piecing.specs.Starts.{startAt, startsOf, sizeAt, membersOf, Findable, Found}
-use Rattle.piecing.proofs.Begin.{X, Y, W₂, W₃, L₃, Z, part-is-node, x-range, y-range, x-out, y-out, z-in, same-members, three-size, three-behind, three-first, three-second, three-counts, level-three}
+use Rattle.piecing.proofs.Begin.{X, Y, W₂, W₃, L₃, Z, part-is-node, x-is, y-is, x-range, y-range, x-out, y-out, z-in, same-members, three-size, three-behind, three-first, three-second, three-counts, level-three}
 use Rattle.piecing.proofs.Finding.{restrict-cong, len-some}
 use Rattle.piecing.proofs.Folding.{After, lay-all}
 use Rattle.piecing.proofs.Laying.{Piece, Stand, Laid}
+use Rattle.piecing.proofs.Orders.{length-sort}
 use Rattle.piecing.proofs.Stores.{length-written}
 
 all-in : (Q : List ℕ → Type 0) (f : ℕ → List ℕ) (os : List ℕ) → All Q (map f os) → (o : ℕ) → memb o os ≡ true → Q (f o)
@@ -50,6 +53,23 @@ unfolding Stand
 stand-map f [] h = tt
 stand-map f (o ∷ os) h = (h o (memb-here o os), stand-map f os (λ x m. h x (or-right (eqb x o) m)))
 
+sum-some : (f : ℕ → ℕ) (a k : ℕ) → ((i : ℕ) → a ≤ i → i < a + k → 1 ≤ f i) → k ≤ sum (map f (upFrom a k))
+sum-some f a zero h = omega arith
+sum-some f a (suc k) h = omega (arith, h a (omega arith) (omega arith), sum-some f (suc a) k (λ i l r. h i (omega arith) (omega arith)))
+
+pieces-few : (g : Graph) (pr : LevelPairs) → length (pieces g pr) ≤ countb (loose pr) (nodes g)
+unfolding pieces
+pieces-few g pr =
+    let left : Graph = restrict g (loose pr) in
+    let f : ℕ → Bool = λ y. loose pr y && leads left y in
+    omega (
+      arith,
+      length-sort largerPiece (map (part left) (filterb f (nodes g))),
+      length-map (filterb f (nodes g)) (part left),
+      length-filter f (nodes g),
+      count-mono f (loose pr) (nodes g) (λ y m. and-split (loose pr y) (leads left y) m .0),
+    )
+
 module _ {g : Graph} {z : ℕ} {e : Ends} {n from to : ℕ} {W L : List ℕ} (A : Entry g z e n from to W L) where
   abbrev pr : LevelPairs
   pr = levelPairs g e
@@ -68,6 +88,32 @@ module _ {g : Graph} {z : ℕ} {e : Ends} {n from to : ℕ} {W L : List ℕ} (A 
       let a : getD (W₃ A) (q - 1) 0 ≡ X A q = sym (ap (λ (j : ℕ). getD (W₃ A) j 0) i) ∙ three-first A q N in
       let b = three-second A q N in
       λ j. not (eqb (a j) (b j))
+
+  -- the level i has a settled node
+  level-settled : (i : ℕ) → 1 ≤ i → i ≤ e .k → memb i (map (X A) (filterb (settled pr) (nodes g))) ≡ true
+  unfolding settled
+  level-settled i l h =
+      let d = diagonal (A .graph) (A .node) (A .ends) (e .k - i) i (omega arith) l in
+      let q : ℕ = d .0 in
+      let N = part-is-node A q (d .1) in
+      let b : ℕ = levelOf (levels g (e .u)) q in
+      let x : X A q ≡ i = x-is A q N ∙ d .2 in
+      let y : Y A q ≡ i = omega (arith, y-is A q N, mirror-sum (e .k) b (omega (arith, d .3)) (omega (arith, d .3)), d .3) in
+      ap (λ (j : ℕ). memb j (map (X A) (filterb (settled pr) (nodes g)))) (sym x)
+      ∙ memb-map (X A) (filterb (settled pr) (nodes g)) q
+      (filter-make (settled pr) (nodes g) q (in-nodes g q N) (eq-eqb (X A q) (Y A q) (x ∙ sym y)))
+
+  levels-few : e .k ≤ countb (settled pr) (nodes g)
+  levels-few =
+      let xs : List ℕ = map (X A) (filterb (settled pr) (nodes g)) in
+      omega (
+        arith,
+        sum-some (λ i. countb (eqb i) xs) 1 (e .k) (λ i l h. memb-times i xs (level-settled i l (omega arith))),
+        count-range 1 (e .k) xs,
+        count-length (λ x. leb 1 x && ltb x (1 + e .k)) xs,
+        length-map (filterb (settled pr) (nodes g)) (X A),
+        length-filter (settled pr) (nodes g),
+      )
 
   members-three : membersOf n from to (W₃ A) ≡ part g z
   members-three = same-members A (W₃ A) (three-behind A) ∙ A .members
@@ -115,6 +161,23 @@ module _ {g : Graph} {z : ℕ} {e : Ends} {n from to : ℕ} {W L : List ℕ} (A 
         (filter-cong (λ y. t y && leads (restrict g (loose pr)) y) (λ y. loose pr y && leads (restrict g (loose pr)) y) (nodes g)
         (λ y a. ap (λ (b : Bool). b && leads (restrict g (loose pr)) y) (loose-three y (node-in g y a))))
 
+    -- each piece has a loose node, and each level a settled one: starts and counts have room in n words together
+    pub sharing : m + e .k ≤ n
+    sharing =
+        let c = ap length pieces-are in
+        let p = count-parted (λ q. true) (settled pr) (nodes g) in
+        omega (
+          arith,
+          length-map os piece-of,
+          length-map (upFrom 0 m) (startAt n W₄),
+          length-upFrom 0 m,
+          pieces-few g pr,
+          levels-few,
+          count-length (λ q. true) (nodes g),
+          length-nodes g,
+          A .is,
+        )
+
     laid : Laid g e pr n W₄ L₄ (settledLevels g pr) (pieces g pr)
     laid = record {
       is = A .is;
@@ -124,7 +187,7 @@ module _ {g : Graph} {z : ℕ} {e : Ends} {n from to : ℕ} {W L : List ℕ} (A 
       deep = A .deep;
       first = λ q N. F .beside .firsts (0 + q - 1) (omega (arith, N .low, N .high, A .is)) ∙ three-first A q N;
       second = λ q N. F .beside .seconds (2 * n + q - 1) (omega (arith, N .low)) (omega (arith, N .low, N .high, A .is)) ∙ three-second A q N;
-      counts = λ i l h. F .beside .behind (4 * n + i - 1) (omega arith) ∙ three-counts A i l h;
+      counts = λ i l h. F .beside .behind (4 * n - i) (omega (arith, sharing)) ∙ three-counts A i l (omega (arith, A .deep));
       ready = ready-start (A .graph) pr;
     }
 
@@ -161,5 +224,5 @@ module _ {g : Graph} {z : ℕ} {e : Ends} {n from to : ℕ} {W L : List ℕ} (A 
                 left-node q w N c = unrestrict (loose pr) (part-node (restrict-legal (loose pr) (A .graph)) (restrict-node (loose pr) N) q c)
 
     -- all is placed
-    pub after : (narrow : Bool) → narrow ≡ ltb (e .widthU) (e .widthV) → After g e pr n narrow os (pieces g pr) W₄ L₄ (settledLevels g pr)
-    after narrow w = lay-all g e pr n narrow w os (pieces g pr) W₄ L₄ (settledLevels g pr) laid stand
+    pub after : (narrow : Bool) → narrow ≡ ltb (e .widthU) (e .widthV) → After g e pr n (n - m) narrow os (pieces g pr) W₄ L₄ (settledLevels g pr)
+    after narrow w = lay-all g e pr n (n - m) (omega (arith, sharing)) narrow w os (pieces g pr) W₄ L₄ (settledLevels g pr) laid stand

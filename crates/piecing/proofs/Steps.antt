@@ -73,7 +73,7 @@ module _ {g : Graph} {z : ℕ} {e : Ends} {n from to : ℕ} {W L : List ℕ} (A 
           pub place-room : (n ≤ 4096) × (m ≤ n) × (5 * n ≤ length U₄)
           place-room = (A .few, F .most, omega (arith, found .beside .size, three-size A, A .words))
 
-          pub place-ok : PlaceableAll n narrow (startsOf n m U₄) U₄ L₄
+          pub place-ok : PlaceableAll n (n - m) narrow (startsOf n m U₄) U₄ L₄
           place-ok = after A found narrow w .can
 
           pub level-done : {U₅ L₅ : List ℕ} → U₅ ≡ wordsAfter n narrow (startsOf n m U₄) U₄ L₄ → L₅ ≡ levelsAfter n narrow (startsOf n m U₄) U₄ L₄
@@ -106,11 +106,11 @@ module _ {n from to k : ℕ} {W : List ℕ} (A : Clearable n from to k W) {U₁ 
         clear-four : U₄ ≡ clearing.U₄ A
         clear-four = q₄ ∙ ap (λ (x : List ℕ). sets x (3 * n) (replicate (to - from) 0)) clear-three
 
-        pub room-four : 4 * n + k ≤ length U₄
+        pub room-four : 4 * n - k + k ≤ length U₄
         room-four = omega (arith, ap length clear-four, rooms A .2)
 
-        pub tidy-done : {U₅ : List ℕ} → U₅ ≡ sets U₄ (4 * n) (replicate k 0) → U₅ ≡ zeroed (5 * n) W
-        tidy-done q₅ = q₅ ∙ ap (λ (x : List ℕ). sets x (4 * n) (replicate k 0)) clear-four ∙ tidied A
+        pub tidy-done : {U₅ : List ℕ} → U₅ ≡ sets U₄ (4 * n - k) (replicate k 0) → U₅ ≡ zeroed (4 * n) W
+        tidy-done q₅ = q₅ ∙ ap (λ (x : List ℕ). sets x (4 * n - k) (replicate k 0)) clear-four ∙ tidied A
 
 -- lists that agree behind the cleared words are the same once these are cleared
 pub zeroed-same : (m : ℕ) (U W : List ℕ) → length U ≡ length W → m ≤ length W → ((i : ℕ) → m ≤ i → getD U i 0 ≡ getD W i 0) → zeroed m U ≡ zeroed m W

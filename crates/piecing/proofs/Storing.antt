@@ -1,6 +1,6 @@
 -- The loops over the members: a word stored for each, and the settled ones gathered in the queue. Assumes nothing.
 use mathlib.Core.Path.{_≡_, refl, sym, ap, _∙_}
-use mathlib.Core.Logic.{_≢_}
+use mathlib.Core.Logic.{_≢_, _⊎_, inl, inr, ⊎-elim}
 use mathlib.Core.Bool.{Bool, true, false, cond}
 use mathlib.Core.List.{List, [], _∷_, _++_, append-nil}
 use Prim.Native.Nat.{ℕ, _+_, _-_, _*_, _≤_, _<_}
@@ -68,7 +68,7 @@ stored-other base n f W (z ∷ zs) r i h =
 
 module _ {n from to : ℕ} {W : List ℕ} (A : Members n from to W) where
   abbrev word : ℕ → ℕ
-  word i = getD W (5 * n + i) 0
+  word i = getD W (4 * n + i) 0
 
   -- the members before i are nodes
   pub member-range : (i : ℕ) → i ≤ to → (z : ℕ) → memb z (membersOf n from i W) ≡ true → (1 ≤ z) × (z ≤ n)
@@ -93,37 +93,50 @@ module _ {n from to : ℕ} {W : List ℕ} (A : Members n from to W) where
         none-times (word i) (membersOf n from i W) (omega (arith, A .once (word i)))
 
 -- a member before the end is a member
-pub member-in : (n from to : ℕ) (W : List ℕ) (i : ℕ) → from ≤ i → i < to → memb (getD W (5 * n + i) 0) (membersOf n from to W) ≡ true
-member-in n from to W i l h = memb-map (λ j. getD W (5 * n + j) 0) (upFrom from (to - from)) i (upFrom-make from (to - from) i l (omega arith))
+pub member-in : (n from to : ℕ) (W : List ℕ) (i : ℕ) → from ≤ i → i < to → memb (getD W (4 * n + i) 0) (membersOf n from to W) ≡ true
+member-in n from to W i l h = memb-map (λ j. getD W (4 * n + j) 0) (upFrom from (to - from)) i (upFrom-make from (to - from) i l (omega arith))
 
 -- ---- a word stored for each member
 
 pub record Storing (base : ℕ) (f : ℕ → ℕ) (n from to : ℕ) (W U : List ℕ) (i : ℕ) : Type 0 where
   pub ask : Members n from to W
-  pub inside : base + n ≤ 5 * n
+  pub held : base + n ≤ length W
+  pub apart : (base + n ≤ 4 * n) ⊎ (5 * n ≤ base)
   pub low : from ≤ i
   pub most : i ≤ to
   pub on : U ≡ stored base f W (membersOf n from i W)
 
-pub store-begin : (base : ℕ) (f : ℕ → ℕ) {n from to : ℕ} {W : List ℕ} → Members n from to W → base + n ≤ 5 * n → Storing base f n from to W W from
+store-at : (base : ℕ) (f : ℕ → ℕ) {n from to : ℕ} {W : List ℕ} → Members n from to W → base + n ≤ length W → (base + n ≤ 4 * n) ⊎ (5 * n ≤ base)
+    → Storing base f n from to W W from
 unfolding stored
-store-begin base f {n} {from} {to} {W} A h = record {
+store-at base f {n} {from} {to} {W} A held apart = record {
   ask = A;
-  inside = h;
+  held = held;
+  apart = apart;
   low = le-refl from;
   most = A .order;
-  on = sym (ap (stored base f W) (from-none (λ i. getD W (5 * n + i) 0) from from (le-refl from)));
+  on = sym (ap (stored base f W) (from-none (λ i. getD W (4 * n + i) 0) from from (le-refl from)));
 }
+
+-- in front of the members
+pub store-begin : (base : ℕ) (f : ℕ → ℕ) {n from to : ℕ} {W : List ℕ} → Members n from to W → base + n ≤ 4 * n → Storing base f n from to W W from
+store-begin base f {n} {from} {to} {W} A h = store-at base f A (omega (arith, A .words)) (inl h)
+
+-- or behind them
+pub store-behind : (base : ℕ) (f : ℕ → ℕ) {n from to : ℕ} {W : List ℕ} → Members n from to W → 5 * n ≤ base → base + n ≤ length W
+    → Storing base f n from to W W from
+store-behind base f A h r = store-at base f A r (inr h)
 
 module _ {base : ℕ} {f : ℕ → ℕ} {n from to : ℕ} {W U : List ℕ} {i : ℕ} (I : Storing base f n from to W U i) where
   pub store-size : length U ≡ length W
   store-size = ap length (I .on) ∙ length-stored base f W (membersOf n from i W)
 
-  module _ (h : i < to) {z : ℕ} (e : z ≡ getD U (5 * n + i) 0) where
-    z-is : z ≡ getD W (5 * n + i) 0
+  module _ (h : i < to) {z : ℕ} (e : z ≡ getD U (4 * n + i) 0) where
+    z-is : z ≡ getD W (4 * n + i) 0
     z-is =
-        e ∙ ap (λ (x : List ℕ). getD x (5 * n + i) 0) (I .on)
-        ∙ stored-other base n f W (membersOf n from i W) (member-range (I .ask) i (I .most)) (5 * n + i) (λ y l r q. omega (arith, I .inside))
+        e ∙ ap (λ (x : List ℕ). getD x (4 * n + i) 0) (I .on)
+        ∙ stored-other base n f W (membersOf n from i W) (member-range (I .ask) i (I .most)) (4 * n + i) (λ y l r q.
+        ⊎-elim (λ (a : base + n ≤ 4 * n). omega arith) (λ (a : 5 * n ≤ base). omega (arith, I .ask .most)) (I .apart))
 
     pub z-low : 1 ≤ z
     z-low = omega (arith, z-is, I .ask .low i (I .low) h)
@@ -135,20 +148,21 @@ module _ {base : ℕ} {f : ℕ → ℕ} {n from to : ℕ} {W U : List ℕ} {i : 
     z-member = ap (λ (x : ℕ). memb x (membersOf n from to W)) z-is ∙ member-in n from to W i (I .low) h
 
     pub z-fits : base + z - 1 < length U
-    z-fits = omega (arith, z-high, z-low, I .inside, store-size, I .ask .words)
+    z-fits = omega (arith, z-high, z-low, I .held, store-size)
 
     -- its word is still the old one
     pub z-word : getD U (base + z - 1) 0 ≡ getD W (base + z - 1) 0
     z-word =
         ap (λ (x : List ℕ). getD x (base + z - 1) 0) (I .on)
-        ∙ stored-at base f W (membersOf n from i W) (λ y m. member-range (I .ask) i (I .most) y m .0) z z-low (omega (arith, z-high, I .inside, I .ask .words))
+        ∙ stored-at base f W (membersOf n from i W) (λ y m. member-range (I .ask) i (I .most) y m .0) z z-low (omega (arith, z-high, I .held))
         ∙ rw (ap (λ (x : ℕ). memb x (membersOf n from i W)) z-is ∙ member-new (I .ask) i (I .low) h)
 
     pub store-step : {x : ℕ} → x ≡ f z → Storing base f n from to W (set U (base + z - 1) x) (i + 1)
     unfolding stored
     store-step {x} q = record {
       ask = I .ask;
-      inside = I .inside;
+      held = I .held;
+      apart = I .apart;
       low = omega (arith, I .low);
       most = omega arith;
       on = (λ j. set (I .on j) (base + z - 1) (q j)) ∙ sym (stored-append base f W (membersOf n from i W) (z ∷ []))
@@ -172,7 +186,7 @@ pub record Gathering (n from to : ℕ) (W U : List ℕ) (t i : ℕ) : Type 0 whe
 
 pub gather-begin : {n from to : ℕ} {W : List ℕ} → Members n from to W → Gathering n from to W W 0 from
 gather-begin {n} {from} {to} {W} A =
-    let e : filterb (settledAt n W) (membersOf n from from W) ≡ [] = ap (filterb (settledAt n W)) (from-none (λ i. getD W (5 * n + i) 0) from from (le-refl from)) in
+    let e : filterb (settledAt n W) (membersOf n from from W) ≡ [] = ap (filterb (settledAt n W)) (from-none (λ i. getD W (4 * n + i) 0) from from (le-refl from)) in
     record { ask = A; low = le-refl from; most = A .order; count = sym (ap length e); on = sym (ap (sets W n) e) }
 
 module _ {n from to : ℕ} {W U : List ℕ} {t i : ℕ} (I : Gathering n from to W U t i) where
@@ -183,14 +197,14 @@ module _ {n from to : ℕ} {W U : List ℕ} {t i : ℕ} (I : Gathering n from to
   gather-size = ap length (I .on) ∙ length-sets W n found
 
   pub t-most : t ≤ i - from
-  t-most = omega (arith, I .count, length-filter (settledAt n W) (membersOf n from i W), count-length (settledAt n W) (membersOf n from i W), length-map (upFrom from (i - from)) (λ j. getD W (5 * n + j) 0), length-upFrom from (i - from))
+  t-most = omega (arith, I .count, length-filter (settledAt n W) (membersOf n from i W), count-length (settledAt n W) (membersOf n from i W), length-map (upFrom from (i - from)) (λ j. getD W (4 * n + j) 0), length-upFrom from (i - from))
 
   same-behind : (j : ℕ) → 2 * n ≤ j → getD U j 0 ≡ getD W j 0
   same-behind j h = ap (λ (x : List ℕ). getD x j 0) (I .on) ∙ sets-behind W n found j (omega (arith, t-most, I .count, I .most, I .ask .most))
 
-  module _ (h : i < to) {z : ℕ} (e : z ≡ getD U (5 * n + i) 0) where
-    gz-is : z ≡ getD W (5 * n + i) 0
-    gz-is = e ∙ same-behind (5 * n + i) (omega arith)
+  module _ (h : i < to) {z : ℕ} (e : z ≡ getD U (4 * n + i) 0) where
+    gz-is : z ≡ getD W (4 * n + i) 0
+    gz-is = e ∙ same-behind (4 * n + i) (omega arith)
 
     pub gz-low : 1 ≤ z
     gz-low = omega (arith, gz-is, I .ask .low i (I .low) h)

@@ -72,7 +72,7 @@ pub record Finding (g : Graph) (n from to : ℕ) (W₀ L₀ W L : List ℕ) (tai
   pub low : from ≤ i
   pub most : i ≤ to
   pub seek : Seek n W L tail
-  pub beside : Beside n W₀ W
+  pub beside : Beside n m W₀ W
   pub size : length L ≡ length L₀
   pub others : (q : ℕ) → Node g q → looseAt n W₀ q ≡ false → at L q ≡ at L₀ q
   pub marks : (q : ℕ) → Node g q → looseAt n W₀ q ≡ true → eqb (at L q) 0 ≡ not (covered g (looseAt n W₀) (led g n from i W₀) q)
@@ -81,7 +81,6 @@ pub record Finding (g : Graph) (n from to : ℕ) (W₀ L₀ W L : List ℕ) (tai
   pub count : m ≤ tail
   pub spare : tail + countb (freshAt n W L) (upFrom 1 n) ≤ to - from
   pub queue : (k : ℕ) → n + tail ≤ k → k < 2 * n → getD W k 0 ≡ getD W₀ k 0
-  pub starts : (k : ℕ) → 3 * n + m ≤ k → k < 4 * n → getD W k 0 ≡ getD W₀ k 0
   pub each : (k : ℕ) → k < m → Whole g (looseAt n W₀) n W tail (startAt n W k)
 
 -- what is fresh at first is among the members
@@ -101,11 +100,11 @@ fresh-few {g} {n} {from} {to} {W} {L} G A =
     let b = filter-in f M x a in
     let N = A .nodes x (b .0) in
     filter-make f (upFrom 1 n) x (upFrom-make 1 n x (N .low) (omega (arith, N .high, A .is))) (b .1))) in
-    omega (arith, length-filter f (upFrom 1 n), ap length same-list, length-filter f M, count-length f M, length-map (upFrom from (to - from)) (λ i. getD W (5 * n + i) 0), length-upFrom from (to - from))
+    omega (arith, length-filter f (upFrom 1 n), ap length same-list, length-filter f M, count-length f M, length-map (upFrom from (to - from)) (λ i. getD W (4 * n + i) 0), length-upFrom from (to - from))
 
 pub finding-begin : {g : Graph} {n from to : ℕ} {W L : List ℕ} → LegalGraph g → Findable g n from to W L → Finding g n from to W L W L 0 0 from
 finding-begin {g} {n} {from} {to} {W} {L} G A =
-    let none : membersOf n from from W ≡ [] = from-none (λ i. getD W (5 * n + i) 0) from from (omega arith) in
+    let none : membersOf n from from W ≡ [] = from-none (λ i. getD W (4 * n + i) 0) from from (omega arith) in
     let no-lead : led g n from from W ≡ [] = ap (filterb (leadb g (looseAt n W))) none in
     record {
       graph = G;
@@ -127,7 +126,6 @@ finding-begin {g} {n} {from} {to} {W} {L} G A =
       count = omega arith;
       spare = omega (arith, fresh-few G A);
       queue = λ k l h. refl;
-      starts = λ k l h. refl;
       each = λ k h. absurd (omega arith);
     }
 
@@ -151,7 +149,7 @@ module _ {g : Graph} {n from to : ℕ} {W₀ L₀ W L : List ℕ} {tail m i : �
   -- the leaders
   member-all : (q : ℕ) → memb q (membersOf n from i W₀) ≡ true → memb q (membersOf n from to W₀) ≡ true
   member-all q m =
-      ap (memb q) (map-split (λ j. getD W₀ (5 * n + j) 0) from i to (I .low) (I .most))
+      ap (memb q) (map-split (λ j. getD W₀ (4 * n + j) 0) from i to (I .low) (I .most))
       ∙ memb-append q (membersOf n from i W₀) (membersOf n i to W₀) ∙ or-left (memb q (membersOf n i to W₀)) m
 
   led-node : (w : ℕ) → memb w ws ≡ true → Node g w
@@ -198,9 +196,9 @@ module _ {g : Graph} {n from to : ℕ} {W₀ L₀ W L : List ℕ} {tail m i : �
 
   -- ---- the next member
 
-  module _ (h : i < to) {z : ℕ} (e : z ≡ getD W (5 * n + i) 0) where
-    z-is : z ≡ getD W₀ (5 * n + i) 0
-    z-is = e ∙ I .beside .behind (5 * n + i) (omega arith)
+  module _ (h : i < to) {z : ℕ} (e : z ≡ getD W (4 * n + i) 0) where
+    z-is : z ≡ getD W₀ (4 * n + i) 0
+    z-is = e ∙ I .beside .behind (4 * n + i) (omega (arith, I .count, I .seek .room))
 
     abbrev P : List ℕ
     P = membersOf n from i W₀
@@ -210,14 +208,14 @@ module _ {g : Graph} {n from to : ℕ} {W₀ L₀ W L : List ℕ} {tail m i : �
 
     members-are : membersOf n from to W₀ ≡ P ++ (z ∷ R)
     members-are =
-        map-split (λ j. getD W₀ (5 * n + j) 0) from i to (I .low) (omega arith)
-        ∙ ap (λ (l : List ℕ). P ++ l) (from-cons (λ j. getD W₀ (5 * n + j) 0) i to h ∙ ap (λ (x : ℕ). x ∷ R) (sym z-is))
+        map-split (λ j. getD W₀ (4 * n + j) 0) from i to (I .low) (omega arith)
+        ∙ ap (λ (l : List ℕ). P ++ l) (from-cons (λ j. getD W₀ (4 * n + j) 0) i to h ∙ ap (λ (x : ℕ). x ∷ R) (sym z-is))
 
     next-members : membersOf n from (i + 1) W₀ ≡ P ++ (z ∷ [])
     next-members =
-        map-split (λ j. getD W₀ (5 * n + j) 0) from i (i + 1) (I .low) (omega arith)
-        ∙ ap (λ (l : List ℕ). P ++ l) (from-cons (λ j. getD W₀ (5 * n + j) 0) i (i + 1) (omega arith)
-        ∙ ap₂ _∷_ (sym z-is) (from-none (λ j. getD W₀ (5 * n + j) 0) (i + 1) (i + 1) (omega arith)))
+        map-split (λ j. getD W₀ (4 * n + j) 0) from i (i + 1) (I .low) (omega arith)
+        ∙ ap (λ (l : List ℕ). P ++ l) (from-cons (λ j. getD W₀ (4 * n + j) 0) i (i + 1) (omega arith)
+        ∙ ap₂ _∷_ (sym z-is) (from-none (λ j. getD W₀ (4 * n + j) 0) (i + 1) (i + 1) (omega arith)))
 
     next-led : led g n from (i + 1) W₀ ≡ ws ++ consIf (leadb g t z) z []
     next-led = ap (filterb (leadb g t)) next-members ∙ filter-append (leadb g t) P (z ∷ [])
@@ -252,7 +250,6 @@ module _ {g : Graph} {n from to : ℕ} {W₀ L₀ W L : List ℕ} {tail m i : �
           count = I .count;
           spare = I .spare;
           queue = I .queue;
-          starts = I .starts;
           each = I .each;
         }
 
@@ -327,10 +324,10 @@ module _ {g : Graph} {n from to : ℕ} {W₀ L₀ W L : List ℕ} {tail m i : �
       in-middle : (k : ℕ) → 2 * n ≤ k → k < 3 * n → getD W′ k 0 ≡ getD W k 0
       in-middle k l r = before-list k (omega arith) ∙ one-behind k l
 
-      far-behind : (k : ℕ) → 4 * n ≤ k → getD W′ k 0 ≡ getD W k 0
+      far-behind : (k : ℕ) → 3 * n + (m + 1) ≤ k → getD W′ k 0 ≡ getD W k 0
       far-behind k l =
           ap (λ (x : List ℕ). getD x k 0) words-are
-          ∙ sets-behind W₁ (3 * n + j) (tail ∷ xs) k (omega (arith, xs-len, T .opened .most, I .count, F-end, F-some))
+          ∙ sets-behind W₁ (3 * n + j) (tail ∷ xs) k (omega (arith, xs-len, T .opened .most))
           ∙ one-behind k (omega arith)
 
       in-piece : (k : ℕ) → k < length F → nodeAt n W′ (tail + k) ≡ getD F k 0
@@ -571,7 +568,7 @@ module _ {g : Graph} {n from to : ℕ} {W₀ L₀ W L : List ℕ} {tail m i : �
           size = size-is ∙ I .beside .size;
           firsts = λ k l. before-end k (omega arith) ∙ I .beside .firsts k l;
           seconds = λ k l r. in-middle k l r ∙ I .beside .seconds k l r;
-          behind = λ k l. far-behind k l ∙ I .beside .behind k l;
+          behind = λ k l. far-behind k l ∙ I .beside .behind k (omega arith);
         };
         size = T .grown .size ∙ I .size;
         others = λ q N l. other-node q N l ∙ I .others q N l;
@@ -583,9 +580,6 @@ module _ {g : Graph} {n from to : ℕ} {W₀ L₀ W L : List ℕ} {tail m i : �
         queue = λ k l r.
             before-list k (omega arith) ∙ ap (λ (x : List ℕ). getD x k 0) (T .grown .words) ∙ sets-behind W (n + tail) F k (omega (arith, T .grown .is))
             ∙ I .queue k (omega (arith, T .grown .is)) r;
-        starts = λ k l r.
-            ap (λ (x : List ℕ). getD x k 0) words-are ∙ sets-behind W₁ (3 * n + j) (tail ∷ xs) k (omega (arith, xs-len, T .opened .most))
-            ∙ one-behind k (omega arith) ∙ I .starts k (omega arith) r;
         each = λ k l. ⊎-elim
             (λ a. subst (Whole g t n W′ end) (sym a) whole-new)
             (λ a. subst (Whole g t n W′ end) (sym (a .2)) (whole-old (a .0) (a .1)))

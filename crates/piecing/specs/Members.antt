@@ -14,10 +14,10 @@ pub record Members (n from to : ℕ) (W : List ℕ) : Type 0 where
   pub few : n ≤ 4096
   pub order : from ≤ to
   pub most : to ≤ n
-  pub words : 6 * n ≤ length W
+  pub words : 5 * n ≤ length W
   pub once : Once (membersOf n from to W)
-  pub low : (i : ℕ) → from ≤ i → i < to → 1 ≤ getD W (5 * n + i) 0
-  pub high : (i : ℕ) → from ≤ i → i < to → getD W (5 * n + i) 0 ≤ n
+  pub low : (i : ℕ) → from ≤ i → i < to → 1 ≤ getD W (4 * n + i) 0
+  pub high : (i : ℕ) → from ≤ i → i < to → getD W (4 * n + i) 0 ≤ n
 
 -- node z is settled: its two numbers are equal
 abbrev pub settledAt : ℕ → List ℕ → ℕ → Bool
@@ -42,12 +42,12 @@ pub record Turnable (n from to k : ℕ) (W : List ℕ) : Type 0 where
   pub few : k ≤ 4096
   pub most : (q : ℕ) → memb q (membersOf n from to W) ≡ true → getD W (2 * n + q - 1) 0 ≤ k
 
--- what is asked before the words of a part are cleared: outside the members, past `count` words of each queue and past level k all is 0
+-- what is asked before the words of a part are cleared: outside the members, past as many words of the queue and of the starts as there are
+-- members, and past level k all is 0
 pub record Clearable (n from to k : ℕ) (W : List ℕ) : Type 0 where
   pub members : Members n from to W
   pub deep : k ≤ n
   pub firsts : (q : ℕ) → 1 ≤ q → q ≤ n → memb q (membersOf n from to W) ≡ false → getD W (q - 1) 0 ≡ 0
   pub seconds : (q : ℕ) → 1 ≤ q → q ≤ n → memb q (membersOf n from to W) ≡ false → getD W (2 * n + q - 1) 0 ≡ 0
   pub queue : (i : ℕ) → n + (to - from) ≤ i → i < 2 * n → getD W i 0 ≡ 0
-  pub starts : (i : ℕ) → 3 * n + (to - from) ≤ i → i < 4 * n → getD W i 0 ≡ 0
-  pub counts : (i : ℕ) → 4 * n + k ≤ i → i < 5 * n → getD W i 0 ≡ 0
+  pub starts : (i : ℕ) → 3 * n + (to - from) ≤ i → i + k < 4 * n → getD W i 0 ≡ 0

@@ -1,9 +1,9 @@
 -- The pieces placed one after another: the words and the levels afterwards, as functions of those before. Assumes nothing.
 use mathlib.Core.Bool.{Bool}
 use mathlib.Core.List.{List, [], _∷_}
-use Prim.Native.Nat.{ℕ, _+_}
+use Prim.Native.Nat.{ℕ, _+_, _*_, _≤_, _<_}
 use Rattle.combining.specs.Tally.{tally}
-use Rattle.combining.specs.Model.{queued, slots, numberAt, written, chosen, Placeable}
+use Rattle.combining.specs.Model.{nodeAt, queued, slots, numberAt, written, chosen, Placeable}
 use Rattle.piecing.specs.Starts.{sizeAt, Standing}
 
 -- where the piece that starts at o ends
@@ -26,8 +26,14 @@ unfoldable pub levelsAfter : ℕ → Bool → List ℕ → List ℕ → List ℕ
 levelsAfter n narrow [] W L = L
 levelsAfter n narrow (o ∷ os) W L = levelsAfter n narrow os (placedWords n narrow o W L) (placedLevels n narrow o W L)
 
--- each can be placed when its turn comes
-unfoldable pub PlaceableAll : ℕ → Bool → List ℕ → List ℕ → List ℕ → Type 0
-PlaceableAll n narrow [] W L = Unit {0}
-PlaceableAll n narrow (o ∷ os) W L =
-    Standing n W L o × Placeable n o (endOf n W L o) W L × PlaceableAll n narrow os (placedWords n narrow o W L) (placedLevels n narrow o W L)
+-- both numbers of the nodes s..t of the queue are at most b
+pub record Shallow (n b s t : ℕ) (W : List ℕ) : Type 0 where
+  pub first : (p : ℕ) → s ≤ p → p < t → numberAt 0 W (nodeAt n W p) ≤ b
+  pub second : (p : ℕ) → s ≤ p → p < t → numberAt (2 * n) W (nodeAt n W p) ≤ b
+
+-- each can be placed when its turn comes, at levels up to b
+unfoldable pub PlaceableAll : ℕ → ℕ → Bool → List ℕ → List ℕ → List ℕ → Type 0
+PlaceableAll n b narrow [] W L = Unit {0}
+PlaceableAll n b narrow (o ∷ os) W L =
+    Standing n W L o × Placeable n o (endOf n W L o) W L × Shallow n b o (endOf n W L o) W
+    × PlaceableAll n b narrow os (placedWords n narrow o W L) (placedLevels n narrow o W L)

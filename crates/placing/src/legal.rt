@@ -1,13 +1,14 @@
-// The words of a part: first numbers, a queue of nodes, second numbers, n words that are not used here, and the counts of the levels,
-// n words each. Level i has the count word 4n + i - 1. The callers have seen to the room and the ranges.
+// The words of a part, n each: first numbers, a queue of nodes, second numbers, words that end in the counts of the levels, words that are
+// not used here; behind them the levels by old number. Level i has the count word 4n - i. The callers have seen to the room and the ranges.
 ghost use mathlib.Core.Path.{_≡_};
 ghost use mathlib.Core.Bool.{_&&_, _||_, cond};
-ghost use Prim.Native.Nat.{_+_, _*_, _≤_, _<_};
+ghost use Prim.Native.Nat.{_*_, _≤_, _<_};
 ghost use lib.ListN.{length};
-ghost use lib.Seq.{slice};
-ghost use Rattle.basis.specs.Lists.{greatest};
+ghost use mathlib.Core.List.{map};
+ghost use Rattle.basis.specs.Lists.{upFrom, greatest};
+ghost use Rattle.combining.specs.Areas.{wordsOf, levelsOf};
 ghost use Rattle.combining.specs.Tally.{tally, untally};
-ghost use Rattle.combining.specs.Model.{slotAt, queued, slots, peakOf, written, numberAt, goesSecond, chosen, Readable, Countable, Full, Placeable};
+ghost use Rattle.combining.specs.Model.{slotAt, countOf, queued, slots, peakOf, written, numberAt, goesSecond, chosen, Readable, Countable, Full, Placeable};
 use words::larger;
 use words::wide;
 
@@ -19,7 +20,7 @@ fn slot(scratch: &[u16], n: usize, base: usize, s: usize, t: usize, p: usize) ->
 {
     let z = wide(scratch[n + p]);
     let i = wide(scratch[base + z - 1]);
-    4 * n + i - 1
+    4 * n - i
 }
 
 // Adds the nodes s..t of the queue to the counts. Returns the greatest count that it writes: counts only grow, so it is the
@@ -67,28 +68,29 @@ fn peak(scratch: &mut [u16], n: usize, base: usize, s: usize, t: usize) -> usize
 }
 
 // Gives the nodes s..t of the queue their numbers as levels.
-fn put(scratch: &[u16], levels: &mut [u16], n: usize, base: usize, s: usize, t: usize)
-    requires { ⌜ Readable n base s t (now scratch) ⌝ }
-    requires { ⌜ n ≤ length (now levels) ⌝ }
-    ensures { λ _. ⌜ now (levels .exit) ≡ written (numberAt base (now (scratch .entry))) (now (levels .entry)) (queued n s t (now (scratch .entry))) ⌝ }
+fn put(scratch: &mut [u16], n: usize, base: usize, s: usize, t: usize)
+    requires { ⌜ Readable n base s t (wordsOf n (now scratch)) ⌝ }
+    requires { ⌜ n ≤ length (levelsOf n (now scratch)) ⌝ }
+    ensures { λ _. ⌜ wordsOf n (now (scratch .exit)) ≡ wordsOf n (now (scratch .entry)) ⌝ }
+    ensures { λ _. ⌜ levelsOf n (now (scratch .exit)) ≡ written (numberAt base (wordsOf n (now (scratch .entry)))) (levelsOf n (now (scratch .entry))) (queued n s t (wordsOf n (now (scratch .entry)))) ⌝ }
 {
     let mut p = s;
     while p < t {
         let z = wide(scratch[n + p]);
-        levels[z - 1] = scratch[base + z - 1];
+        scratch[5 * n + z - 1] = scratch[base + z - 1];
         p += 1;
     }
 }
 
 // Places the nodes s..t of the queue by the numbers that start at base.
-pub fn settle(scratch: &mut [u16], levels: &mut [u16], n: usize, base: usize, s: usize, t: usize)
-    requires { ⌜ Countable n base s t (now scratch) ⌝ }
-    requires { ⌜ n ≤ length (now levels) ⌝ }
-    ensures { λ _. ⌜ now (scratch .exit) ≡ tally (now (scratch .entry)) (slots n base s t (now (scratch .entry))) ⌝ }
-    ensures { λ _. ⌜ now (levels .exit) ≡ written (numberAt base (now (scratch .entry))) (now (levels .entry)) (queued n s t (now (scratch .entry))) ⌝ }
+pub fn settle(scratch: &mut [u16], n: usize, base: usize, s: usize, t: usize)
+    requires { ⌜ Countable n base s t (wordsOf n (now scratch)) ⌝ }
+    requires { ⌜ n ≤ length (levelsOf n (now scratch)) ⌝ }
+    ensures { λ _. ⌜ wordsOf n (now (scratch .exit)) ≡ tally (wordsOf n (now (scratch .entry))) (slots n base s t (wordsOf n (now (scratch .entry)))) ⌝ }
+    ensures { λ _. ⌜ levelsOf n (now (scratch .exit)) ≡ written (numberAt base (wordsOf n (now (scratch .entry)))) (levelsOf n (now (scratch .entry))) (queued n s t (wordsOf n (now (scratch .entry)))) ⌝ }
 {
-    put(scratch, levels, n, base, s, t);
-    raise(scratch, n, base, s, t);
+    put(scratch, n, base, s, t);
+    raise(&mut scratch[..5 * n], n, base, s, t);
 }
 
 // Where the numbers start that a piece goes by: "by first numbers if h < l, by second if l < h. If equal, by first unless u's
@@ -107,27 +109,27 @@ fn choose(n: usize, h: usize, l: usize, narrow: bool) -> usize
 }
 
 // Places the piece s..t of the queue against the counts as they now are.
-pub fn place(scratch: &mut [u16], levels: &mut [u16], n: usize, s: usize, t: usize, narrow: bool)
-    requires { ⌜ Placeable n s t (now scratch) (now levels) ⌝ }
-    ensures { λ _. ⌜ now (scratch .exit) ≡ tally (now (scratch .entry)) (slots n (chosen n s t narrow (now (scratch .entry))) s t (now (scratch .entry))) ⌝ }
-    ensures { λ _. ⌜ now (levels .exit) ≡ written (numberAt (chosen n s t narrow (now (scratch .entry))) (now (scratch .entry))) (now (levels .entry)) (queued n s t (now (scratch .entry))) ⌝ }
+pub fn place(scratch: &mut [u16], n: usize, s: usize, t: usize, narrow: bool)
+    requires { ⌜ Placeable n s t (wordsOf n (now scratch)) (levelsOf n (now scratch)) ⌝ }
+    ensures { λ _. ⌜ wordsOf n (now (scratch .exit)) ≡ tally (wordsOf n (now (scratch .entry))) (slots n (chosen n s t narrow (wordsOf n (now (scratch .entry)))) s t (wordsOf n (now (scratch .entry)))) ⌝ }
+    ensures { λ _. ⌜ levelsOf n (now (scratch .exit)) ≡ written (numberAt (chosen n s t narrow (wordsOf n (now (scratch .entry)))) (wordsOf n (now (scratch .entry)))) (levelsOf n (now (scratch .entry))) (queued n s t (wordsOf n (now (scratch .entry)))) ⌝ }
 {
-    let h = peak(scratch, n, 0, s, t);
-    let l = peak(scratch, n, 2 * n, s, t);
+    let h = peak(&mut scratch[..5 * n], n, 0, s, t);
+    let l = peak(&mut scratch[..5 * n], n, 2 * n, s, t);
     let base = choose(n, h, l, narrow);
-    settle(scratch, levels, n, base, s, t);
+    settle(scratch, n, base, s, t);
 }
 
 // The greatest count of the levels 1..k.
 pub fn widest(scratch: &[u16], n: usize, k: usize) -> usize
-    requires { ⌜ (4 * n + k ≤ length (now scratch)) × (n ≤ 4096) ⌝ }
-    ensures { λ r. ⌜ r ≡ greatest (slice (4 * n) (4 * n + k) (now (scratch .entry))) ⌝ }
+    requires { ⌜ (n ≤ 4096) × (k ≤ n) × (5 * n ≤ length (now scratch)) ⌝ }
+    ensures { λ r. ⌜ r ≡ greatest (map (countOf n (now (scratch .entry))) (upFrom 1 k)) ⌝ }
 {
     let mut top = 0;
     let mut i = 0;
     while i < k {
-        top = larger(top, wide(scratch[4 * n + i]));
         i += 1;
+        top = larger(top, wide(scratch[4 * n - i]));
     }
     top
 }

@@ -8,45 +8,45 @@ use Rattle.combining.specs.Model.{numberAt, written}
 use Rattle.combining.proofs.Counting.{from-none}
 use Rattle.piecing.specs.Members.{Members, nought}
 use Rattle.piecing.specs.Starts.{membersOf}
-use Rattle.piecing.proofs.Storing.{Storing, store-begin, store-step, stored-other, member-range, next-members, z-word}
+use Rattle.piecing.proofs.Storing.{Storing, store-behind, store-step, stored-other, member-range, next-members, z-word}
 use Rattle.piecing.proofs.Stores.{length-written, written-append}
 
 -- at the loop's head: the members before i have their levels in Y, and their words in U are 0
 pub record Handing (n from to : ℕ) (W L U Y : List ℕ) (i : ℕ) : Type 0 where
-  pub store : Storing (4 * n) nought n from to W U i
+  pub store : Storing (5 * n) nought n from to W U i
   pub room : length L ≡ n
-  pub levels : Y ≡ written (numberAt (4 * n) W) L (membersOf n from i W)
+  pub levels : Y ≡ written (numberAt (5 * n) W) L (membersOf n from i W)
 
-pub handing-begin : {n from to : ℕ} {W L : List ℕ} → Members n from to W → length L ≡ n → Handing n from to W L W L from
+pub handing-begin : {n from to : ℕ} {W L : List ℕ} → Members n from to W → 6 * n ≤ length W → length L ≡ n → Handing n from to W L W L from
 unfolding written
-handing-begin {n} {from} {to} {W} {L} A r = record {
-  store = store-begin (4 * n) nought A (omega arith);
+handing-begin {n} {from} {to} {W} {L} A w r = record {
+  store = store-behind (5 * n) nought A (omega arith) (omega arith);
   room = r;
-  levels = sym (ap (written (numberAt (4 * n) W) L) (from-none (λ i. getD W (5 * n + i) 0) from from (omega arith)));
+  levels = sym (ap (written (numberAt (5 * n) W) L) (from-none (λ i. getD W (4 * n + i) 0) from from (omega arith)));
 }
 
 module _ {n from to : ℕ} {W L U Y : List ℕ} {i : ℕ} (I : Handing n from to W L U Y i) where
   pub levels-size : length Y ≡ n
-  levels-size = ap length (I .levels) ∙ length-written (numberAt (4 * n) W) L (membersOf n from i W) ∙ I .room
+  levels-size = ap length (I .levels) ∙ length-written (numberAt (5 * n) W) L (membersOf n from i W) ∙ I .room
 
-  module _ (h : i < to) {z : ℕ} (e : z ≡ getD U (5 * n + i) 0) where
-    z-is : z ≡ getD W (5 * n + i) 0
+  module _ (h : i < to) {z : ℕ} (e : z ≡ getD U (4 * n + i) 0) where
+    z-is : z ≡ getD W (4 * n + i) 0
     z-is =
         let S = I .store in
-        e ∙ ap (λ (l : List ℕ). getD l (5 * n + i) 0) (S .on)
-        ∙ stored-other (4 * n) n nought W (membersOf n from i W) (member-range (S .ask) i (S .most)) (5 * n + i) (λ y l r q. omega (arith, S .inside))
+        e ∙ ap (λ (l : List ℕ). getD l (4 * n + i) 0) (S .on)
+        ∙ stored-other (5 * n) n nought W (membersOf n from i W) (member-range (S .ask) i (S .most)) (4 * n + i) (λ y l r q. omega (arith, S .ask .most))
 
-    pub handing-step : Handing n from to W L (set U (4 * n + z - 1) 0) (set Y (z - 1) (getD U (4 * n + z - 1) 0)) (i + 1)
+    pub handing-step : Handing n from to W L (set U (5 * n + z - 1) 0) (set Y (z - 1) (getD U (5 * n + z - 1) 0)) (i + 1)
     unfolding written
     handing-step = record {
       store = store-step (I .store) h e refl;
       room = I .room;
       levels = (λ j. set (I .levels j) (z - 1) (z-word (I .store) h e j))
-          ∙ sym (written-append (numberAt (4 * n) W) L (membersOf n from i W) (z ∷ []))
-          ∙ ap (written (numberAt (4 * n) W) L) (ap (λ (y : ℕ). membersOf n from i W ++ (y ∷ [])) z-is ∙ sym (next-members (I .store .ask) i (I .store .low) h));
+          ∙ sym (written-append (numberAt (5 * n) W) L (membersOf n from i W) (z ∷ []))
+          ∙ ap (written (numberAt (5 * n) W) L) (ap (λ (y : ℕ). membersOf n from i W ++ (y ∷ [])) z-is ∙ sym (next-members (I .store .ask) i (I .store .low) h));
     }
 
-  pub handing-done : to ≤ i → Y ≡ written (numberAt (4 * n) W) L (membersOf n from to W)
+  pub handing-done : to ≤ i → Y ≡ written (numberAt (5 * n) W) L (membersOf n from to W)
   handing-done h =
       let e : i ≡ to = omega (arith, I .store .most) in
-      I .levels ∙ ap (λ (j : ℕ). written (numberAt (4 * n) W) L (membersOf n from j W)) e
+      I .levels ∙ ap (λ (j : ℕ). written (numberAt (5 * n) W) L (membersOf n from j W)) e

@@ -1,16 +1,16 @@
 // One part of a legal graph, for a caller that has its members. The scratch has areas of n words: four to work in, the second of them for
-// the part's order, one for its levels by old number, and the members of the parts. Linear in the part's nodes and entries: nothing here is n.
+// the part's order, the members of the parts, and one for the part's levels by old number. Linear in the part's nodes and entries: nothing here is n.
 ghost use mathlib.Core.Path.{_≡_};
 ghost use Prim.Native.Nat.{_+_, _*_, _≤_};
 ghost use lib.ListN.{length, take, replicate};
-ghost use lib.Seq.{sets};
+ghost use lib.Seq.{sets, slice};
 ghost use Rattle.spec.specs.Graph.{graphOf, sizeOf, graphRefusal, ofNode};
 ghost use Rattle.spec.specs.Levels.{part};
 ghost use Rattle.spec.specs.Numbering.{partResult};
+ghost use Rattle.combining.specs.Areas.{wordsOf};
 ghost use Rattle.combining.specs.Model.{numberAt, written};
 ghost use Rattle.piecing.specs.Given.{firstOf};
 ghost use Rattle.piecing.specs.Members.{Members, stored, nought};
-ghost use Rattle.piecing.specs.Seek.{at};
 ghost use Rattle.piecing.specs.Starts.{membersOf};
 ghost use Rattle.levels.specs.Part.{PartGiven};
 ghost use Rattle.renumbering.specs.Part.{orderAt, renewed, numbered, numberFrom, partFiguresOf, Numberable};
@@ -38,20 +38,6 @@ pub fn part_size(starts: &[u16], neighbours: &[u16], scratch: &mut [u16], p: u16
     s.reached
 }
 
-// Puts the members' levels into the area for levels.
-fn lay_levels(scratch: &mut [u16], levels: &[u16], n: usize, from: usize, to: usize)
-    requires { ⌜ Members n from to (now scratch) ⌝ }
-    requires { ⌜ length (now levels) ≡ n ⌝ }
-    ensures { λ _. ⌜ now (scratch .exit) ≡ stored (4 * n) (at (now (levels .entry))) (now (scratch .entry)) (membersOf n from to (now (scratch .entry))) ⌝ }
-{
-    let mut i = from;
-    while i < to {
-        let z = wide(scratch[5 * n + i]);
-        scratch[4 * n + z - 1] = levels[z - 1];
-        i += 1;
-    }
-}
-
 // "take the next free numbers": those after a, in the part's order, whose words it clears.
 fn give_numbers(scratch: &mut [u16], numbers: &mut [u16], n: usize, m: usize, a: usize)
     requires { ⌜ Numberable n m a (now scratch) (now numbers) ⌝ }
@@ -71,15 +57,16 @@ fn give_numbers(scratch: &mut [u16], numbers: &mut [u16], n: usize, m: usize, a:
 // Hands the members' levels over, and clears the area for levels.
 fn give_levels(scratch: &mut [u16], levels: &mut [u16], n: usize, from: usize, to: usize)
     requires { ⌜ Members n from to (now scratch) ⌝ }
+    requires { ⌜ 6 * n ≤ length (now scratch) ⌝ }
     requires { ⌜ length (now levels) ≡ n ⌝ }
-    ensures { λ _. ⌜ now (scratch .exit) ≡ stored (4 * n) nought (now (scratch .entry)) (membersOf n from to (now (scratch .entry))) ⌝ }
-    ensures { λ _. ⌜ now (levels .exit) ≡ written (numberAt (4 * n) (now (scratch .entry))) (now (levels .entry)) (membersOf n from to (now (scratch .entry))) ⌝ }
+    ensures { λ _. ⌜ now (scratch .exit) ≡ stored (5 * n) nought (now (scratch .entry)) (membersOf n from to (now (scratch .entry))) ⌝ }
+    ensures { λ _. ⌜ now (levels .exit) ≡ written (numberAt (5 * n) (now (scratch .entry))) (now (levels .entry)) (membersOf n from to (now (scratch .entry))) ⌝ }
 {
     let mut i = from;
     while i < to {
-        let z = wide(scratch[5 * n + i]);
-        levels[z - 1] = scratch[4 * n + z - 1];
-        scratch[4 * n + z - 1] = 0;
+        let z = wide(scratch[4 * n + i]);
+        levels[z - 1] = scratch[5 * n + z - 1];
+        scratch[5 * n + z - 1] = 0;
         i += 1;
     }
 }
@@ -96,23 +83,23 @@ pub fn number_part(
     to: usize,
 ) -> PartFigures
     requires { ⌜ graphRefusal (now starts) (now neighbours) ≡ 0 ⌝ }
-    requires { ⌜ PartGiven (graphOf (now starts) (now neighbours)) from to (now scratch) (now levels) ⌝ }
-    requires { ⌜ length (now numbers) ≡ sizeOf (now starts) ⌝ }
-    ensures { λ r. ⌜ r ≡ partFiguresOf (partResult (graphOf (now (starts .entry)) (now (neighbours .entry))) (firstOf (sizeOf (now (starts .entry))) from (now (scratch .entry))) .report) ⌝ }
+    requires { ⌜ PartGiven (graphOf (now starts) (now neighbours)) from to (wordsOf (sizeOf (now starts)) (now scratch)) (slice (5 * sizeOf (now starts)) (6 * sizeOf (now starts)) (now scratch)) ⌝ }
+    requires { ⌜ slice (5 * sizeOf (now starts)) (6 * sizeOf (now starts)) (now scratch) ≡ replicate (sizeOf (now starts)) 0 ⌝ }
+    requires { ⌜ (length (now numbers) ≡ sizeOf (now starts)) × (length (now levels) ≡ sizeOf (now starts)) ⌝ }
+    ensures { λ r. ⌜ r ≡ partFiguresOf (partResult (graphOf (now (starts .entry)) (now (neighbours .entry))) (firstOf (sizeOf (now (starts .entry))) from (wordsOf (sizeOf (now (starts .entry))) (now (scratch .entry)))) .report) ⌝ }
     ensures { λ _. ⌜ now (scratch .exit) ≡ now (scratch .entry) ⌝ }
-    ensures { λ _. ⌜ now (numbers .exit) ≡ renewed (graphOf (now (starts .entry)) (now (neighbours .entry))) (firstOf (sizeOf (now (starts .entry))) from (now (scratch .entry))) (numberFrom from (partResult (graphOf (now (starts .entry)) (now (neighbours .entry))) (firstOf (sizeOf (now (starts .entry))) from (now (scratch .entry))) .order)) (now (numbers .entry)) ⌝ }
-    ensures { λ _. ⌜ now (levels .exit) ≡ renewed (graphOf (now (starts .entry)) (now (neighbours .entry))) (firstOf (sizeOf (now (starts .entry))) from (now (scratch .entry))) (ofNode (partResult (graphOf (now (starts .entry)) (now (neighbours .entry))) (firstOf (sizeOf (now (starts .entry))) from (now (scratch .entry))) .levels)) (now (levels .entry)) ⌝ }
+    ensures { λ _. ⌜ now (numbers .exit) ≡ renewed (graphOf (now (starts .entry)) (now (neighbours .entry))) (firstOf (sizeOf (now (starts .entry))) from (wordsOf (sizeOf (now (starts .entry))) (now (scratch .entry)))) (numberFrom from (partResult (graphOf (now (starts .entry)) (now (neighbours .entry))) (firstOf (sizeOf (now (starts .entry))) from (wordsOf (sizeOf (now (starts .entry))) (now (scratch .entry)))) .order)) (now (numbers .entry)) ⌝ }
+    ensures { λ _. ⌜ now (levels .exit) ≡ renewed (graphOf (now (starts .entry)) (now (neighbours .entry))) (firstOf (sizeOf (now (starts .entry))) from (wordsOf (sizeOf (now (starts .entry))) (now (scratch .entry)))) (ofNode (partResult (graphOf (now (starts .entry)) (now (neighbours .entry))) (firstOf (sizeOf (now (starts .entry))) from (wordsOf (sizeOf (now (starts .entry))) (now (scratch .entry)))) .levels)) (now (levels .entry)) ⌝ }
 {
     let n = starts.len() - 1;
     let m = to - from;
-    let f = combine_part(starts, neighbours, scratch, levels, from, to);
-    lay_levels(scratch, levels, n, from, to);
+    let f = combine_part(starts, neighbours, scratch, from, to);
     sequence(
         starts,
         neighbours,
         scratch,
-        4 * n,
-        5 * n + from,
+        5 * n,
+        4 * n + from,
         m,
         f.k,
         f.v,

@@ -1,103 +1,151 @@
 -- `combine::legal::combine` meets its contract. Assumes nothing.
 use mathlib.Core.Path.{_≡_, sym, ap, _∙_, subst}
-use Prim.Native.Nat.{ℕ, _+_, _*_}
+use mathlib.Core.List.{List, _++_, map}
+use Prim.Native.Nat.{ℕ, _*_, _≤_}
 use native.Mathlib.Omega.{arith}
-use lib.Dec.{ltb}
-use lib.ListN.{length}
-use lib.Seq.{slice}
+use lib.ListN.{length, drop}
+use lib.Seq.{length-take-le}
 use borrow.Author.Needs.{needs}
-use Rattle.basis.specs.Lists.{greatest}
+use Rattle.basis.specs.Lists.{upFrom, greatest}
 use Rattle.spec.specs.Combined.{combined, widthOf}
 use Rattle.spec.specs.Graph.{graphOf, sizeOf}
+use Rattle.laws.specs.Legal.{LegalGraph}
 use Rattle.laws.proofs.Refused.{passed, starts-of, not-refused}
-use Rattle.piecing.specs.Given.{firstOf, endsOf, Entry}
+use Rattle.combining.specs.Areas.{wordsOf}
+use Rattle.combining.specs.Model.{countOf}
+use Rattle.piecing.specs.Given.{endsOf}
 use Rattle.piecing.specs.Members.{Clearable}
-use Rattle.piecing.proofs.Clearing.{zeroed-length}
-use Rattle.piecing.proofs.Finish.{entry-of, clearable, width-is, merged-is}
-use Rattle.piecing.proofs.Steps.{zeroed-same, width-few}
+use Rattle.combining.proofs.Areas.{words-length}
+use Rattle.piecing.proofs.Whole.{blank-in, level-room, level-ok, depth-ok, narrow-ok, tidy-room, widest-ok, width-ok, width-most, tidy-ok, combined-is}
 use Rattle.combine.proofs.legal.combine.Statement.{statement}
 use Rattle.combine.proofs.legal.combine.Tie as tie
 
-sub-n : tie.Need-sub-n
-sub-n c = let s = c .before .before .before .before in omega (arith, starts-of (passed (s .args .starts .now) (s .args .neighbours .now) (s .pre .0)) .count)
+G : (s : tie.Start) → LegalGraph (graphOf (s .args .starts .now) (s .args .neighbours .now))
+G s = not-refused (s .args .starts .now) (s .args .neighbours .now) (s .pre .0)
 
-entry : (s : tie.Start) → Entry (graphOf (s .args .starts .now) (s .args .neighbours .now)) (firstOf (sizeOf (s .args .starts .now)) (s .args .from) (s .args .scratch .now)) (endsOf (graphOf (s .args .starts .now) (s .args .neighbours .now)) (s .args .from) (s .args .scratch .now)) (sizeOf (s .args .starts .now)) (s .args .from) (s .args .to) (s .args .scratch .now) (s .args .levels .now)
-entry s =
-    entry-of (not-refused (s .args .starts .now) (s .args .neighbours .now) (s .pre .0))
-    (starts-of (passed (s .args .starts .now) (s .args .neighbours .now) (s .pre .0)) .few) (s .pre .1)
+few : (s : tie.Start) → sizeOf (s .args .starts .now) ≤ 4096
+few s = starts-of (passed (s .args .starts .now) (s .args .neighbours .now) (s .pre .0)) .few
+
+sub-n : tie.Need-sub-n
+sub-n c = let s = c .before .before .before in omega (arith, starts-of (passed (s .args .starts .now) (s .args .neighbours .now) (s .pre .0)) .count)
+
+mul-blank : tie.Need-mul-blank
+mul-blank c = let s = c .before .before .before .before in omega (arith, few s)
+
+sub-blank : tie.Need-sub-blank
+sub-blank c = let s = c .before .before .before .before in omega (arith, s .pre .1 .order)
+
+blank-requires : tie.Need-blank-requires
+blank-requires c κs = let s = c .before .before .before .before in blank-in (s .args .scratch .now) (G s) (few s) (s .pre .1)
+
+mul-level : tie.Need-mul-level
+mul-level c = let s = c .before .before .before .before .before .before .before in omega (arith, few s)
+
+slice-relend-prefix-level : tie.Need-slice-relend-prefix-level
+slice-relend-prefix-level c = let s = c .before .before .before .before .before .before .before in level-room (s .args .scratch .now) (G s) (few s) (s .pre .1) (c .before .before .blank .ensures)
+
+slice-aggregate-level : tie.Need-slice-aggregate-level
+slice-aggregate-level c =
+    let s = c .before .before .before .before .before .before .before .before in
+    let b = c .before .before .before .blank in
+    sym (length-take-le (6 * sizeOf (s .args .starts .now)) (b .last .0) (level-room (s .args .scratch .now) (G s) (few s) (s .pre .1) (b .ensures)))
 
 level-requires : tie.Need-level-requires
 level-requires c κs =
-    let s = c .before .before .before .before .before .before in
-    let p = s .pre in
-    (p .0, (entry s, (p .1 .depth, λ i. ltb (p .1 .width-u i) (p .1 .width-v i))))
+    let s = c .before .before .before .before .before .before .before .before in
+    let X = s .args .scratch .now in
+    let q = c .before .before .before .blank .ensures in
+    (s .pre .0, (level-ok X (G s) (few s) (s .pre .1) q, (depth-ok X (G s) (few s) (s .pre .1) q, narrow-ok X (G s) (few s) (s .pre .1) q)))
 
 wide-requires : tie.Need-wide-requires
 wide-requires c κs = search needs
 
+-- the slice once the part is levelled, and what is known of it
+back : (c : tie.After-level) → List ℕ
+back c = let s = c .before .before .before .before .before .before .before .before .before in c .level .last .1 .1 .0 ++ drop (6 * sizeOf (s .args .starts .now)) (c .before .before .before .before .blank .last .0)
+
 widest-requires : tie.Need-widest-requires
 widest-requires c κs =
     let s = c .before .before .before .before .before .before .before .before .before .before .before .before .before in
-    let A = entry s in
-    (omega (arith, c .before .before .before .before .before .before .level .ensures .words, A .words, A .deep, s .pre .1 .depth, c .wide .ensures), A .few)
+    let l = c .before .before .before .before .level in
+    let w = widest-ok (s .args .scratch .now) (G s) (few s) (s .pre .1) (c .before .before .before .before .before .before .before .before .blank .ensures) (l .last .1 .1 .0) (l .ensures) in
+    (w .0, omega (arith, w .1, c .wide .ensures), w .2)
+
+-- the greatest count
+width : (c : tie.After-widest) → let s = c .before .before .before .before .before .before .before .before .before .before .before .before .before .before in let g = graphOf (s .args .starts .now) (s .args .neighbours .now) in
+    c .widest .result ≡ widthOf (s .args .k) (combined g (endsOf g (s .args .from) (wordsOf (sizeOf (s .args .starts .now)) (s .args .scratch .now))))
+unfolding back
+width c =
+    let s = c .before .before .before .before .before .before .before .before .before .before .before .before .before .before in
+    let n = sizeOf (s .args .starts .now) in
+    let l = c .before .before .before .before .before .level in
+    width-ok (s .args .scratch .now) (G s) (few s) (s .pre .1) (c .before .before .before .before .before .before .before .before .before .blank .ensures) (l .last .1 .1 .0) (l .ensures)
+    (c .widest .ensures ∙ ap (λ (x : ℕ). greatest (map (countOf n (back (c .before .before .before .before .before))) (upFrom 1 x))) (c .before .wide .ensures))
+
+mul-tidy : tie.Need-mul-tidy
+mul-tidy c = let s = c .before .before .before .before .before .before .before .before .before .before .before .before .before .before in omega (arith, few s)
+
+lend : (c : tie.After-widest) → 5 * sizeOf (c .before .before .before .before .before .before .before .before .before .before .before .before .before .before .args .starts .now) ≤ length (back (c .before .before .before .before .before))
+unfolding back
+lend c =
+    let s = c .before .before .before .before .before .before .before .before .before .before .before .before .before .before in
+    let l = c .before .before .before .before .before .level in
+    tidy-room (s .args .scratch .now) (G s) (few s) (s .pre .1) (c .before .before .before .before .before .before .before .before .before .blank .ensures) (l .last .1 .1 .0) (l .ensures)
+
+slice-relend-prefix-tidy : tie.Need-slice-relend-prefix-tidy
+unfolding back
+slice-relend-prefix-tidy c = lend c
+
+slice-aggregate-tidy : tie.Need-slice-aggregate-tidy
+unfolding back
+slice-aggregate-tidy c = sym (words-length (sizeOf (c .before .before .before .before .before .before .before .before .before .before .before .before .before .before .before .args .starts .now)) (back (c .before .before .before .before .before .before)) (lend (c .before)))
 
 wide-requires-2 : tie.Need-wide-requires-2
 wide-requires-2 c κs = search needs
 
 tidy-requires : tie.Need-tidy-requires
+unfolding back
 tidy-requires c κs =
     let s = c .before .before .before .before .before .before .before .before .before .before .before .before .before .before .before .before in
-    let g = s .pre .1 in
-    subst (λ (x : ℕ). Clearable (sizeOf (s .args .starts .now)) (s .args .from) (s .args .to) x (c .before .before .before .before .before .before .before .before .before .level .last .1 .1 .0)) (sym (c .wide2 .ensures ∙ g .depth))
-    (clearable (entry s) (c .before .before .before .before .before .before .before .before .before .level .ensures) (g .queue-v) (g .queue-u))
-
--- the greatest count
-width : (c : tie.After-widest) → let s = c .before .before .before .before .before .before .before .before .before .before .before .before .before .before in let e = endsOf (graphOf (s .args .starts .now) (s .args .neighbours .now)) (s .args .from) (s .args .scratch .now) in
-    c .widest .result ≡ widthOf (e .k) (combined (graphOf (s .args .starts .now) (s .args .neighbours .now)) e)
-width c =
-    let s = c .before .before .before .before .before .before .before .before .before .before .before .before .before .before in
     let n = sizeOf (s .args .starts .now) in
-    c .widest .ensures ∙ ap (λ (x : ℕ). greatest (slice (4 * n) (4 * n + x) (c .before .before .before .before .before .before .before .level .last .1 .1 .0))) (c .before .wide .ensures ∙ s .pre .1 .depth)
-    ∙ width-is (entry s) (c .before .before .before .before .before .before .before .level .ensures)
+    let l = c .before .before .before .before .before .before .before .level in
+    subst (λ (x : ℕ). Clearable n (s .args .from) (s .args .to) x (wordsOf n (back (c .before .before .before .before .before .before .before)))) (sym (c .wide2 .ensures))
+    (tidy-ok (s .args .scratch .now) (G s) (few s) (s .pre .1) (c .before .before .before .before .before .before .before .before .before .before .before .blank .ensures) (l .last .1 .1 .0) (l .ensures))
 
 cast-result : tie.Need-cast-result
-cast-result c = let s = c .before .before .before .before .before .before .before .before .before .before .before .before .before .before .before .before .before .before .before in omega (arith, width (c .before .before .before .before .before), width-few (entry s), entry s .few)
+cast-result c =
+    let s = c .before .before .before .before .before .before .before .before .before .before .before .before .before .before .before .before .before .before .before in
+    let l = c .before .before .before .before .before .before .before .before .before .before .level in
+    omega (arith, width (c .before .before .before .before .before), width-most (s .args .scratch .now) (G s) (few s) (s .pre .1) (c .before .before .before .before .before .before .before .before .before .before .before .before .before .before .blank .ensures) (l .last .1 .1 .0) (l .ensures))
 
 same-length : tie.Need-same-length
-same-length c =
-    let s = c .before .before .before .before .before .before .before .before .before .before .before .before .before .before .before .before .before .before .before in
-    let K = c .before .before .before .before .before .before .before .before .before .before .before .before .level .ensures in
-    let n = sizeOf (s .args .starts .now) in
-    ap length (c .before .before .tidy .ensures) ∙ zeroed-length (5 * n) (c .before .before .before .before .before .before .before .before .before .before .before .before .level .last .1 .1 .0) (omega (arith, K .words, entry s .words)) ∙ K .words
-
-same-length-2 : tie.Need-same-length-2
-same-length-2 c = c .before .before .before .before .before .before .before .before .before .before .before .before .level .ensures .room
+same-length c = search needs
 
 returns : tie.Need-returns
 returns c =
     let s = c .before .before .before .before .before .before .before .before .before .before .before .before .before .before .before .before .before .before .before in
-    let A = entry s in
-    let K = c .before .before .before .before .before .before .before .before .before .before .before .before .level .ensures in
-    let g = graphOf (s .args .starts .now) (s .args .neighbours .now) in
-    let n = sizeOf (s .args .starts .now) in (
-      width (c .before .before .before .before .before) ∙ ap (λ (x : ℕ). widthOf x (combined g (endsOf g (s .args .from) (s .args .scratch .now)))) (sym (s .pre .1 .depth)),
-      (
-        c .before .before .tidy .ensures ∙ zeroed-same (5 * n) (c .before .before .before .before .before .before .before .before .before .before .before .before .level .last .1 .1 .0) (s .args .scratch .now) (K .words) (omega (arith, A .words)) (K .behind),
-        merged-is A K (s .pre .1 .room),
-      ),
-    )
+    let l = c .before .before .before .before .before .before .before .before .before .before .level in
+    (width (c .before .before .before .before .before), combined-is (s .args .scratch .now) (G s) (few s) (s .pre .1) (c .before .before .before .before .before .before .before .before .before .before .before .before .before .before .blank .ensures) (l .last .1 .1 .0) (l .ensures) (c .before .before .tidy .ensures))
 
 pub combine-spec : {M : Type 1} → statement M
 combine-spec =
     tie.close
     (tie.spec
     sub-n
+    mul-blank
+    sub-blank
+    blank-requires
+    mul-level
+    slice-relend-prefix-level
+    slice-aggregate-level
     level-requires
     wide-requires
     widest-requires
+    mul-tidy
+    slice-relend-prefix-tidy
+    slice-aggregate-tidy
     wide-requires-2
     tidy-requires
     cast-result
     same-length
-    same-length-2
     returns)

@@ -23,7 +23,7 @@ record Read (n to : ℕ) (U : List ℕ) (t i z : ℕ) : Type 0 where
   few : n ≤ 4096
   last : to ≤ n
   here : i < to
-  words : 6 * n ≤ length U
+  words : 5 * n ≤ length U
   low : 1 ≤ z
   high : z ≤ n
   room : t ≤ i

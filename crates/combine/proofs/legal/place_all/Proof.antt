@@ -1,19 +1,23 @@
 -- `combine::legal::place_all` meets its contract. Assumes nothing.
-use Prim.Native.Nat.{_-_}
+use mathlib.Core.Path.{_≡_, _∙_}
+use Prim.Native.Nat.{_+_, _-_, _*_}
 use native.Mathlib.Omega.{arith}
+use lib.ListN.{getD}
 use borrow.Author.Needs.{needs}
+use Rattle.combining.specs.Areas.{wordsOf, levelsOf}
+use Rattle.combining.proofs.Areas.{word-read, words-room, same-size}
 use Rattle.piecing.proofs.PlaceLoop.{PlacingAll, place-begin, now-stands, now-placeable, end-fits, place-step, place-done}
 use Rattle.combine.proofs.legal.place_all.Statement.{statement}
 use Rattle.combine.proofs.legal.place_all.Tie as tie
 
 abbrev Inv-loop : tie.InvT-loop
-Inv-loop scratch₀ levels₀ n m narrow i₀ scratch levels i = PlacingAll n m narrow scratch₀ levels₀ scratch levels i
+Inv-loop scratch₀ n m narrow i₀ scratch i = PlacingAll n m narrow (wordsOf n scratch₀) (levelsOf n scratch₀) (wordsOf n scratch) (levelsOf n scratch) i
 
 abbrev μ-loop : tie.MeasureT-loop
-μ-loop scratch₀ levels₀ n m narrow i₀ scratch levels i = m - i
+μ-loop scratch₀ n m narrow i₀ scratch i = m - i
 
 loop-holds : tie.Need-loop-holds Inv-loop μ-loop
-loop-holds c = let p = c .before .before .pre in place-begin (p .0 .0) (p .0 .1) (p .0 .2) (p .1)
+loop-holds c = let p = c .before .pre in place-begin (p .0 .0) (p .0 .1) (p .0 .2) (p .1)
 
 mul-wide : tie.Need-mul-wide Inv-loop μ-loop
 mul-wide c = let I = c .before .loop .inv in omega (arith, I .few)
@@ -25,36 +29,46 @@ mul-wide-2 : tie.Need-mul-wide-2 Inv-loop μ-loop
 mul-wide-2 c = let I = c .before .loop .inv in omega (arith, I .few, I .last)
 
 slice-read-wide : tie.Need-slice-read-wide Inv-loop μ-loop
-slice-read-wide c = let I = c .before .before .loop .inv in let h = c .before .loop-test .taken in omega (arith, I .room, I .last)
+slice-read-wide c =
+    let I = c .before .before .loop .inv in
+    let h = c .before .loop-test .taken in
+    omega (arith, words-room (c .before .before .before .before .args .n) (c .before .before .loop .scratch) (I .room), I .last)
 
 wide-requires : tie.Need-wide-requires Inv-loop μ-loop
 wide-requires c κs = search needs
 
+-- the start that is read, in the words
+start-is : (c : tie.After-wide Inv-loop μ-loop) → let l = c .before .before .before .loop in let n = c .before .before .before .before .before .args .n in c .wide .result ≡ getD (wordsOf n (l .scratch)) (3 * n + l .i) 0
+start-is c =
+    let l = c .before .before .before .loop in
+    let n = c .before .before .before .before .before .args .n in
+    c .wide .ensures ∙ word-read n (l .scratch) (3 * n + l .i) (omega (arith, c .before .before .loop-test .taken, l .inv .last))
+
 size-at-requires : tie.Need-size-at-requires Inv-loop μ-loop
-size-at-requires c κs = now-stands (c .before .before .before .before .before .loop .inv) (c .before .before .before .before .loop-test .taken) (c .before .before .wide .ensures)
+size-at-requires c κs = now-stands (c .before .before .before .before .loop .inv) (c .before .before .before .loop-test .taken) (start-is (c .before))
 
 add-t : tie.Need-add-t Inv-loop μ-loop
-add-t c = let I = c .before .before .before .before .before .before .loop .inv in omega (arith, end-fits I (c .before .before .before .before .before .loop-test .taken) (c .before .before .before .wide .ensures) (c .size-at .ensures), I .few)
+add-t c = let I = c .before .before .before .before .before .loop .inv in omega (arith, end-fits I (c .before .before .before .before .loop-test .taken) (start-is (c .before .before)) (c .size-at .ensures), I .few)
 
 place-requires : tie.Need-place-requires Inv-loop μ-loop
-place-requires c κs = now-placeable (c .before .before .before .before .before .before .before .before .loop .inv) (c .before .before .before .before .before .before .before .loop-test .taken) (c .before .before .before .before .before .wide .ensures) (c .before .before .size-at .ensures)
+place-requires c κs = now-placeable (c .before .before .before .before .before .before .loop .inv) (c .before .before .before .before .before .loop-test .taken) (start-is (c .before .before .before)) (c .before .size-at .ensures)
 
 add-i : tie.Need-add-i Inv-loop μ-loop
-add-i c = omega (arith, c .before .before .before .before .before .before .before .before .before .before .before .before .loop-test .taken)
+add-i c = omega (arith, c .before .before .before .before .before .before .before .before .loop-test .taken)
 
 loop-less : tie.Need-loop-less Inv-loop μ-loop
-loop-less c = omega (arith, c .before .before .before .before .before .before .before .before .before .before .before .before .loop-test .taken)
+loop-less c = omega (arith, c .before .before .before .before .before .before .before .before .loop-test .taken)
 
 loop-again : tie.Need-loop-again Inv-loop μ-loop
 loop-again c =
-    let p = c .before .before .before .before .place .ensures in
-    place-step (c .before .before .before .before .before .before .before .before .before .before .before .before .before .loop .inv) (c .before .before .before .before .before .before .before .before .before .before .before .before .loop-test .taken) (c .before .before .before .before .before .before .before .before .before .before .wide .ensures) (c .before .before .before .before .before .before .before .size-at .ensures) (p .0) (p .1)
+    let p = c .before .before .place .ensures in
+    place-step (c .before .before .before .before .before .before .before .before .before .loop .inv) (c .before .before .before .before .before .before .before .before .loop-test .taken) (start-is (c .before .before .before .before .before .before)) (c .before .before .before .before .size-at .ensures) (p .0) (p .1)
 
 same-length : tie.Need-same-length Inv-loop μ-loop
-same-length c = c .before .loop .inv .counts .size
-
-same-length-2 : tie.Need-same-length-2 Inv-loop μ-loop
-same-length-2 c = c .before .loop .inv .size
+same-length c =
+    let l = c .before .loop in
+    let s = c .before .before .before .args in
+    same-size (s .n) (s .scratch .now) (l .scratch) (l .inv .counts .size) (l .inv .size)
 
 returns : tie.Need-returns Inv-loop μ-loop
 returns c = place-done (c .before .loop .inv) (c .loop-test .left)
@@ -78,5 +92,4 @@ place-all-spec =
     loop-less
     loop-again
     same-length
-    same-length-2
     returns)

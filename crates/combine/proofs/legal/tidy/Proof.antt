@@ -36,17 +36,20 @@ blank-requires-2 c κs = room-three (c .before .before .before .before .before .
 mul-blank-2 : tie.Need-mul-blank-2
 mul-blank-2 c = omega (arith, c .before .before .before .before .before .before .before .before .before .before .before .before .before .before .before .before .before .before .pre .members .few)
 
+sub-blank-3 : tie.Need-sub-blank-3
+sub-blank-3 c = let A = c .before .before .before .before .before .before .before .before .before .before .before .before .before .before .before .before .before .before .pre in omega (arith, A .deep)
+
 blank-requires-3 : tie.Need-blank-requires-3
 blank-requires-3 c κs = room-four (c .before .before .before .before .before .before .before .before .before .before .before .before .before .before .before .before .before .before .pre) (c .before .before .before .before .before .before .before .before .before .before .before .before .before .before .before .erase .ensures) (c .before .before .before .before .before .before .before .before .before .before .before .erase2 .ensures) (c .before .before .before .before .before .before .before .blank .ensures) (c .before .before .before .blank2 .ensures)
 
-done : (c : tie.After-blank3) → let s = c .before .before .before .before .before .before .before .before .before .before .before .before .before .before .before .before .before .before .before in c .blank3 .last .0 ≡ zeroed (5 * s .args .n) (s .args .scratch .now)
+done : (c : tie.After-blank3) → let s = c .before .before .before .before .before .before .before .before .before .before .before .before .before .before .before .before .before .before .before in c .blank3 .last .0 ≡ zeroed (4 * s .args .n) (s .args .scratch .now)
 done c =
     tidy-done (c .before .before .before .before .before .before .before .before .before .before .before .before .before .before .before .before .before .before .before .pre) (c .before .before .before .before .before .before .before .before .before .before .before .before .before .before .before .before .erase .ensures) (c .before .before .before .before .before .before .before .before .before .before .before .before .erase2 .ensures) (c .before .before .before .before .before .before .before .before .blank .ensures) (c .before .before .before .before .blank2 .ensures) (c .blank3 .ensures)
 
 same-length : tie.Need-same-length
 same-length c =
     let s = c .before .before .before .before .before .before .before .before .before .before .before .before .before .before .before .before .before .before .before .before .before in
-    ap length (done (c .before .before)) ∙ zeroed-length (5 * s .args .n) (s .args .scratch .now) (omega (arith, s .pre .members .words))
+    ap length (done (c .before .before)) ∙ zeroed-length (4 * s .args .n) (s .args .scratch .now) (omega (arith, s .pre .members .words))
 
 returns : tie.Need-returns
 returns c = done (c .before .before)
@@ -64,6 +67,7 @@ tidy-spec =
     sub-blank-2
     blank-requires-2
     mul-blank-2
+    sub-blank-3
     blank-requires-3
     same-length
     returns)

@@ -5,30 +5,30 @@ use Prim.Native.Nat.{ℕ, _+_, _-_, _*_, _≤_, _<_}
 use native.Mathlib.Omega.{arith}
 use lib.ListN.{length, set}
 use borrow.Author.Needs.{needs}
-use Rattle.piecing.proofs.Gaps.{Gapping, gap-begin, gap-size, stands-on, gap-stop, gap-step, gap-done}
+use Rattle.piecing.proofs.Slices.{GapIn, gap-begin-in, gap-same, gap-room, gap-stands, gap-stop-in, gap-step-in, gap-done-in}
 use Rattle.combine.proofs.pieces.make_gap.Statement.{statement}
 use Rattle.combine.proofs.pieces.make_gap.Tie as tie
 
 abbrev Inv-loop : tie.InvT-loop
-Inv-loop scratch₀ levels n m size j₀ scratch j = Gapping n m scratch₀ levels size scratch j
+Inv-loop scratch₀ n m size j₀ scratch j = GapIn n m scratch₀ size scratch j
 
 abbrev μ-loop : tie.MeasureT-loop
-μ-loop scratch₀ levels n m size j₀ scratch j = j
+μ-loop scratch₀ n m size j₀ scratch j = j
 
 -- the words of the list are there
-record Room (n m j : ℕ) (U : List ℕ) : Type 0 where
+record Room (n m j : ℕ) (X : List ℕ) : Type 0 where
   few : n ≤ 4096
   list : m < n
   most : j ≤ m
-  words : 5 * n ≤ length U
+  words : 5 * n ≤ length X
 
-room : (c : tie.At-loop Inv-loop μ-loop) → let s = c .before .before .before in Room (s .args .n) (s .args .m) (c .loop .j) (c .loop .scratch)
+room : (c : tie.At-loop Inv-loop μ-loop) → let s = c .before .before in Room (s .args .n) (s .args .m) (c .loop .j) (c .loop .scratch)
 room c =
     let I = c .loop .inv in
-    record { few = I .ask .few; list = I .ask .room; most = I .most; words = omega (arith, I .ask .words, gap-size I) }
+    record { few = I .on .ask .few; list = I .on .ask .room; most = I .on .most; words = gap-room I }
 
 loop-holds : tie.Need-loop-holds Inv-loop μ-loop
-loop-holds c = let s = c .before .before in gap-begin (s .args .size) (s .pre)
+loop-holds c = let s = c .before in gap-begin-in (s .args .scratch .now) (s .args .size) (s .pre)
 
 mul-o : tie.Need-mul-o Inv-loop μ-loop
 mul-o c = let R = room (c .before) in omega arith
@@ -49,13 +49,13 @@ wide-requires : tie.Need-wide-requires Inv-loop μ-loop
 wide-requires c κs = search needs
 
 size-at-requires : tie.Need-size-at-requires Inv-loop μ-loop
-size-at-requires c κs = stands-on (c .before .before .before .before .loop .inv) (c .before .before .before .loop-test .taken) (c .wide .ensures)
+size-at-requires c κs = gap-stands (c .before .before .before .before .loop .inv) (c .before .before .before .loop-test .taken) (c .wide .ensures)
 
 same-length : tie.Need-same-length Inv-loop μ-loop
-same-length c = gap-size (c .before .before .before .before .before .before .loop .inv)
+same-length c = gap-same (c .before .before .before .before .before .before .loop .inv)
 
 returns : tie.Need-returns Inv-loop μ-loop
-returns c = gap-stop (c .before .before .before .before .before .before .loop .inv) (c .before .before .before .before .before .loop-test .taken) (c .before .before .wide .ensures) (c .before .size-at .ensures) (c .if1 .taken)
+returns c = gap-stop-in (c .before .before .before .before .before .before .loop .inv) (c .before .before .before .before .before .loop-test .taken) (c .before .before .wide .ensures) (c .before .size-at .ensures) (c .if1 .taken)
 
 mul-scratch : tie.Need-mul-scratch Inv-loop μ-loop
 mul-scratch c = let R = room (c .before .before .before .before .before .before) in omega arith
@@ -77,16 +77,16 @@ loop-less c = omega (arith, c .before .before .before .before .before .loop-test
 
 loop-again : tie.Need-loop-again Inv-loop μ-loop
 loop-again c =
-    let s = c .before .before .before .before .before .before .before .before .before in
-    let l = c .before .before .before .before .before .before in
-    subst (λ (x : ℕ). Gapping (s .args .n) (s .args .m) (s .args .scratch .now) (s .args .levels .now) (s .args .size) (set (l .loop .scratch) (3 * s .args .n + l .loop .j) x) (l .loop .j - 1)) (c .before .before .wide .ensures)
-    (gap-step (l .loop .inv) (c .before .before .before .before .before .loop-test .taken) (c .before .before .wide .ensures) (c .before .size-at .ensures) (c .if1 .left))
+    let s = c .before .before .before .before .before .before .before .before .args in
+    let l = c .before .before .before .before .before .before .loop in
+    subst (λ (x : ℕ). GapIn (s .n) (s .m) (s .scratch .now) (s .size) (set (l .scratch) (3 * s .n + l .j) x) (l .j - 1)) (c .before .before .wide .ensures)
+    (gap-step-in (l .inv) (c .before .before .before .before .before .loop-test .taken) (c .before .before .wide .ensures) (c .before .size-at .ensures) (c .if1 .left))
 
 same-length-2 : tie.Need-same-length-2 Inv-loop μ-loop
-same-length-2 c = gap-size (c .before .loop .inv)
+same-length-2 c = gap-same (c .before .loop .inv)
 
 returns-2 : tie.Need-returns-2 Inv-loop μ-loop
-returns-2 c = gap-done (c .before .loop .inv) (omega (arith, c .loop-test .left))
+returns-2 c = gap-done-in (c .before .loop .inv) (omega (arith, c .loop-test .left))
 
 pub make-gap-spec : {M : Type 1} → statement M
 make-gap-spec =

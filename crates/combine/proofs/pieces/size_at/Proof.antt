@@ -1,8 +1,7 @@
 -- `combine::pieces::size_at` meets its contract. Assumes nothing.
-use mathlib.Core.Path.{ap, _∙_}
-use Prim.Native.Nat.{ℕ, _-_}
-use lib.ListN.{getD}
+use native.Mathlib.Omega.{arith}
 use borrow.Author.Needs.{needs}
+use Rattle.piecing.proofs.Slices.{size-room, w-low, w-high, size-is}
 use Rattle.combine.proofs.pieces.size_at.Statement.{statement}
 use Rattle.combine.proofs.pieces.size_at.Tie as tie
 
@@ -13,25 +12,34 @@ mul-wide : tie.Need-mul-wide
 mul-wide c = search needs
 
 shared-slice-read-wide : tie.Need-shared-slice-read-wide
-shared-slice-read-wide c = search needs
+shared-slice-read-wide c = let s = c .before .before in omega (arith, size-room (s .args .scratch .now) (s .pre))
 
 wide-requires : tie.Need-wide-requires
 wide-requires c κs = search needs
 
-sub-wide : tie.Need-sub-wide
-sub-wide c = search needs
-
 mul-wide-2 : tie.Need-mul-wide-2
 mul-wide-2 c = search needs
 
+add-wide-2 : tie.Need-add-wide-2
+add-wide-2 c = let s = c .before .before .before in omega (arith, w-high (s .args .scratch .now) (s .pre) (c .wide .ensures), s .pre .few)
+
+sub-wide : tie.Need-sub-wide
+sub-wide c = let s = c .before .before .before in omega (arith, w-low (s .args .scratch .now) (s .pre) (c .wide .ensures))
+
+mul-wide-3 : tie.Need-mul-wide-3
+mul-wide-3 c = let s = c .before .before .before in omega (arith, w-high (s .args .scratch .now) (s .pre) (c .wide .ensures), s .pre .few)
+
 shared-slice-read-wide-2 : tie.Need-shared-slice-read-wide-2
-shared-slice-read-wide-2 c = search needs
+shared-slice-read-wide-2 c =
+    let s = c .before .before .before .before in
+    let X = s .args .scratch .now in
+    omega (arith, w-low X (s .pre) (c .before .wide .ensures), w-high X (s .pre) (c .before .wide .ensures), size-room X (s .pre))
 
 wide-requires-2 : tie.Need-wide-requires-2
 wide-requires-2 c κs = search needs
 
 returns : tie.Need-returns
-returns c = c .wide2 .ensures ∙ ap (λ (x : ℕ). getD (c .before .before .before .before .before .before .args .levels .now) (x - 1) 0) (c .before .before .wide .ensures)
+returns c = let s = c .before .before .before .before .before in size-is (s .args .scratch .now) (s .pre) (c .before .before .wide .ensures) (c .wide2 .ensures)
 
 pub size-at-spec : {M : Type 1} → statement M
 size-at-spec =
@@ -41,8 +49,10 @@ size-at-spec =
     mul-wide
     shared-slice-read-wide
     wide-requires
-    sub-wide
     mul-wide-2
+    add-wide-2
+    sub-wide
+    mul-wide-3
     shared-slice-read-wide-2
     wide-requires-2
     returns)

@@ -1,8 +1,19 @@
 -- `levels::legal::combine_part` meets its contract. Assumes nothing.
+use Prim.Native.Nat.{_*_, _≤_}
+use native.Mathlib.Omega.{arith}
 use borrow.Author.Needs.{needs}
-use Rattle.levels.proofs.OnePart.{first-ask, ends-ask, combine-ask, figures, words-again, levels-merged}
+use lib.ListN.{length}
+use Rattle.spec.specs.Graph.{sizeOf}
+use Rattle.laws.proofs.Refused.{passed, starts-of}
+use Rattle.levels.proofs.OnePart.{room, first-ask, ends-ask, combine-ask, figures, part-merged}
 use Rattle.levels.proofs.legal.combine_part.Statement.{statement}
 use Rattle.levels.proofs.legal.combine_part.Tie as tie
+
+few : (s : tie.Start) → sizeOf (s .args .starts .now) ≤ 4096
+few s = starts-of (passed (s .args .starts .now) (s .args .neighbours .now) (s .pre .0)) .few
+
+words : (s : tie.Start) → 6 * sizeOf (s .args .starts .now) ≤ length (s .args .scratch .now)
+words s = room (s .args .starts .now) (s .args .neighbours .now) (s .pre .0) (s .args .scratch .now) (s .pre .1)
 
 sub-n : tie.Need-sub-n
 sub-n c = search needs
@@ -11,16 +22,16 @@ mul-first-in-e : tie.Need-mul-first-in-e
 mul-first-in-e c = search needs
 
 add-first-in-e : tie.Need-add-first-in-e
-add-first-in-e c = search needs
+add-first-in-e c = let s = c .before .before .before in omega (arith, few s, s .pre .1 .order, s .pre .1 .most)
 
 mul-first-in-e-2 : tie.Need-mul-first-in-e-2
 mul-first-in-e-2 c = search needs
 
 add-first-in-e-2 : tie.Need-add-first-in-e-2
-add-first-in-e-2 c = search needs
+add-first-in-e-2 c = let s = c .before .before .before in omega (arith, few s, s .pre .1 .most)
 
 mul-first-in-e-3 : tie.Need-mul-first-in-e-3
-mul-first-in-e-3 c = search needs
+mul-first-in-e-3 c = let s = c .before .before .before in omega (arith, few s, s .pre .1 .order, s .pre .1 .most)
 
 sub-first-in-e : tie.Need-sub-first-in-e
 sub-first-in-e c = search needs
@@ -29,12 +40,12 @@ part-first-in-e-start : tie.Need-part-first-in-e-start
 part-first-in-e-start c = search needs
 
 part-first-in-e-end : tie.Need-part-first-in-e-end
-part-first-in-e-end c = search needs
+part-first-in-e-end c = let s = c .before .before .before .before in omega (arith, words s, s .pre .1 .most)
 
 first-in-e-requires : tie.Need-first-in-e-requires
 first-in-e-requires c κs =
-    let s = c .before .before .before .before .before .before in
-    first-ask (s .args .starts .now) (s .args .neighbours .now) (s .pre .0) (s .pre .1)
+    let s = c .before .before .before .before .before in
+    first-ask (s .args .starts .now) (s .args .neighbours .now) (s .pre .0) (s .args .scratch .now) (s .pre .1)
 
 mul-ends-from : tie.Need-mul-ends-from
 mul-ends-from c = search needs
@@ -46,36 +57,32 @@ part-ends-from-start : tie.Need-part-ends-from-start
 part-ends-from-start c = search needs
 
 part-ends-from-end : tie.Need-part-ends-from-end
-part-ends-from-end c = search needs
+part-ends-from-end c = let s = c .before .before .before .before .before .before in omega (arith, words s)
 
 ends-from-requires : tie.Need-ends-from-requires
 ends-from-requires c κs =
-    let s = c .before .before .before .before .before .before .before .before in
-    ends-ask (s .args .starts .now) (s .args .neighbours .now) (s .pre .0) (s .pre .1) (c .before .first-in-e .ensures)
+    let s = c .before .before .before .before .before .before .before in
+    ends-ask (s .args .starts .now) (s .args .neighbours .now) (s .pre .0) (s .args .scratch .now) (s .pre .1) (c .before .first-in-e .ensures)
 
 combine-requires : tie.Need-combine-requires
 combine-requires c κs =
-    let s = c .before .before .before .before .before .before .before .before .before .before .before .before .before in
-    let w = c .before .before .before .before .ends-from .ensures in
-    combine-ask (s .args .starts .now) (s .args .neighbours .now) (s .pre .0) (s .pre .1) (c .before .before .before .before .before .before .first-in-e .ensures) (w .0) (w .1)
+    let s = c .before .before .before .before .before .before .before .before .before .before .before in
+    let w = c .before .before .before .ends-from .ensures in
+    combine-ask (s .args .starts .now) (s .args .neighbours .now) (s .pre .0) (s .args .scratch .now) (s .pre .1) (c .before .before .before .before .before .first-in-e .ensures) (w .0) (w .1)
 
 same-length : tie.Need-same-length
 same-length c = search needs
 
-same-length-2 : tie.Need-same-length-2
-same-length-2 c = search needs
-
 returns : tie.Need-returns
 returns c =
-    let s = c .before .before .before .before .before .before .before .before .before .before .before .before .before .before .before .before .before .before in
+    let s = c .before .before .before .before .before .before .before .before .before .before .before .before .before .before in
     let S = s .args .starts .now in
     let N = s .args .neighbours .now in
-    let v = c .before .before .before .before .before .before .before .before .before .before .before .first-in-e .ensures in
-    let w = c .before .before .before .before .before .before .before .before .before .ends-from .ensures in
-    let x = c .before .before .before .before .combine .ensures in (
-      figures S N (s .pre .0) (s .pre .1) v (w .0) (w .1) (x .0),
-      (words-again S N (s .pre .0) (s .pre .1) v (w .0) (w .1) (x .1 .0), levels-merged S N (s .pre .0) (s .pre .1) v (w .0) (w .1) (x .1 .1)),
-    )
+    let X = s .args .scratch .now in
+    let v = c .before .before .before .before .before .before .before .before .first-in-e .ensures in
+    let w = c .before .before .before .before .before .before .ends-from .ensures in
+    let x = c .before .before .combine .ensures in
+    (figures S N (s .pre .0) X (s .pre .1) v (w .0) (w .1) (x .0), part-merged S N (s .pre .0) X (s .pre .1) v (w .0) (w .1) (x .1))
 
 pub combine-part-spec : {M : Type 1} → statement M
 combine-part-spec =
@@ -98,5 +105,4 @@ combine-part-spec =
     ends-from-requires
     combine-requires
     same-length
-    same-length-2
     returns)

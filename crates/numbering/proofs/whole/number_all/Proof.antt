@@ -7,7 +7,7 @@ use denote.Ref.{now}
 use lib.ListN.{drop}
 use Rattle.spec.specs.Graph.{sizeOf}
 use Rattle.laws.proofs.Lent.{zeroed-all}
-use Rattle.numbering.proofs.Figures.{legal-lists, members-room, members-blank, lent-room, lent-size, back-size, last-scratch, last-size, numbers-numbering, eight-are}
+use Rattle.numbering.proofs.Figures.{legal-lists, members-room, members-blank, lent-room, lent-size, back-size, last-scratch, last-size, numbers-numbering, eight-are, filled-room, levels-blank}
 use Rattle.numbering.proofs.Ran.{starts, ran-begin}
 use Rattle.numbering.proofs.whole.number_all.Statement.{statement}
 use Rattle.numbering.proofs.whole.number_all.Tie as tie
@@ -33,8 +33,11 @@ members-requires c κs =
 number-parts-requires : tie.Need-number-parts-requires
 number-parts-requires c κs =
     let s = c .before .before .before .before .before .before .before .before .before .before .before .before .before .before .before .before .before .before .before .before in
-    let m = c .before .before .before .before .before .members .ensures in
-    (m .0, ran-begin (drop (6 * sizeOf (now (s .args .starts))) (c .before .before .before .before .before .before .before .before .before .before .before .before .before .clear .last .0)) (s .pre .0) (s .pre .1 .0 .0) (c .before .before .before .before .before .before .before .before .before .clear2 .ensures ∙ zeroed-all (sizeOf (now (s .args .starts))) (now (s .args .levels)) (s .pre .1 .0 .1)) (m .1))
+    let m = c .before .before .before .before .before .members .ensures in (
+      m .0,
+      ran-begin (drop (5 * sizeOf (now (s .args .starts))) (c .before .before .before .before .before .before .before .before .before .before .before .before .before .clear .last .0)) (s .pre .0) (s .pre .1 .0 .0) (c .before .before .before .before .before .before .before .before .before .clear2 .ensures ∙ zeroed-all (sizeOf (now (s .args .starts))) (now (s .args .levels)) (s .pre .1 .0 .1)) (m .1)
+          (filled-room (now (s .args .starts)) (now (s .args .neighbours)) (s .pre .0) (now (s .args .scratch)) (s .pre .1 .1) (c .before .before .before .before .before .before .before .before .before .before .before .before .before .clear .ensures) (m .1)) (levels-blank (now (s .args .starts)) (now (s .args .neighbours)) (s .pre .0) (now (s .args .scratch)) (s .pre .1 .1) (c .before .before .before .before .before .before .before .before .before .before .before .before .before .clear .ensures) (m .1)),
+    )
 
 slice-relend-prefix-figures : tie.Need-slice-relend-prefix-figures
 slice-relend-prefix-figures c = lent-room (now (c .before .before .before .before .before .before .before .before .before .before .before .before .before .before .before .before .before .before .before .before .before .before .before .before .before .before .before .before .args .starts)) (now (c .before .before .before .before .before .before .before .before .before .before .before .before .before .before .before .before .before .before .before .before .before .before .before .before .before .before .before .before .args .neighbours)) (c .before .before .before .before .before .before .before .before .before .before .before .before .before .before .before .before .before .before .before .before .before .before .before .before .before .before .before .before .pre .0) (now (c .before .before .before .before .before .before .before .before .before .before .before .before .before .before .before .before .before .before .before .before .before .before .before .before .before .before .before .before .args .scratch)) (c .before .before .before .before .before .before .before .before .before .before .before .before .before .before .before .before .before .before .before .before .before .before .before .before .before .before .before .before .pre .1 .1) (c .before .before .before .before .before .before .before .before .before .before .before .before .before .before .before .before .before .before .before .before .before .clear .ensures) (c .before .before .before .before .before .before .before .before .before .before .before .before .before .members .ensures .1) (c .before .before .before .before .before .before .before .number-parts .ensures .1 .1 .1)

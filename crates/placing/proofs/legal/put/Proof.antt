@@ -1,59 +1,63 @@
 -- `placing::legal::put` meets its contract. Assumes nothing.
-use Prim.Native.Nat.{_-_, _≤_}
+use Prim.Native.Nat.{_-_}
 use native.Mathlib.Omega.{arith}
-use lib.ListN.{length}
 use borrow.Author.Needs.{needs}
-use Rattle.combining.specs.Model.{nodeAt, numberAt, Readable}
-use Rattle.combining.proofs.Counting.{Located, located, Writing, write-begin, write-step, write-done}
+use Rattle.combining.specs.Areas.{wordsOf}
+use Rattle.combining.proofs.Areas.{Putting, put-begin, put-room, put-at, put-step, put-done}
+use Rattle.combining.proofs.Counting.{Located}
 use Rattle.placing.proofs.legal.put.Statement.{statement}
 use Rattle.placing.proofs.legal.put.Tie as tie
 
 abbrev Inv-loop : tie.InvT-loop
-Inv-loop scratch levels₀ n base s t p₀ levels p = Readable n base s t scratch × (n ≤ length levels₀) × Writing (numberAt base scratch) (nodeAt n scratch) s t levels₀ levels p
+Inv-loop scratch₀ n base s t p₀ scratch p = Putting n base s t scratch₀ scratch p
 
 abbrev μ-loop : tie.MeasureT-loop
-μ-loop scratch levels₀ n base s t p₀ levels p = t - p
+μ-loop scratch₀ n base s t p₀ scratch p = t - p
 
-at-node : (c : tie.After-wide Inv-loop μ-loop) → let s = c .before .before .before .before .before .before in Located (s .args .n) (s .args .base) (s .args .scratch .now) (c .wide .result)
-at-node c = let I = c .before .before .before .loop .inv in located (I .0) (I .2 .low) (c .before .before .loop-test .taken) (c .wide .ensures)
+at-node : (c : tie.After-wide Inv-loop μ-loop) → let s = c .before .before .before .before .before in Located (s .args .n) (s .args .base) (wordsOf (s .args .n) (s .args .scratch .now)) (c .wide .result)
+at-node c = put-at (c .before .before .before .loop .inv) (c .before .before .loop-test .taken) (c .wide .ensures)
 
 loop-holds : tie.Need-loop-holds Inv-loop μ-loop
-loop-holds c =
-    let s = c .before .before in
-    (s .pre .0, s .pre .1, write-begin (numberAt (s .args .base) (s .args .scratch .now)) (nodeAt (s .args .n) (s .args .scratch .now)) (s .args .s) (s .args .t) (s .args .levels .now) (s .pre .0 .order))
+loop-holds c = let s = c .before in put-begin (s .args .scratch .now) (s .pre .0) (s .pre .1)
 
 add-wide : tie.Need-add-wide Inv-loop μ-loop
-add-wide c = let I = c .before .loop .inv in omega (arith, I .0 .most, I .0 .few)
+add-wide c = let I = c .before .loop .inv in omega (arith, I .read .most, I .read .few)
 
 mul-wide : tie.Need-mul-wide Inv-loop μ-loop
-mul-wide c = let I = c .before .loop .inv in omega (arith, I .0 .most, I .0 .few)
+mul-wide c = let I = c .before .loop .inv in omega (arith, I .read .most, I .read .few)
 
-shared-slice-read-wide : tie.Need-shared-slice-read-wide Inv-loop μ-loop
-shared-slice-read-wide c = let I = c .before .before .loop .inv in let h = c .before .loop-test .taken in omega (arith, I .0 .most, I .0 .room)
+slice-read-wide : tie.Need-slice-read-wide Inv-loop μ-loop
+slice-read-wide c = let I = c .before .before .loop .inv in let h = c .before .loop-test .taken in omega (arith, I .read .most, put-room I)
 
 wide-requires : tie.Need-wide-requires Inv-loop μ-loop
 wide-requires c κs = search needs
 
-add-levels : tie.Need-add-levels Inv-loop μ-loop
-add-levels c = let F = at-node c in omega arith
+add-scratch : tie.Need-add-scratch Inv-loop μ-loop
+add-scratch c = let F = at-node c in omega arith
 
-sub-levels : tie.Need-sub-levels Inv-loop μ-loop
-sub-levels c = let F = at-node c in omega arith
+sub-scratch : tie.Need-sub-scratch Inv-loop μ-loop
+sub-scratch c = let F = at-node c in omega arith
 
-mul-levels : tie.Need-mul-levels Inv-loop μ-loop
-mul-levels c = let F = at-node c in omega arith
+mul-scratch : tie.Need-mul-scratch Inv-loop μ-loop
+mul-scratch c = let F = at-node c in omega arith
 
-shared-slice-read-levels : tie.Need-shared-slice-read-levels Inv-loop μ-loop
-shared-slice-read-levels c = at-node (c .before) .fits
+slice-read-scratch : tie.Need-slice-read-scratch Inv-loop μ-loop
+slice-read-scratch c = let F = at-node (c .before) in omega (arith, put-room (c .before .before .before .before .loop .inv))
 
-sub-levels-2 : tie.Need-sub-levels-2 Inv-loop μ-loop
-sub-levels-2 c = let F = at-node (c .before) in omega arith
+mul-scratch-2 : tie.Need-mul-scratch-2 Inv-loop μ-loop
+mul-scratch-2 c = let F = at-node (c .before) in omega arith
 
-mul-levels-2 : tie.Need-mul-levels-2 Inv-loop μ-loop
-mul-levels-2 c = let F = at-node (c .before) in omega arith
+add-scratch-2 : tie.Need-add-scratch-2 Inv-loop μ-loop
+add-scratch-2 c = let F = at-node (c .before) in omega arith
 
-slice-write-levels : tie.Need-slice-write-levels Inv-loop μ-loop
-slice-write-levels c = let F = at-node (c .before) in let I = c .before .before .before .before .loop .inv in omega (arith, I .1, I .2 .size)
+sub-scratch-2 : tie.Need-sub-scratch-2 Inv-loop μ-loop
+sub-scratch-2 c = let F = at-node (c .before) in omega arith
+
+mul-scratch-3 : tie.Need-mul-scratch-3 Inv-loop μ-loop
+mul-scratch-3 c = let F = at-node (c .before) in omega arith
+
+slice-write-scratch : tie.Need-slice-write-scratch Inv-loop μ-loop
+slice-write-scratch c = let F = at-node (c .before) in omega (arith, put-room (c .before .before .before .before .loop .inv))
 
 add-p : tie.Need-add-p Inv-loop μ-loop
 add-p c = omega arith
@@ -62,16 +66,13 @@ loop-less : tie.Need-loop-less Inv-loop μ-loop
 loop-less c = omega arith
 
 loop-again : tie.Need-loop-again Inv-loop μ-loop
-loop-again c =
-    let a = c .before in
-    let I = a .before .before .before .loop .inv in
-    (I .0, I .1, write-step (I .2) (a .before .before .loop-test .taken) (a .wide .ensures))
+loop-again c = let a = c .before in put-step (a .before .before .before .loop .inv) (a .before .before .loop-test .taken) (a .wide .ensures)
 
 same-length : tie.Need-same-length Inv-loop μ-loop
-same-length c = c .before .loop .inv .2 .size
+same-length c = c .before .loop .inv .size
 
 returns : tie.Need-returns Inv-loop μ-loop
-returns c = write-done (c .before .loop .inv .2) (c .loop-test .left)
+returns c = put-done (c .before .loop .inv) (c .loop-test .left)
 
 pub put-spec : {M : Type 1} → statement M
 put-spec =
@@ -82,15 +83,17 @@ put-spec =
     loop-holds
     add-wide
     mul-wide
-    shared-slice-read-wide
+    slice-read-wide
     wide-requires
-    add-levels
-    sub-levels
-    mul-levels
-    shared-slice-read-levels
-    sub-levels-2
-    mul-levels-2
-    slice-write-levels
+    add-scratch
+    sub-scratch
+    mul-scratch
+    slice-read-scratch
+    mul-scratch-2
+    add-scratch-2
+    sub-scratch-2
+    mul-scratch-3
+    slice-write-scratch
     add-p
     loop-less
     loop-again

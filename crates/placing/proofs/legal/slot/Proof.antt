@@ -1,11 +1,10 @@
 -- `placing::legal::slot` meets its contract. Assumes nothing.
 use mathlib.Core.Path.{ap, _∙_}
-use Prim.Native.Nat.{ℕ, _+_, _-_, _*_}
+use Prim.Native.Nat.{ℕ, _-_, _*_}
 use native.Mathlib.Omega.{arith}
 use borrow.Author.Needs.{needs}
 use Rattle.combining.specs.Model.{numberAt}
 use Rattle.combining.proofs.Counting.{Located, located}
-use borrow.Author.Needs.{needs}
 use Rattle.placing.proofs.legal.slot.Statement.{statement}
 use Rattle.placing.proofs.legal.slot.Tie as tie
 
@@ -42,16 +41,13 @@ wide-requires-2 c κs = search needs
 mul-result : tie.Need-mul-result
 mul-result c = let F = at-node (c .before .before) in omega arith
 
-add-result : tie.Need-add-result
-add-result c = let F = at-node (c .before .before) in omega (arith, c .wide2 .ensures)
-
 sub-result : tie.Need-sub-result
 sub-result c = let F = at-node (c .before .before) in omega (arith, c .wide2 .ensures)
 
 returns : tie.Need-returns
 returns c =
     let s = c .before .before .before .before .before in
-    ap (λ (i : ℕ). 4 * s .args .n + i - 1) (c .wide2 .ensures ∙ ap (λ (z : ℕ). numberAt (s .args .base) (s .args .scratch .now) z) (c .before .before .wide .ensures))
+    ap (λ (i : ℕ). 4 * s .args .n - i) (c .wide2 .ensures ∙ ap (λ (z : ℕ). numberAt (s .args .base) (s .args .scratch .now) z) (c .before .before .wide .ensures))
 
 pub slot-spec : {M : Type 1} → statement M
 slot-spec =
@@ -67,6 +63,5 @@ slot-spec =
     shared-slice-read-wide-2
     wide-requires-2
     mul-result
-    add-result
     sub-result
     returns)

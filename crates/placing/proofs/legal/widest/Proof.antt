@@ -1,6 +1,6 @@
 -- `placing::legal::widest` meets its contract. Assumes nothing.
 use mathlib.Core.Path.{ap, _∙_}
-use Prim.Native.Nat.{_-_, _*_, _≤_, max}
+use Prim.Native.Nat.{_-_, max}
 use native.Mathlib.Omega.{arith}
 use borrow.Author.Needs.{needs}
 use Rattle.combining.proofs.Counting.{Topping, top-begin, top-step, top-done}
@@ -8,19 +8,22 @@ use Rattle.placing.proofs.legal.widest.Statement.{statement}
 use Rattle.placing.proofs.legal.widest.Tie as tie
 
 abbrev Inv-loop : tie.InvT-loop
-Inv-loop scratch n k top₀ i₀ top i = (n ≤ 4096) × Topping (4 * n) k scratch top i
+Inv-loop scratch n k top₀ i₀ top i = Topping n k scratch top i
 
 abbrev μ-loop : tie.MeasureT-loop
 μ-loop scratch n k top₀ i₀ top i = k - i
 
 loop-holds : tie.Need-loop-holds Inv-loop μ-loop
-loop-holds c = let s = c .before in (s .pre .1, top-begin (4 * s .args .n) (s .args .k) (s .args .scratch .now) (s .pre .0))
+loop-holds c = let p = c .before .pre in top-begin (p .0) (p .1) (p .2)
+
+add-i : tie.Need-add-i Inv-loop μ-loop
+add-i c = omega arith
 
 mul-wide : tie.Need-mul-wide Inv-loop μ-loop
 mul-wide c = omega arith
 
-add-wide : tie.Need-add-wide Inv-loop μ-loop
-add-wide c = omega arith
+sub-wide : tie.Need-sub-wide Inv-loop μ-loop
+sub-wide c = omega arith
 
 mul-wide-2 : tie.Need-mul-wide-2 Inv-loop μ-loop
 mul-wide-2 c = omega arith
@@ -34,9 +37,6 @@ wide-requires c κs = search needs
 larger-requires : tie.Need-larger-requires Inv-loop μ-loop
 larger-requires c κs = search needs
 
-add-i : tie.Need-add-i Inv-loop μ-loop
-add-i c = omega arith
-
 loop-less : tie.Need-loop-less Inv-loop μ-loop
 loop-less c = omega arith
 
@@ -44,10 +44,10 @@ loop-again : tie.Need-loop-again Inv-loop μ-loop
 loop-again c =
     let w = c .before in
     let l = w .before .before .before in
-    (l .loop .inv .0, top-step (l .loop .inv .1) (w .before .before .loop-test .taken) (c .larger .ensures ∙ ap (max (l .loop .top)) (w .wide .ensures)))
+    top-step (l .loop .inv) (w .before .before .loop-test .taken) (c .larger .ensures ∙ ap (max (l .loop .top)) (w .wide .ensures))
 
 returns : tie.Need-returns Inv-loop μ-loop
-returns c = top-done (c .before .loop .inv .1) (c .loop-test .left)
+returns c = top-done (c .before .loop .inv) (c .loop-test .left)
 
 pub widest-spec : {M : Type 1} → statement M
 widest-spec =
@@ -56,13 +56,13 @@ widest-spec =
     Inv-loop
     μ-loop
     loop-holds
+    add-i
     mul-wide
-    add-wide
+    sub-wide
     mul-wide-2
     shared-slice-read-wide
     wide-requires
     larger-requires
-    add-i
     loop-less
     loop-again
     returns)

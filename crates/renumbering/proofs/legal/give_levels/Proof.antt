@@ -14,7 +14,7 @@ abbrev μ-loop : tie.MeasureT-loop
 μ-loop scratch₀ levels₀ n from to i₀ scratch levels i = to - i
 
 loop-holds : tie.Need-loop-holds Inv-loop μ-loop
-loop-holds c = let s = c .before .before in handing-begin (s .pre .0) (s .pre .1)
+loop-holds c = let s = c .before .before in handing-begin (s .pre .0) (s .pre .1 .0) (s .pre .1 .1)
 
 mul-wide : tie.Need-mul-wide Inv-loop μ-loop
 mul-wide c = omega (arith, c .before .loop .inv .store .ask .few)

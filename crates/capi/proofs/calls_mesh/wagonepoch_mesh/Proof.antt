@@ -1,0 +1,83 @@
+-- `capi::calls_mesh::wagonepoch_mesh` meets its contract: the call is `mesh::mesh_lists`. Assumes nothing.
+use mathlib.Core.Path.{ap, _∙_}
+use mathlib.Core.List.{List}
+use Prim.Native.Nat.{ℕ}
+use borrow.Author.Needs.{needs}
+use denote.Ref.{now}
+use Rattle.basis.specs.Lists.{overwrite}
+use Rattle.spec.specs.CallsMesh.{meshAnswer, meshStarts, meshNeighbours, meshScratch}
+use Rattle.spec.specs.Graph.{badSize}
+use Rattle.spec.specs.Lent.{Outcome}
+use Rattle.spec.specs.Refusal.{refuse, _orElse_}
+use Rattle.mesh.specs.Answer.{meaning}
+use Rattle.capi.specs.Figures.{meshList}
+use Rattle.capi.proofs.Calls.{ended-short, ended-refused, ended-accepted, heard, lent-short, lent-long, next, end}
+use Rattle.capi.proofs.calls_mesh.wagonepoch_mesh.Statement.{statement}
+use Rattle.capi.proofs.calls_mesh.wagonepoch_mesh.Tie as tie
+
+-- what the call answers, and what it leaves
+abbrev answer : tie.Start → Outcome ℕ
+answer s = meshAnswer (s .args .n) (now (s .args .elements)) (now (s .args .starts)) (now (s .args .neighbours)) (now (s .args .scratch))
+
+abbrev starts : tie.Start → List ℕ
+starts s = meshStarts (s .args .n) (now (s .args .elements)) (now (s .args .starts)) (now (s .args .neighbours)) (now (s .args .scratch))
+
+abbrev neighbours : tie.Start → List ℕ
+neighbours s = meshNeighbours (s .args .n) (now (s .args .elements)) (now (s .args .starts)) (now (s .args .neighbours)) (now (s .args .scratch))
+
+abbrev scratch : tie.Start → List ℕ
+scratch s = meshScratch (s .args .n) (now (s .args .elements)) (now (s .args .starts)) (now (s .args .neighbours)) (now (s .args .scratch))
+
+-- the tests before 5
+abbrev first : tie.Start → ℕ
+first s = refuse (badSize (s .args .n)) 1
+
+returns : tie.Need-returns
+returns c =
+    let s = c .before .before .before .before .before .before .before .before in
+    let F = now (s .args .figures) in
+    let h = c .before .before .if1 .taken in
+    let E = ended-short 1 (first s) F meshList (answer s) h (c .or-five .ensures ∙ ap (λ (x : ℕ). x orElse 5) (c .before .size-refusal .ensures)) in
+    (E .answer, (E .list, (lent-short 1 F (now (s .args .starts)) (starts s) h, (lent-short 1 F (now (s .args .neighbours)) (neighbours s) h, lent-short 1 F (now (s .args .scratch)) (scratch s) h))))
+
+returns-2 : tie.Need-returns-2
+returns-2 c =
+    let s = c .before .before .before .before .before .before .before .before .before .before .before .before .before .before .before .before .before .before .before in
+    let F = now (s .args .figures) in
+    let h = c .before .before .before .before .before .before .before .before .before .before .before .before .before .if1 .left in
+    let e = c .before .before .before .before .before .before .before .before .before .mesh-lists .ensures in
+    let E = ended-refused 1 (first s) F meshList (answer s) h (heard meaning (answer s) (e .0) (c .before .c .given .1)) in
+    (E .answer, (E .list, (lent-long 1 F (now (s .args .starts)) (starts s) h (e .1 .0), (lent-long 1 F (now (s .args .neighbours)) (neighbours s) h (e .1 .1 .0), lent-long 1 F (now (s .args .scratch)) (scratch s) h (e .1 .1 .1)))))
+
+returns-3 : tie.Need-returns-3
+returns-3 c =
+    let s = c .before .before .before .before .before .before .before .before .before .before .before .before .before .before .before .before .before .before .before .before .before .before .before .before .before in
+    let F = now (s .args .figures) in
+    let h = c .before .before .before .before .before .before .before .before .before .before .before .before .before .before .before .before .before .before .before .if1 .left in
+    let e = c .before .before .before .before .before .before .before .before .before .before .before .before .before .before .before .mesh-lists .ensures in
+    let E = ended-accepted 1 (first s) F meshList (answer s) h (heard meaning (answer s) (e .0) (c .before .before .before .before .before .before .before .entries .given .1))
+    (c .before .before .put .ensures ∙ ap (λ (l : List ℕ). overwrite l F) (next (c .before .before .before .before .count .ensures) end)) in
+    (E .answer, (E .list, (lent-long 1 F (now (s .args .starts)) (starts s) h (e .1 .0), (lent-long 1 F (now (s .args .neighbours)) (neighbours s) h (e .1 .1 .0), lent-long 1 F (now (s .args .scratch)) (scratch s) h (e .1 .1 .1)))))
+
+pub wagonepoch-mesh-spec : {M : Type 1} → statement M
+wagonepoch-mesh-spec =
+    tie.close
+    (tie.spec
+    (λ c κs. search needs)
+    (λ c κs. search needs)
+    returns
+    (λ c κs. search needs)
+    (λ c. search needs)
+    (λ c. search needs)
+    (λ c κs. search needs)
+    (λ c. search needs)
+    (λ c κs. search needs)
+    (λ c. search needs)
+    (λ c. search needs)
+    (λ c. search needs)
+    returns-2
+    (λ c. search needs)
+    (λ c. search needs)
+    (λ c. search needs)
+    (λ c. search needs)
+    returns-3)
