@@ -5,8 +5,10 @@ or whole.
 """
 
 from collections import namedtuple
+from itertools import permutations
 
 import calls
+import shapes
 import store
 from combined import number_pairs
 from ends import ends_of_part
@@ -28,6 +30,8 @@ CALLS = {
     'elimination': (5, lambda c, first, second, third, data: calls.elimination(c.starts, c.neighbours, c.given, first, data)),
     'mesh': (6, lambda c, first, second, third, data: calls.mesh(c.node, c.given, first, second, third)),
     'combined levels': (7, lambda c, first, second, third, data: calls.combined_levels(c.starts, c.neighbours, c.node, first, second)),
+    'whole run': (8, lambda c, first, second, third, data: calls.whole_run(c.starts, c.neighbours, first, second, third)),
+    'run and eliminate': (9, lambda c, first, second, third, data: calls.run_and_eliminate(c.starts, c.neighbours, first, second, third, data)),
 }
 
 
@@ -111,6 +115,11 @@ def lent(draw, need):
     return max(0, need - 1 - draw.below(2)) if way == 0 else need if way < 6 else need + 1 + draw.below(9)
 
 
+def enough(draw, need):
+    """A length: exact or longer."""
+    return need + draw.one([0, 0, 1, 1 + draw.below(9)])
+
+
 def at_node(draw, kind, lists, node):
     """The calls that are given a node."""
     n = len(lists[0]) - 1
@@ -140,9 +149,31 @@ def numbered(draw, kind, lists, numbering):
     yield Case(kind, 'elimination', *lists, numbering, 0, lent(draw, n), 3, 0, lent(draw, byte_count(lists, numbering)))
 
 
+def run_byte_count(lists):
+    """Mark bytes that the run's own numbers need, as the reference counts them."""
+    n = len(lists[0]) - 1
+    _, figures = calls.whole_run(*lists, pattern(n), pattern(n), pattern(8 * n))
+    return store.byte_count(figures[3])
+
+
+def runs(draw, kind, lists):
+    """The run and run and eliminate on a legal adjacency, with all that they need; now and then also with one thing short."""
+    n, need = len(lists[0]) - 1, run_byte_count(lists)
+    most = [enough(draw, n), enough(draw, n), enough(draw, 8 * n)]
+    yield Case(kind, 'whole run', *lists, [], 0, *most, 2)
+    yield Case(kind, 'run and eliminate', *lists, [], 0, *most, enough(draw, need))
+    if draw.chance(0.3):
+        yield Case(kind, 'run and eliminate', *lists, [], 0, *most, max(0, need - 1))
+    if draw.chance(0.3):
+        at = draw.below(3)
+        short = most[:at] + [(n, n, 8 * n)[at] - 1] + most[at + 1:]
+        yield Case(kind, draw.one(['whole run', 'run and eliminate']), *lists, [], 0, *short, enough(draw, need))
+
+
 def whole(draw, kind, lists):
-    """The calls on an adjacency alone."""
+    """The calls on a legal adjacency alone."""
     yield Case(kind, 'adjacency test', *lists, [], 0, 3, 0, 0, 2)
+    yield from runs(draw, kind, lists)
 
 
 def on_graph(draw, kind, lists, nodes, numberings):
@@ -159,10 +190,12 @@ def on_graph(draw, kind, lists, nodes, numberings):
 def on_illegal(draw, lists):
     """Calls on an adjacency that may be illegal."""
     n = max(0, len(lists[0]) - 1)
-    made = list(whole(draw, 'illegal adjacency', lists))
+    made = [Case('illegal adjacency', 'adjacency test', *lists, [], 0, 3, 0, 0, 2)]
     made += list(at_node(draw, 'illegal adjacency', lists, draw.below(n + 2)))
     made += [Case('illegal adjacency', call, *lists, list(range(1, n + 1)), 0, lent(draw, n), 3, 0, lent(draw, n))
              for call in ('measures', 'elimination')]
+    made += [Case('illegal adjacency', call, *lists, [], 0, lent(draw, n), lent(draw, n), lent(draw, 8 * n), lent(draw, n))
+             for call in ('whole run', 'run and eliminate')]
     return [made[0], draw.one(made[1:])]
 
 
@@ -178,11 +211,27 @@ def some_of_five(draw, count):
         yield from on_graph(draw, '5 nodes', lists, draw.some(range(1, 6), 2), 1)
 
 
+def every_numbering(least, most):
+    """All graphs of so many nodes, eliminated under every numbering."""
+    for n in range(least, most + 1):
+        for lists in small_graphs(n):
+            for numbering in permutations(range(1, n + 1)):
+                need = byte_count(lists, numbering)
+                yield Case('every numbering', 'elimination', *lists, list(numbering), 0, n, 0, 0, need)
+
+
 def at_random(draw, count, nodes):
     """Random graphs of up to 40 nodes, at so many of their nodes."""
     for _ in range(count):
         n = 1 + draw.below(40)
         yield from on_graph(draw, 'random graph', random_graph(draw, n), draw.some(range(1, n + 1), min(n, nodes)), 2)
+
+
+def runs_at_random(draw, count):
+    """Random graphs of up to 60 nodes: the calls that are given no node."""
+    for _ in range(count):
+        n = 1 + draw.below(60)
+        yield from on_graph(draw, 'random graph', random_graph(draw, n), [], 1)
 
 
 def tells(rows, node):
@@ -201,6 +250,7 @@ def telling(draw, count):
         if tells(rows_of(*lists), node):
             count -= 1
             yield from at_node(draw, 'telling graph', lists, node)
+            yield draw.one(list(runs(draw, 'telling graph', lists)))
 
 
 def of_table(draw):
@@ -220,6 +270,23 @@ def large(draw, count):
                 yield case
 
 
+def of_many_parts():
+    """As many parts as there can be, and nearly so: isolated nodes, pairs, rings of four."""
+    for lists in shapes.many_parts():
+        n = len(lists[0]) - 1
+        yield Case('many parts', 'run and eliminate', *lists, [], 0, n, n, 8 * n, run_byte_count(lists))
+
+
+def of_full_size(draw):
+    """Meshes, trees and paths of about 4,096 nodes; run and eliminate where the program has room for the bytes."""
+    kind = 'full size'
+    for lists in shapes.full_size(draw):
+        n = len(lists[0]) - 1
+        yield from (case for case in whole(draw, kind, lists) if case.bytes <= MOST_BYTES)
+        yield from at_node(draw, kind, lists, 1 + draw.below(n))
+        yield Case(kind, 'measures', *lists, list(range(1, n + 1)), 0, n, 0, 0, 0)
+
+
 def illegal(draw, count):
     for _ in range(count):
         lists = random_graph(draw, 1 + draw.below(9))
@@ -234,18 +301,22 @@ def limits(draw):
     """n and the entries at their limits: lists that are empty, 4,096 and 4,097 nodes, 32,768 and more entries."""
     kind = 'limits'
     for starts in ([], [0], [5], [0] * 4097, [0] * 4098):
-        for call in ('adjacency test', 'rooted levels', 'ends', 'measures', 'elimination'):
-            n = max(0, len(starts) - 1)
-            given = list(range(1, n + 1)) if call in ('measures', 'elimination') else []
-            yield Case(kind, call, starts, [], given, 1, 8 * n if call == 'ends' else n, 0, 0, 0)
-    path = from_edges(4096, [(p, p + 1) for p in range(1, 4096)])
+        n = max(0, len(starts) - 1)
+        given = list(range(1, n + 1)) if n <= 4096 else []
+        yield Case(kind, 'adjacency test', starts, [], [], 0, 0, 0, 0, 0)
+        yield Case(kind, 'rooted levels', starts, [], [], 1, n, 0, 0, 0)
+        yield Case(kind, 'ends', starts, [], [], 1, 8 * n, 0, 0, 0)
+        yield Case(kind, 'measures', starts, [], given, 0, n, 0, 0, 0)
+        yield Case(kind, 'elimination', starts, [], given, 0, n, 0, 0, 0)
+        yield Case(kind, 'whole run', starts, [], [], 0, n, n, 8 * n, 0)
+    path = from_edges(*shapes.path(4096))
     yield Case(kind, 'rooted levels', *path, [], 1, 4096, 0, 0, 0)
     yield Case(kind, 'ends', *path, [], 77, 32768 + 2, 0, 0, 0)
     yield Case(kind, 'combined levels', *path, [], 77, 4096, 32768, 0, 0)
-    # each node adjoins the four before and the four after it on a ring
-    ring = from_edges(4096, {tuple(sorted((p, (p - 1 + d) % 4096 + 1))) for p in range(1, 4097) for d in range(1, 5)})
-    yield Case(kind, 'rooted levels', *ring, [], 4096, 4099, 0, 0, 0)
-    yield Case(kind, 'measures', *ring, list(range(1, 4097)), 0, 4096, 0, 0, 0)
+    yield Case(kind, 'run and eliminate', *path, [], 0, 4096, 4096, 32768, 512)
+    ring = from_edges(*shapes.band(4096, 4))
+    yield Case(kind, 'adjacency test', *ring, [], 0, 0, 0, 0, 0)
+    yield Case(kind, 'whole run', *ring, [], 0, 4096, 4099, 32768, 0)
     yield Case(kind, 'adjacency test', [0, 32769], [1] * 32769, [], 0, 0, 0, 0, 0)
 
 

@@ -4,9 +4,10 @@
   entry_points.py                     write crates/calls_test/stdin and crates/calls_test/stdout: the selection that the gate runs
   entry_points.py --check             say whether the two stand as this script makes them
   entry_points.py --show K            print case K (line K of stdout) and its line
-  entry_points.py --run N --seed S    run target/bin/calls_test on all graphs of up to 5 nodes, N random graphs of up to 40 nodes at every
-                                      node, N graphs with several passes or pieces, N / 10 of up to 1,000 nodes, N illegal
-                                      adjacencies and N meshes, and compare
+  entry_points.py --run N --seed S    run target/bin/calls_test on all graphs of up to 5 nodes at every node and under every numbering, N random
+                                      graphs of up to 40 nodes at every node, N of up to 60 nodes, N graphs with several passes or
+                                      pieces, N / 10 of up to 1,000 nodes, graphs of full size, N illegal adjacencies and N meshes,
+                                      and compare
 
 A line has the answer, then for each of the three lent lists its words up to the last that isn't as it was lent, then the lent bytes. All
 expected lines come from tests/reference.
@@ -30,15 +31,16 @@ def selection():
     """What the gate runs."""
     draw = Draw(1976)
     return (list(cases.small(draw, 1, 4)) + list(cases.some_of_five(draw, 60)) + list(cases.of_table(draw)) + list(cases.telling(draw, 120))
-            + list(cases.at_random(draw, 30, 3)) + list(cases.illegal(draw, 300)) + list(cases.limits(draw)) + list(cases.meshes(draw, 250))
-            + list(cases.full_meshes()))
+            + list(cases.at_random(draw, 30, 3)) + list(cases.runs_at_random(draw, 16)) + list(cases.illegal(draw, 400))
+            + list(cases.limits(draw)) + list(cases.of_many_parts()) + list(cases.meshes(draw, 250)) + list(cases.full_meshes()))
 
 
 def many(count, seed):
     """What is run by hand."""
     draw = Draw(seed)
-    return (list(cases.small(draw, 1, 5)) + list(cases.of_table(draw)) + list(cases.telling(draw, count)) + list(cases.at_random(draw, count, 40))
-            + list(cases.large(draw, count // 10)) + list(cases.illegal(draw, count)) + list(cases.limits(draw))
+    return (list(cases.small(draw, 1, 5)) + list(cases.every_numbering(1, 5)) + list(cases.of_table(draw)) + list(cases.telling(draw, count))
+            + list(cases.at_random(draw, count, 40)) + list(cases.runs_at_random(draw, count)) + list(cases.large(draw, count // 10))
+            + list(cases.illegal(draw, count)) + list(cases.limits(draw)) + list(cases.of_many_parts()) + list(cases.of_full_size(draw))
             + list(cases.meshes(draw, count)) + list(cases.full_meshes()) + list(cases.long_meshes()))
 
 

@@ -3,9 +3,14 @@ use graph::Adjacency;
 use levels::answer::CombinedAnswer;
 use levels::answer::EndsAnswer;
 use levels::answer::RootedAnswer;
+use libc::STDOUT_FILENO;
 use measures::MeasuresAnswer;
 use mesh::Entries;
+use numbering::answer::RunAnswer;
+use numbering::answer::RunFigures;
+use store::Counts;
 use store::Elimination;
+use store::RunElimination;
 use vectors::accepted;
 use vectors::refused;
 
@@ -77,6 +82,39 @@ pub(crate) fn measures(starts: &[u16], neighbours: &[u16], numbering: &[u16], sc
     }
 }
 
+// The eight figures of a run.
+fn run_figures(f: RunFigures) {
+    accepted(
+        &[
+            f.nodes as u64,
+            f.parts as u64,
+            f.bandwidth as u64,
+            f.profile as u64,
+            f.front as u64,
+            f.levels as u64,
+            f.width as u64,
+            f.passes as u64,
+        ],
+    );
+}
+
+pub(crate) fn whole_run(
+    starts: &[u16],
+    neighbours: &[u16],
+    numbers: &mut [u16],
+    levels: &mut [u16],
+    scratch: &mut [u16],
+) {
+    match numbering::run(starts, neighbours, numbers, levels, scratch) {
+        RunAnswer::Refused(number) => refused(number),
+        RunAnswer::Numbered(f) => run_figures(f),
+    }
+}
+
+fn elimination_counts(c: Counts) {
+    accepted(&[c.marked as u64, c.new as u64]);
+}
+
 pub(crate) fn eliminate(
     starts: &[u16],
     neighbours: &[u16],
@@ -86,7 +124,31 @@ pub(crate) fn eliminate(
 ) {
     match store::eliminate(starts, neighbours, numbering, scratch, bytes) {
         Elimination::Refused(number) => refused(number),
-        Elimination::Accepted(c) => accepted(&[c.marked as u64, c.new as u64]),
+        Elimination::Accepted(c) => elimination_counts(c),
+    }
+}
+
+// The run's figures are followed by the elimination's answer.
+pub(crate) fn run_eliminate(
+    starts: &[u16],
+    neighbours: &[u16],
+    numbers: &mut [u16],
+    levels: &mut [u16],
+    scratch: &mut [u16],
+    bytes: &mut [u8],
+) {
+    match store::run_eliminate(starts, neighbours, numbers, levels, scratch, bytes) {
+        RunElimination::Refused(number) => refused(number),
+        RunElimination::RunOnly { figures, refusal } => {
+            run_figures(figures);
+            io::write_all(STDOUT_FILENO, b" ");
+            refused(refusal);
+        }
+        RunElimination::Both { figures, counts } => {
+            run_figures(figures);
+            io::write_all(STDOUT_FILENO, b" ");
+            elimination_counts(counts);
+        }
     }
 }
 

@@ -25,6 +25,8 @@ fn run(
         5 => calls::eliminate(starts, neighbours, given, first, bytes),
         6 => calls::mesh(node, given, first, second, third),
         7 => calls::combined(starts, neighbours, node, first, second),
+        8 => calls::whole_run(starts, neighbours, first, second, third),
+        9 => calls::run_eliminate(starts, neighbours, first, second, third, bytes),
         _ => {}
     }
 }

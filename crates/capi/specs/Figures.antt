@@ -3,7 +3,7 @@
 -- Assumes nothing.
 use Prim.Native.Nat.{ℕ}
 use mathlib.Core.Bool.{cond}
-use mathlib.Core.List.{List, [], _∷_}
+use mathlib.Core.List.{List, [], _∷_, _++_}
 use Rattle.basis.specs.Lists.{overwrite}
 use Rattle.spec.specs.Refusal.{_orElse_}
 use Rattle.spec.specs.Lent.{Outcome, accepted, refused, short}
@@ -11,7 +11,7 @@ use Rattle.spec.specs.Ends.{Ends}
 use Rattle.spec.specs.Numbering.{Figures}
 use Rattle.spec.specs.CallsLevels.{LevelFigures, CombinedFigures}
 use Rattle.spec.specs.CallsNumbering.{MeasureFigures}
-use Rattle.spec.specs.CallsStore.{EliminationFigures}
+use Rattle.spec.specs.CallsStore.{EliminationFigures, RunElimination}
 
 -- ---- the rule of every call
 
@@ -64,6 +64,15 @@ runList f = f .nodes ∷ f .parts ∷ f .bandwidth ∷ f .profile ∷ f .front �
 -- "elimination its two counts"
 abbrev pub eliminationList : EliminationFigures → List ℕ
 eliminationList f = f .marked ∷ f .new ∷ []
+
+-- the elimination behind a run: its refusal, or 0, then its two counts, 0 where it is refused
+abbrev pub eliminatedList : Outcome EliminationFigures → List ℕ
+eliminatedList (refused c) = c ∷ 0 ∷ 0 ∷ []
+eliminatedList (accepted f) = 0 ∷ eliminationList f
+
+-- run and eliminate: the run's eight, then these three
+abbrev pub runEliminateList : RunElimination → List ℕ
+runEliminateList r = runList (r .figures) ++ eliminatedList (r .elimination)
 
 -- "the mesh call the entry count"
 abbrev pub meshList : ℕ → List ℕ

@@ -5,7 +5,7 @@ use mathlib.Core.List.{List, _++_, append-assoc}
 use Prim.Native.Nat.{ℕ, _+_, _-_, _*_, _≤_, _<_}
 use native.Mathlib.Omega.{arith}
 use lib.ListN.{length, getD, take, drop, replicate, length-append, length-take, length-drop, length-map, length-replicate}
-use lib.Seq.{sets, slice, length-sets, length-slice, length-take-le, ext-getD, take-at, drop-at, take-take, drop-drop, getD-take, getD-drop}
+use lib.Seq.{sets, slice, length-sets, length-slice, length-take-le, ext-getD, take-at, drop-at, take-take, getD-take, getD-drop}
 use Rattle.basis.specs.Lists.{memb, upFrom}
 use Rattle.basis.proofs.Index.{getD-map-upFrom, memb-getD}
 use Rattle.basis.proofs.Lists.{memb-length, length-upFrom}
@@ -21,7 +21,7 @@ use Rattle.laws.proofs.Lent.{zeroed-behind}
 use Rattle.laws.proofs.Levels.{part-node, part-self, part-same}
 use Rattle.laws.proofs.Parts.{part-most}
 use Rattle.laws.proofs.Refused.{not-refused}
-use Rattle.search.proofs.Stores.{take-sets, drop-sets}
+use Rattle.search.proofs.Stores.{take-sets}
 use Rattle.combining.specs.Areas.{wordsOf}
 use Rattle.piecing.specs.Given.{firstOf, endsOf, merged}
 use Rattle.piecing.specs.Starts.{membersOf}
@@ -31,7 +31,7 @@ use Rattle.piecing.proofs.Stores.{sets-behind, sets-at}
 use Rattle.levels.specs.Part.{PartGiven, partLevelsOf}
 use Rattle.levels.specs.declared.shape.PartLevels.{PartLevels}
 use Rattle.levels.proofs.OnePart.{zeros-at}
-use Rattle.levels.proofs.Scratch.{zero-front, behind-front, zeroed-again}
+use Rattle.levels.proofs.Scratch.{zero-front, behind-front, behind-sets, zeroed-again}
 
 module _ (S N : List ℕ) (p : ℕ) (W : List ℕ) (ok : graphRefusal S N ≡ 0) (range : (1 ≤ p) × (p ≤ sizeOf S))
     (room : 8 * sizeOf S ≤ length W) {W₀ : List ℕ} (w₀ : W₀ ≡ zeroed (8 * sizeOf S) W) where
@@ -88,8 +88,8 @@ module _ (S N : List ℕ) (p : ℕ) (W : List ℕ) (ok : graphRefusal S N ≡ 0)
     L₀-size : length L₀ ≡ n
     L₀-size = length-slice (5 * n) (6 * n) U (omega (arith, U-size)) ∙ omega arith
 
-    L₀-is : L₀ ≡ replicate n 0
-    L₀-is =
+    pub levels-blank : L₀ ≡ replicate n 0
+    levels-blank =
         ext-getD 0 L₀ (replicate n 0) (L₀-size ∙ sym (length-replicate n 0))
         (λ i l.
         getD-drop (5 * n) (take (6 * n) U) i 0 ∙ getD-take (6 * n) U (5 * n + i) 0 (omega (arith, L₀-size))
@@ -98,7 +98,7 @@ module _ (S N : List ℕ) (p : ℕ) (W : List ℕ) (ok : graphRefusal S N ≡ 0)
         ∙ sym (zeros-at n i))
 
     L₀-at : (i : ℕ) → getD L₀ i 0 ≡ 0
-    L₀-at i = ap (λ (l : List ℕ). getD l i 0) L₀-is ∙ zeros-at n i
+    L₀-at i = ap (λ (l : List ℕ). getD l i 0) levels-blank ∙ zeros-at n i
 
     z-in : memb z P ≡ true
     z-in = ap (λ (x : ℕ). memb x P) (U-at 0 (omega (arith, P-some))) ∙ memb-getD P 0 (omega (arith, P-some))
@@ -132,7 +132,7 @@ module _ (S N : List ℕ) (p : ℕ) (W : List ℕ) (ok : graphRefusal S N ≡ 0)
       },
     )
 
-    ends-are : endsOf g 0 V₀ ≡ ends g p
+    pub ends-are : endsOf g 0 V₀ ≡ ends g p
     ends-are = ends-same G z M z-in
 
     pub part-figures : {f : PartLevels} → f ≡ partLevelsOf g (endsOf g 0 V₀) → f ≡ partLevelsOf g (ends g p)
@@ -169,11 +169,7 @@ module _ (S N : List ℕ) (p : ℕ) (W : List ℕ) (ok : graphRefusal S N ≡ 0)
 
       pub part-words : {X : List ℕ} → X ≡ zeroed (8 * n) Y → X ≡ zeroed (8 * n) W
       part-words x =
-          let k : ℕ = 4 * n + length P in
-          let e : k + (8 * n - k) ≡ 8 * n = omega (arith, P-most) in
           x ∙ zeroed-again (8 * n) Y W
           (ap (drop (8 * n)) (y ∙ sym (append-assoc V₀ K (drop (6 * n) U)))
           ∙ behind-front (6 * n) (8 * n) (V₀ ++ K) U (length-append V₀ K ∙ omega (arith, V₀-size, merged-size)) (omega arith)
-          ∙ ap (drop (8 * n)) u ∙ ap (λ (j : ℕ). drop j (sets W₀ (4 * n) P)) (sym e) ∙ sym (drop-drop (8 * n - k) k (sets W₀ (4 * n) P))
-          ∙ ap (drop (8 * n - k)) (drop-sets W₀ (4 * n) P inside) ∙ drop-drop (8 * n - k) k W₀ ∙ ap (λ (j : ℕ). drop j W₀) e
-          ∙ ap (drop (8 * n)) w₀ ∙ zeroed-behind (8 * n) W)
+          ∙ ap (drop (8 * n)) u ∙ behind-sets (8 * n) W₀ (4 * n) P (omega (arith, P-most)) ∙ ap (drop (8 * n)) w₀ ∙ zeroed-behind (8 * n) W)

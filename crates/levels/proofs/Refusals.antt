@@ -123,43 +123,53 @@ module _ (S N : List ℕ) (root : ℕ) (B : List ℕ) where
           let g = graphOf S N in
           filled-accepted (rootedRefusal S N root B) (sizeOf S) (levelList g (levels g root)) B (rooted-none h) (length-levelList g (levels g root))
 
+-- ---- a call on one part that answers a: the end search, the part report
+
+module _ {A : Type 0} (a : A) (S N : List ℕ) (node : ℕ) (W : List ℕ) where
+  pub record PartRefused (c : ℕ) : Type 0 where
+    pub answer : refused c ≡ outcome (partRefusal S N node W) a
+    pub untouched : W ≡ partScratch (partRefusal S N node W) S W
+
+  pub record PartAccepted : Type 0 where
+    pub answer : accepted a ≡ outcome (partRefusal S N node W) a
+    pub cleared : zeroed (wordsPerNode * sizeOf S) W ≡ partScratch (partRefusal S N node W) S W
+
+part-tests : (S N : List ℕ) (node : ℕ) (W : List ℕ) → Tests S N (short W (wordsPerNode * sizeOf S)) (outside (sizeOf S) node) (partRefusal S N node W)
+unfolding partRefusal
+part-tests S N node W = record { is = refl }
+
+module _ (S N : List ℕ) (node : ℕ) (W : List ℕ) {A : Type 0} {a : A} where
+  part-refusal : (c : ℕ) → partRefusal S N node W ≡ c → 1 ≤ c → PartRefused a S N node W c
+  part-refusal c e l = record { answer = answer-refused (partRefusal S N node W) c a e l; untouched = scratch-refused (partRefusal S N node W) c S W e l }
+
+  -- 1 to 4
+  pub part-lists : {c : ℕ} → RefusedLists S N c → PartRefused a S N node W c
+  part-lists {c} R = part-refusal c (by-lists (part-tests S N node W) R) (R .some)
+
+  module _ (G : LegalLists S N) where
+    pub part-short : length W < wordsPerNode * sizeOf S → PartRefused a S N node W 5
+    part-short h = part-refusal 5 (by-short (part-tests S N node W) G (lt-ltb (length W) (wordsPerNode * sizeOf S) h)) (omega arith)
+
+    module _ (room : wordsPerNode * sizeOf S ≤ length W) where
+      pub part-outside : outside (sizeOf S) node ≡ true → PartRefused a S N node W 6
+      part-outside h = part-refusal 6 (by-outside (part-tests S N node W) G (le-ltb (length W) (wordsPerNode * sizeOf S) room) h) (omega arith)
+
+      pub part-accepted : outside (sizeOf S) node ≡ false → PartAccepted a S N node W
+      part-accepted h =
+          let e = by-none (part-tests S N node W) G (le-ltb (length W) (wordsPerNode * sizeOf S) room) h in
+          record { answer = answer-accepted (partRefusal S N node W) a e; cleared = scratch-accepted (partRefusal S N node W) S W e }
+
 -- ---- the ends
 
 module _ (S N : List ℕ) (node : ℕ) (W : List ℕ) where
-  pub record EndsRefused (c : ℕ) : Type 0 where
-    pub answer : refused c ≡ endsAnswer S N node W
-    pub untouched : W ≡ endsScratch S N node W
-
-  ends-refusal : (c : ℕ) → partRefusal S N node W ≡ c → 1 ≤ c → EndsRefused c
+  pub ends-refused : {c : ℕ} → PartRefused (ends (graphOf S N) node) S N node W c → (refused c ≡ endsAnswer S N node W) × (W ≡ endsScratch S N node W)
   unfolding endsAnswer endsScratch
-  ends-refusal c e l = record { answer = answer-refused (partRefusal S N node W) c _ e l; untouched = scratch-refused (partRefusal S N node W) c S W e l }
+  ends-refused R = (R .answer, R .untouched)
 
-  ends-tests : Tests S N (short W (wordsPerNode * sizeOf S)) (outside (sizeOf S) node) (partRefusal S N node W)
-  unfolding partRefusal
-  ends-tests = record { is = refl }
-
-  -- 1 to 4
-  pub ends-lists : {c : ℕ} → RefusedLists S N c → EndsRefused c
-  ends-lists {c} R = ends-refusal c (by-lists ends-tests R) (R .some)
-
-  module _ (G : LegalLists S N) where
-    pub ends-short : length W < wordsPerNode * sizeOf S → EndsRefused 5
-    ends-short h = ends-refusal 5 (by-short ends-tests G (lt-ltb (length W) (wordsPerNode * sizeOf S) h)) (omega arith)
-
-    module _ (room : wordsPerNode * sizeOf S ≤ length W) where
-      pub ends-outside : outside (sizeOf S) node ≡ true → EndsRefused 6
-      ends-outside h = ends-refusal 6 (by-outside ends-tests G (le-ltb (length W) (wordsPerNode * sizeOf S) room) h) (omega arith)
-
-      ends-none : outside (sizeOf S) node ≡ false → partRefusal S N node W ≡ 0
-      ends-none h = by-none ends-tests G (le-ltb (length W) (wordsPerNode * sizeOf S) room) h
-
-      pub ends-answer : outside (sizeOf S) node ≡ false → accepted (ends (graphOf S N) node) ≡ endsAnswer S N node W
-      unfolding endsAnswer
-      ends-answer h = answer-accepted (partRefusal S N node W) _ (ends-none h)
-
-      pub ends-scratch : outside (sizeOf S) node ≡ false → zeroed (wordsPerNode * sizeOf S) W ≡ endsScratch S N node W
-      unfolding endsScratch
-      ends-scratch h = scratch-accepted (partRefusal S N node W) S W (ends-none h)
+  pub ends-accepted : PartAccepted (ends (graphOf S N) node) S N node W
+      → (accepted (ends (graphOf S N) node) ≡ endsAnswer S N node W) × (zeroed (wordsPerNode * sizeOf S) W ≡ endsScratch S N node W)
+  unfolding endsAnswer endsScratch
+  ends-accepted R = (R .answer, R .cleared)
 
 -- ---- combined levels
 

@@ -1,11 +1,11 @@
-// The combined levels of one part of a legal graph, for callers that have its members. The scratch has areas of n words: the levels and
-// queues of two searches, the members of the parts, and the combined levels.
+// For crates above: the test of a given node, and the combined levels of one part of a legal graph, for callers that have its members. The
+// scratch has areas of n words: the levels and queues of two searches, the members of the parts, and the combined levels.
 ghost use mathlib.Core.Path.{_≡_};
 ghost use Prim.Native.Nat.{_*_, _≤_};
 ghost use mathlib.Core.List.{_++_};
 ghost use lib.ListN.{length, take, drop, replicate};
 ghost use lib.Seq.{sets, slice};
-ghost use Rattle.spec.specs.Graph.{graphOf, sizeOf, graphRefusal};
+ghost use Rattle.spec.specs.Graph.{graphOf, sizeOf, graphRefusal, outside};
 ghost use Rattle.spec.specs.Levels.{part};
 ghost use Rattle.combining.specs.Areas.{wordsOf};
 ghost use Rattle.piecing.specs.Given.{firstOf, endsOf, merged};
@@ -17,6 +17,19 @@ use ends::legal::first_in_e;
 use search::legal::search;
 use search::legal::wipe;
 use words::wide;
+
+// "scratch 8n words"
+pub const WORDS_PER_NODE: usize = 8;
+
+// 6: a given node is 0 or above n.
+pub fn no_node(n: usize, p: u16) -> bool
+    ensures { λ r. ⌜ r ≡ outside n p ⌝ }
+{
+    if p == 0 {
+        return true;
+    }
+    n < wide(p)
+}
 
 // Puts the nodes that have a level in the first n words into the fifth area, rising. Returns how many there are.
 fn collect(scratch: &mut [u16], n: usize) -> usize

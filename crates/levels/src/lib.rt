@@ -6,24 +6,14 @@ mod part;
 pub mod shape;
 
 ghost use mathlib.Core.Path.{_≡_};
-ghost use Rattle.spec.specs.Graph.{outside};
 ghost use Rattle.spec.specs.CallsLevels.{rootedAnswer, rootedLevels, endsAnswer, endsScratch, combinedAnswer, combinedLevels, combinedScratch};
 ghost use Rattle.levels.specs.Answers.{rootedMeaning, endsMeaning, combinedMeaning};
 use answer::CombinedAnswer;
 use answer::EndsAnswer;
 use answer::RootedAnswer;
 use graph::Adjacency;
-use words::wide;
-
-// 6: a given node is 0 or above n.
-fn no_node(n: usize, p: u16) -> bool
-    ensures { λ r. ⌜ r ≡ outside n p ⌝ }
-{
-    if p == 0 {
-        return true;
-    }
-    n < wide(p)
-}
+use legal::WORDS_PER_NODE;
+use legal::no_node;
 
 // Rooted levels: depth, width and the count reached; the levels by old number in the n words lent.
 pub fn rooted_levels(
@@ -64,7 +54,7 @@ pub fn ends(starts: &[u16], neighbours: &[u16], node: u16, scratch: &mut [u16]) 
         Adjacency::Refused(c) => EndsAnswer::Refused(c),
         Adjacency::Legal => {
             let n = starts.len() - 1;
-            if scratch.len() < part::WORDS_PER_NODE * n {
+            if scratch.len() < WORDS_PER_NODE * n {
                 return EndsAnswer::Refused(5);
             }
             if no_node(n, node) {
@@ -99,7 +89,7 @@ pub fn combined_levels(
         Adjacency::Refused(c) => CombinedAnswer::Refused(c),
         Adjacency::Legal => {
             let n = starts.len() - 1;
-            if levels.len() < n || scratch.len() < part::WORDS_PER_NODE * n {
+            if levels.len() < n || scratch.len() < WORDS_PER_NODE * n {
                 return CombinedAnswer::Refused(5);
             }
             if no_node(n, node) {

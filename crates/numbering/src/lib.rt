@@ -27,7 +27,7 @@ fn any_short(n: usize, numbers: usize, levels: usize, scratch: usize) -> bool
     if levels < n {
         return true;
     }
-    scratch < whole::WORDS_PER_NODE * n
+    scratch < levels::legal::WORDS_PER_NODE * n
 }
 
 // The whole run: new numbers and levels by old number in the first n words of the two lists lent, and the eight figures.

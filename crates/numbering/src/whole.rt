@@ -9,15 +9,13 @@ ghost use Rattle.spec.specs.Numbering.{run};
 ghost use Rattle.numbering.specs.Answer.{eight};
 ghost use Rattle.numbering.specs.Ran.{Ran, Summed};
 use crate::answer::RunFigures;
+use levels::legal::WORDS_PER_NODE;
 use measures::legal::figures;
 use parts::legal::members;
 use renumbering::legal::number_part;
 use renumbering::legal::part_size;
 use words::legal::clear;
 use words::wide;
-
-// "scratch 8n words"
-pub const WORDS_PER_NODE: usize = 8;
 
 // What is summed up over the parts that have their numbers.
 struct Tally {

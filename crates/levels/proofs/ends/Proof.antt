@@ -7,7 +7,7 @@ use Rattle.spec.specs.Graph.{sizeOf, outside}
 use Rattle.spec.specs.Lent.{accepted}
 use Rattle.graph.specs.Facts.{LegalLists}
 use Rattle.graph.proofs.Answers.{legal-lists, refused-lists}
-use Rattle.levels.proofs.Refusals.{ends-lists, ends-short, ends-outside, ends-answer, ends-scratch, node-inside}
+use Rattle.levels.proofs.Refusals.{node-inside, part-lists, part-short, part-outside, part-accepted, ends-refused, ends-accepted}
 use Rattle.levels.proofs.ends.Statement.{statement}
 use Rattle.levels.proofs.ends.Tie as tie
 
@@ -35,8 +35,8 @@ mul-if1 c = omega (arith, legal c .starts .few)
 returns : tie.Need-returns
 returns c =
     let s = c .before .before .before .before .before .before .before in
-    let R = ends-short (s .args .starts .now) (s .args .neighbours .now) (s .args .node) (s .args .scratch .now) (legal (c .before)) (c .if1 .taken) in
-    (R .answer, R .untouched)
+    ends-refused (s .args .starts .now) (s .args .neighbours .now) (s .args .node) (s .args .scratch .now)
+    (part-short (s .args .starts .now) (s .args .neighbours .now) (s .args .node) (s .args .scratch .now) (legal (c .before)) (c .if1 .taken))
 
 no-node-requires : tie.Need-no-node-requires
 no-node-requires c κs = search needs
@@ -45,9 +45,9 @@ returns-2 : tie.Need-returns-2
 returns-2 c =
     let e = c .before .before in
     let s = e .before .before .before .before .before .before .before in
-    let R = ends-outside (s .args .starts .now) (s .args .neighbours .now) (s .args .node) (s .args .scratch .now) (legal (e .before)) (e .if1 .left)
-    (sym (c .before .no-node .ensures) ∙ c .if2 .taken) in
-    (R .answer, R .untouched)
+    ends-refused (s .args .starts .now) (s .args .neighbours .now) (s .args .node) (s .args .scratch .now)
+    (part-outside (s .args .starts .now) (s .args .neighbours .now) (s .args .node) (s .args .scratch .now) (legal (e .before)) (e .if1 .left)
+    (sym (c .before .no-node .ensures) ∙ c .if2 .taken))
 
 -- the node given is one
 inside : (c : tie.Else2) → let s = c .before .before .before .before .before .before .before .before .before in outside (sizeOf (s .args .starts .now)) (s .args .node) ≡ false
@@ -62,9 +62,9 @@ find-ends-requires c κs =
 returns-3 : tie.Need-returns-3
 returns-3 c =
     let s = c .before .before .before .before .before .before .before in
-    let R = ends-lists (s .args .starts .now) (s .args .neighbours .now) (s .args .node) (s .args .scratch .now)
-    (refused-lists (s .args .starts .now) (s .args .neighbours .now) (c .before .before .before .test-adjacency .ensures) (c .before .c .given .1)) in
-    (R .answer, R .untouched)
+    ends-refused (s .args .starts .now) (s .args .neighbours .now) (s .args .node) (s .args .scratch .now)
+    (part-lists (s .args .starts .now) (s .args .neighbours .now) (s .args .node) (s .args .scratch .now)
+    (refused-lists (s .args .starts .now) (s .args .neighbours .now) (c .before .before .before .test-adjacency .ensures) (c .before .c .given .1)))
 
 same-length : tie.Need-same-length
 same-length c = search needs
@@ -74,11 +74,12 @@ returns-4 c =
     let e = c .before .before .before .before .before .before in
     let s = e .before .before .before .before .before .before .before in
     let o = inside (c .before .before .before .before) in
-    let L = legal (e .before) in
+    let R = ends-accepted (s .args .starts .now) (s .args .neighbours .now) (s .args .node) (s .args .scratch .now)
+    (part-accepted (s .args .starts .now) (s .args .neighbours .now) (s .args .node) (s .args .scratch .now) (legal (e .before)) (e .if1 .left) o) in
     let w = c .before .before .find-ends .ensures in (
       ap (λ f. accepted (record { v = f .v; u = f .u; k = f .k; widthV = f .widthv; widthU = f .widthu; passes = f .passes })) (w .0)
-          ∙ ends-answer (s .args .starts .now) (s .args .neighbours .now) (s .args .node) (s .args .scratch .now) L (e .if1 .left) o,
-      w .1 ∙ ends-scratch (s .args .starts .now) (s .args .neighbours .now) (s .args .node) (s .args .scratch .now) L (e .if1 .left) o,
+          ∙ R .0,
+      w .1 ∙ R .1,
     )
 
 pub ends-spec : {M : Type 1} → statement M

@@ -1,11 +1,11 @@
--- `levels::no_node` meets its contract. Assumes nothing.
+-- `levels::legal::no_node` meets its contract. Assumes nothing.
 use mathlib.Core.Path.{ap}
 use Prim.Native.Nat.{ℕ}
 use lib.Dec.{ltb}
 use borrow.Author.Needs.{needs}
 use borrow.Author.Tests.{eq-eqb, ne-eqb}
-use Rattle.levels.proofs.no_node.Statement.{statement}
-use Rattle.levels.proofs.no_node.Tie as tie
+use Rattle.levels.proofs.legal.no_node.Statement.{statement}
+use Rattle.levels.proofs.legal.no_node.Tie as tie
 
 returns : tie.Need-returns
 returns c = rw (eq-eqb (c .before .args .p) 0 (c .if1 .taken))

@@ -1,0 +1,3 @@
+pub mod Reported
+pub mod Refusals
+pub mod Found

@@ -1,0 +1,113 @@
+! Renumbers a mesh file, eliminates by the new numbers and opens the store: examples/bracket.grd, or the file named.
+! gfortran examples/fortran/wagonepoch.f90 examples/fortran/bracket.f90 target/staticlib/libcapi.a
+program bracket
+  use, intrinsic :: iso_c_binding, only: c_int16_t, c_int64_t, c_int8_t, c_size_t
+  use wagonepoch
+  implicit none
+
+  integer(c_int16_t) :: elements(32763), starts(max_nodes + 1), neighbours(max_entries)
+  integer(c_int16_t) :: numbers(max_nodes), levels(max_nodes), scratch(8 * max_nodes)
+  integer(c_int8_t), allocatable :: bytes(:)
+  integer(c_int64_t) :: figures(8)
+  ! the store: row q has the places from(q) on, for the numbers first(q) to q - 1
+  integer :: first(max_nodes), from(max_nodes + 1)
+  integer :: p
+  integer(c_size_t) :: n, words, entries, length
+
+  call read_mesh()
+  call stop_if(wagonepoch_mesh(n, elements, words, starts, size(starts, kind=c_size_t), neighbours, &
+                               size(neighbours, kind=c_size_t), scratch, size(scratch, kind=c_size_t), figures, 1_c_size_t), 'mesh')
+  entries = figures(1)
+  print '(a,i0,a,i0)', 'mesh: nodes ', n, ' entries ', entries
+  numbers(1:n) = [(int(p, c_int16_t), p = 1, int(n))]
+  call print_measures('before')
+  call stop_if(wagonepoch_run(starts, n + 1, neighbours, entries, numbers, n, levels, n, scratch, 8 * n, figures, 8_c_size_t), &
+               'run')
+  length = (figures(4) + 7) / 8
+  call print_measures('after')
+  allocate (bytes(length))
+  call stop_if(wagonepoch_eliminate(starts, n + 1, neighbours, entries, numbers, n, scratch, n, bytes, length, figures, &
+                                    2_c_size_t), 'eliminate')
+  print '(a,i0,a,i0)', 'elimination: marked ', figures(1), ' new ', figures(2)
+  call map_store()
+  call open_store()
+
+contains
+
+  subroutine stop_if(refusal, call_name)
+    integer(c_int16_t), intent(in) :: refusal
+    character(*), intent(in) :: call_name
+    if (refusal == 0) return
+    print '(a,a,i0)', call_name, ': refused ', refusal
+    stop 1
+  end subroutine
+
+  ! The file's words after its header of 9 bytes, low byte first, as this machine has them; n is the second word of the header.
+  subroutine read_mesh()
+    character(len=255) :: name
+    character(len=3) :: mark
+    integer(c_int16_t) :: head(3)
+    integer :: unit, bytes_in_all
+    name = 'examples/bracket.grd'
+    if (command_argument_count() > 0) call get_command_argument(1, name)
+    open (newunit=unit, file=trim(name), access='stream', form='unformatted', status='old', action='read')
+    inquire (unit, size=bytes_in_all)
+    read (unit) mark, head
+    if (mark /= 'GRD' .or. head(1) /= 1) stop 1
+    n = word(head(2))
+    words = (bytes_in_all - 9) / 2
+    read (unit) elements(1:words)
+    close (unit)
+  end subroutine
+
+  subroutine print_measures(when)
+    character(*), intent(in) :: when
+    call stop_if(wagonepoch_measures(starts, n + 1, neighbours, entries, numbers, n, scratch, n, figures, 3_c_size_t), 'measures')
+    print '(a,a,i0,a,i0,a,i0)', when, ': bandwidth ', figures(1), ' profile ', figures(2), ' front ', figures(3)
+  end subroutine
+
+  ! f_q, the least of q and its neighbours by new numbers, and s_q, where row q starts.
+  subroutine map_store()
+    integer :: q, i
+    do p = 1, int(n)
+      q = numbers(p)
+      first(q) = q
+      do i = word(starts(p)) + 1, word(starts(p + 1))
+        first(q) = min(first(q), int(numbers(neighbours(i))))
+      end do
+    end do
+    from(1) = 0
+    do q = 1, int(n)
+      from(q + 1) = from(q) + q - first(q)
+    end do
+  end subroutine
+
+  ! The mark of the pair p < q.
+  integer function marked(p, q)
+    integer, intent(in) :: p, q
+    integer :: t
+    marked = 0
+    if (p < first(q)) return
+    t = from(q) + p - first(q)
+    marked = ibits(int(bytes(t / 8 + 1)), mod(t, 8), 1)
+  end function
+
+  ! Counts the marks, and the edges that are marked.
+  subroutine open_store()
+    integer :: q, i, ones, edges
+    ones = 0
+    edges = 0
+    do q = 1, int(n)
+      do p = first(q), q - 1
+        ones = ones + marked(p, q)
+      end do
+    end do
+    do p = 1, int(n)
+      do i = word(starts(p)) + 1, word(starts(p + 1))
+        q = numbers(neighbours(i))
+        if (numbers(p) < q) edges = edges + marked(int(numbers(p)), q)
+      end do
+    end do
+    print '(a,i0,a,i0,a,i0)', 'store: places ', from(n + 1), ' marked ', ones, ' edges ', edges
+  end subroutine
+end program

@@ -1,0 +1,59 @@
+! The C interface for Fortran; include/wagonepoch.h says what each call asks for and leaves. C's unsigned words are signed here: a start of
+! 32,768 reads as -32,768, and `word` gives it back.
+module wagonepoch
+  use, intrinsic :: iso_c_binding, only: c_int16_t, c_int64_t, c_int8_t, c_size_t
+  implicit none
+
+  integer, parameter :: max_nodes = 4096, max_entries = 32768
+
+  interface
+    function wagonepoch_measures(starts, starts_len, neighbours, neighbours_len, numbering, numbering_len, scratch, scratch_len, &
+                                 figures, figures_len) bind(C) result(answer)
+      import
+      integer(c_int16_t), intent(in) :: starts(*), neighbours(*), numbering(*)
+      integer(c_int16_t), intent(inout) :: scratch(*)
+      integer(c_int64_t), intent(inout) :: figures(*)
+      integer(c_size_t), value :: starts_len, neighbours_len, numbering_len, scratch_len, figures_len
+      integer(c_int16_t) :: answer
+    end function
+
+    function wagonepoch_run(starts, starts_len, neighbours, neighbours_len, numbers, numbers_len, levels, levels_len, scratch, &
+                            scratch_len, figures, figures_len) bind(C) result(answer)
+      import
+      integer(c_int16_t), intent(in) :: starts(*), neighbours(*)
+      integer(c_int16_t), intent(inout) :: numbers(*), levels(*), scratch(*)
+      integer(c_int64_t), intent(inout) :: figures(*)
+      integer(c_size_t), value :: starts_len, neighbours_len, numbers_len, levels_len, scratch_len, figures_len
+      integer(c_int16_t) :: answer
+    end function
+
+    function wagonepoch_eliminate(starts, starts_len, neighbours, neighbours_len, numbering, numbering_len, scratch, scratch_len, &
+                                  bytes, bytes_len, figures, figures_len) bind(C) result(answer)
+      import
+      integer(c_int16_t), intent(in) :: starts(*), neighbours(*), numbering(*)
+      integer(c_int16_t), intent(inout) :: scratch(*)
+      integer(c_int8_t), intent(inout) :: bytes(*)
+      integer(c_int64_t), intent(inout) :: figures(*)
+      integer(c_size_t), value :: starts_len, neighbours_len, numbering_len, scratch_len, bytes_len, figures_len
+      integer(c_int16_t) :: answer
+    end function
+
+    function wagonepoch_mesh(n, elements, elements_len, starts, starts_len, neighbours, neighbours_len, scratch, scratch_len, &
+                             figures, figures_len) bind(C) result(answer)
+      import
+      integer(c_size_t), value :: n, elements_len, starts_len, neighbours_len, scratch_len, figures_len
+      integer(c_int16_t), intent(in) :: elements(*)
+      integer(c_int16_t), intent(inout) :: starts(*), neighbours(*), scratch(*)
+      integer(c_int64_t), intent(inout) :: figures(*)
+      integer(c_int16_t) :: answer
+    end function
+  end interface
+
+contains
+
+  ! An unsigned word.
+  elemental integer function word(w)
+    integer(c_int16_t), intent(in) :: w
+    word = iand(int(w), 65535)
+  end function
+end module

@@ -1,0 +1,89 @@
+//! Safe functions over the C interface; include/wagonepoch.h says what each call asks for and leaves. A refusal is an error.
+mod c {
+    extern "C" {
+        pub fn wagonepoch_measures(
+            starts: *const u16, starts_len: usize, neighbours: *const u16, neighbours_len: usize, numbering: *const u16, numbering_len: usize,
+            scratch: *mut u16, scratch_len: usize, figures: *mut u64, figures_len: usize,
+        ) -> u16;
+        pub fn wagonepoch_run(
+            starts: *const u16, starts_len: usize, neighbours: *const u16, neighbours_len: usize, numbers: *mut u16, numbers_len: usize,
+            levels: *mut u16, levels_len: usize, scratch: *mut u16, scratch_len: usize, figures: *mut u64, figures_len: usize,
+        ) -> u16;
+        pub fn wagonepoch_eliminate(
+            starts: *const u16, starts_len: usize, neighbours: *const u16, neighbours_len: usize, numbering: *const u16, numbering_len: usize,
+            scratch: *mut u16, scratch_len: usize, bytes: *mut u8, bytes_len: usize, figures: *mut u64, figures_len: usize,
+        ) -> u16;
+        pub fn wagonepoch_mesh(
+            n: usize, elements: *const u16, elements_len: usize, starts: *mut u16, starts_len: usize, neighbours: *mut u16, neighbours_len: usize,
+            scratch: *mut u16, scratch_len: usize, figures: *mut u64, figures_len: usize,
+        ) -> u16;
+    }
+}
+
+/// How many nodes a start list has; of an empty one none, so that the call itself refuses it.
+fn nodes(starts: &[u16]) -> usize {
+    starts.len().saturating_sub(1)
+}
+
+fn refused(call: &str, number: u16) -> Result<(), String> {
+    if number == 0 { Ok(()) } else { Err(format!("{call}: refused {number}")) }
+}
+
+/// The two lists of the mesh of n nodes.
+pub fn mesh(n: usize, elements: &[u16]) -> Result<(Vec<u16>, Vec<u16>), String> {
+    let (mut starts, mut neighbours, mut scratch, mut figures) = (vec![0; 4097], vec![0; 32768], vec![0; 4096], [0; 1]);
+    // each pointer goes with its own list's length, and the lists are different ones; so below
+    refused("mesh", unsafe {
+        c::wagonepoch_mesh(
+            n, elements.as_ptr(), elements.len(), starts.as_mut_ptr(), starts.len(), neighbours.as_mut_ptr(), neighbours.len(),
+            scratch.as_mut_ptr(), scratch.len(), figures.as_mut_ptr(), figures.len(),
+        )
+    })?;
+    starts.truncate(n + 1);
+    neighbours.truncate(figures[0] as usize);
+    Ok((starts, neighbours))
+}
+
+/// Bandwidth, profile and front.
+pub fn measures(starts: &[u16], neighbours: &[u16], numbering: &[u16]) -> Result<[u64; 3], String> {
+    let (mut scratch, mut figures) = (vec![0; nodes(starts)], [0; 3]);
+    refused("measures", unsafe {
+        c::wagonepoch_measures(
+            starts.as_ptr(), starts.len(), neighbours.as_ptr(), neighbours.len(), numbering.as_ptr(), numbering.len(),
+            scratch.as_mut_ptr(), scratch.len(), figures.as_mut_ptr(), figures.len(),
+        )
+    })?;
+    Ok(figures)
+}
+
+/// What the whole run gives: new number and level of each node; nodes, parts, bandwidth, profile, front, levels, width, passes.
+pub struct Run {
+    pub numbers: Vec<u16>,
+    #[allow(dead_code)]
+    pub levels: Vec<u16>,
+    pub figures: [u64; 8],
+}
+
+pub fn run(starts: &[u16], neighbours: &[u16]) -> Result<Run, String> {
+    let n = nodes(starts);
+    let (mut scratch, mut run) = (vec![0; 8 * n], Run { numbers: vec![0; n], levels: vec![0; n], figures: [0; 8] });
+    refused("run", unsafe {
+        c::wagonepoch_run(
+            starts.as_ptr(), starts.len(), neighbours.as_ptr(), neighbours.len(), run.numbers.as_mut_ptr(), n,
+            run.levels.as_mut_ptr(), n, scratch.as_mut_ptr(), scratch.len(), run.figures.as_mut_ptr(), run.figures.len(),
+        )
+    })?;
+    Ok(run)
+}
+
+/// The mark bytes, for a numbering of this profile; the marks that are 1, and the newly joined pairs.
+pub fn eliminate(starts: &[u16], neighbours: &[u16], numbering: &[u16], profile: u64) -> Result<(Vec<u8>, [u64; 2]), String> {
+    let (mut scratch, mut bytes, mut figures) = (vec![0; nodes(starts)], vec![0; (profile as usize + 7) / 8], [0; 2]);
+    refused("eliminate", unsafe {
+        c::wagonepoch_eliminate(
+            starts.as_ptr(), starts.len(), neighbours.as_ptr(), neighbours.len(), numbering.as_ptr(), numbering.len(),
+            scratch.as_mut_ptr(), scratch.len(), bytes.as_mut_ptr(), bytes.len(), figures.as_mut_ptr(), figures.len(),
+        )
+    })?;
+    Ok((bytes, figures))
+}

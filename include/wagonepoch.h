@@ -1,0 +1,162 @@
+/* Wagonepoch: Gibbs-Poole-Stockmeyer renumbering, from mesh to store. The C interface of the proved libraries.
+
+   `rt staticlib capi` writes target/staticlib/libcapi.a, for x86-64. It needs no library but C's, allocates nothing, keeps nothing between calls
+   and writes only to what is lent, so calls on different buffers may run at the same time.
+
+   LISTS. A list is a pointer and its length, in words and not in bytes: uint16_t words, uint64_t figures, uint8_t mark bytes. Nodes are
+   numbered from 1. n, the number of nodes, is the length of `starts` less 1, but for wagonepoch_mesh, which is given n.
+
+   WHAT A CALLER OWES. Each pointer is aligned and not null, also that of an empty list, and has as many elements as its length says; and no
+   list that is lent, here without `const`, overlaps another list of the same call. Nothing else is asked: whatever numbers the lists hold, a
+   call ends and answers as said here. That is proved; the contracts are in crates/capi/src.
+
+   GRAPHS. `starts` has n + 1 words, the first 0, and `neighbours` as many as the last start says: the neighbours of node p are the words
+   neighbours[starts[p - 1]] to neighbours[starts[p] - 1]. They rise, never hold p, and hold q exactly if the row of q holds p.
+
+   ANSWERS. 0, or the number of the first test that refuses. Tests run in this order:
+
+     1   n is 0 or over 4,096, or `starts` is empty
+     2   the first start is not 0, starts fall, or the last start is not the length of `neighbours` or is over 32,768
+     3   a row leaves 1..n, holds its own node or does not rise
+     4   a row's entry lacks its partner
+     5   a lent list is short, `figures` too, the mark bytes excepted
+     6   the node given is 0 or above n
+     7   the numbering given is not n words, each of 1..n once
+     8   the mark bytes are short
+     9   unknown element kind, or a record runs past the end
+     10  an element's node is 0, above n or repeated
+     11  over 32,768 neighbour entries result
+
+   WHAT IS LEFT. Where a call answers 0 its figures stand in the front of `figures`, its results in the front of their lists, and the scratch
+   words that it asks for are 0. A longer list keeps its excess. A refusal leaves every lent list as it was, but for the first n scratch words,
+   which are 0 after 7, 8 and 11. Lent lists need not be cleared before a call. */
+
+#ifndef WAGONEPOCH_H
+#define WAGONEPOCH_H
+
+#include <stddef.h>
+#include <stdint.h>
+
+#ifdef __cplusplus
+extern "C" {
+#endif
+
+/* The most nodes and neighbour entries. */
+#define WAGONEPOCH_NODES 4096
+#define WAGONEPOCH_ENTRIES 32768
+
+/* How many figures each call writes. */
+#define WAGONEPOCH_ROOTED_FIGURES 3
+#define WAGONEPOCH_ENDS_FIGURES 6
+#define WAGONEPOCH_COMBINED_FIGURES 2
+#define WAGONEPOCH_MEASURES_FIGURES 3
+#define WAGONEPOCH_RUN_FIGURES 8
+#define WAGONEPOCH_ELIMINATE_FIGURES 2
+#define WAGONEPOCH_RUN_ELIMINATE_FIGURES 11
+#define WAGONEPOCH_MESH_FIGURES 1
+
+/* Adjacency test: whether the two lists are a legal graph.
+   Refusals: 1 to 4. */
+uint16_t wagonepoch_test_adjacency(const uint16_t *starts, size_t starts_len,
+                                   const uint16_t *neighbours, size_t neighbours_len);
+
+/* Rooted levels: the root has level 1, its neighbours 2, and so on; nodes outside the root's part get 0.
+   Lent: levels n (by node), figures 3.
+   Figures: depth, width (the greatest count of a level), nodes reached.
+   Refusals: 1 to 6. */
+uint16_t wagonepoch_rooted_levels(const uint16_t *starts, size_t starts_len,
+                                  const uint16_t *neighbours, size_t neighbours_len,
+                                  uint16_t root,
+                                  uint16_t *levels, size_t levels_len,
+                                  uint64_t *figures, size_t figures_len);
+
+/* Ends of the part that holds `node`, any node of it.
+   Lent: scratch 8n, figures 6.
+   Figures: v, u, k (the depth from v), the width of the levels rooted at v, that at u, passes.
+   Refusals: 1 to 6. */
+uint16_t wagonepoch_ends(const uint16_t *starts, size_t starts_len,
+                         const uint16_t *neighbours, size_t neighbours_len,
+                         uint16_t node,
+                         uint16_t *scratch, size_t scratch_len,
+                         uint64_t *figures, size_t figures_len);
+
+/* Combined levels of the part that holds `node`, before any change of the names of its ends; nodes of other parts get 0.
+   Lent: levels n (by node), scratch 8n, figures 2.
+   Figures: k, the greatest count of a level.
+   Refusals: 1 to 6. */
+uint16_t wagonepoch_combined_levels(const uint16_t *starts, size_t starts_len,
+                                    const uint16_t *neighbours, size_t neighbours_len,
+                                    uint16_t node,
+                                    uint16_t *levels, size_t levels_len,
+                                    uint16_t *scratch, size_t scratch_len,
+                                    uint64_t *figures, size_t figures_len);
+
+/* Measures under a numbering: `numbering` has the new number of each node.
+   Lent: scratch n, figures 3.
+   Figures: bandwidth (without the diagonal), profile, front.
+   Refusals: 1 to 5, and 7, which leaves the first n scratch words 0. */
+uint16_t wagonepoch_measures(const uint16_t *starts, size_t starts_len,
+                             const uint16_t *neighbours, size_t neighbours_len,
+                             const uint16_t *numbering, size_t numbering_len,
+                             uint16_t *scratch, size_t scratch_len,
+                             uint64_t *figures, size_t figures_len);
+
+/* The whole run: every part renumbered.
+   Lent: numbers n (the new number of each node), levels n (the combined level of each node), scratch 8n, figures 8.
+   Figures: nodes, parts, bandwidth, profile, front, levels, width, passes. Levels and passes are sums over the parts, width is the greatest.
+   Refusals: 1 to 5. */
+uint16_t wagonepoch_run(const uint16_t *starts, size_t starts_len,
+                        const uint16_t *neighbours, size_t neighbours_len,
+                        uint16_t *numbers, size_t numbers_len,
+                        uint16_t *levels, size_t levels_len,
+                        uint16_t *scratch, size_t scratch_len,
+                        uint64_t *figures, size_t figures_len);
+
+/* Elimination under a numbering, as for the measures: which places of the store are ever used.
+   With f_q the least of q and the neighbours of q, by new numbers, the pair p < q with p >= f_q has place s_q + p - f_q, counted from 0, where
+   s_q is the sum of r - f_r over r < q. Place t is bit t % 8, bit 0 the lowest, of byte t / 8: 1 if the pair is joined in the end, by an edge
+   or by an elimination. Spare bits of the last byte used are 0.
+   Lent: scratch n, bytes (profile + 7) / 8, figures 2.
+   Figures: marks that are 1, newly joined pairs.
+   Refusals: 1 to 5, and 7 and 8, which leave the first n scratch words 0. */
+uint16_t wagonepoch_eliminate(const uint16_t *starts, size_t starts_len,
+                              const uint16_t *neighbours, size_t neighbours_len,
+                              const uint16_t *numbering, size_t numbering_len,
+                              uint16_t *scratch, size_t scratch_len,
+                              uint8_t *bytes, size_t bytes_len,
+                              uint64_t *figures, size_t figures_len);
+
+/* The whole run, then the elimination by its numbers, in the first n scratch words.
+   Lent: numbers n, levels n, scratch 8n, bytes (profile + 7) / 8 of the run's profile, figures 11.
+   Figures: the run's eight; the elimination's answer, 0, or 8 where the mark bytes are short; marks that are 1, newly joined pairs.
+   Where the ninth figure is 8 the call is accepted all the same: it answers 0, numbers, levels and the run's figures stand, the mark bytes are
+   untouched and the last two figures are 0. The bytes that are needed can then be had from the profile, and wagonepoch_eliminate called.
+   Refusals: 1 to 5. */
+uint16_t wagonepoch_run_eliminate(const uint16_t *starts, size_t starts_len,
+                                  const uint16_t *neighbours, size_t neighbours_len,
+                                  uint16_t *numbers, size_t numbers_len,
+                                  uint16_t *levels, size_t levels_len,
+                                  uint16_t *scratch, size_t scratch_len,
+                                  uint8_t *bytes, size_t bytes_len,
+                                  uint64_t *figures, size_t figures_len);
+
+/* The graph of a mesh of n nodes. `elements` has a record for each element, its kind and then its nodes, to the end of the list:
+     kind         1    2         3              4            5        6      7      8                9                     10
+     nodes        2    3         4              4            5        6      8      6                8                     10
+                  bar  triangle  quadrilateral  tetrahedron  pyramid  wedge  brick  6-node triangle  8-node quadrilateral  10-node tetrahedron
+   Lent: starts n + 1, neighbours 32,768 whatever the mesh needs, scratch n, figures 1.
+   Figures: neighbour entries, both directions. So many words of `neighbours` are written, and the length of that list for the calls above is
+   this figure.
+   Refusals: 1, 5, then 9 and 10 element by element, then 11, which leaves the first n scratch words 0. */
+uint16_t wagonepoch_mesh(size_t n,
+                         const uint16_t *elements, size_t elements_len,
+                         uint16_t *starts, size_t starts_len,
+                         uint16_t *neighbours, size_t neighbours_len,
+                         uint16_t *scratch, size_t scratch_len,
+                         uint64_t *figures, size_t figures_len);
+
+#ifdef __cplusplus
+}
+#endif
+
+#endif
