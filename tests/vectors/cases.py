@@ -32,6 +32,7 @@ CALLS = {
     'combined levels': (7, lambda c, first, second, third, data: calls.combined_levels(c.starts, c.neighbours, c.node, first, second)),
     'whole run': (8, lambda c, first, second, third, data: calls.whole_run(c.starts, c.neighbours, first, second, third)),
     'run and eliminate': (9, lambda c, first, second, third, data: calls.run_and_eliminate(c.starts, c.neighbours, first, second, third, data)),
+    'part report': (10, lambda c, first, second, third, data: calls.part_report(c.starts, c.neighbours, c.node, first)),
 }
 
 
@@ -126,6 +127,7 @@ def at_node(draw, kind, lists, node):
     yield Case(kind, 'rooted levels', *lists, [], node, lent(draw, n), 3, 0, 0)
     yield Case(kind, 'ends', *lists, [], node, lent(draw, 8 * n), 3, 0, 0)
     yield Case(kind, 'combined levels', *lists, [], node, lent(draw, n), lent(draw, 8 * n), 3, 0)
+    yield Case(kind, 'part report', *lists, [], node, lent(draw, 8 * n), 3, 0, 0)
 
 
 def wrong_numbering(draw, numbering):

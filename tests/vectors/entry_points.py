@@ -30,8 +30,8 @@ PROGRAM = os.path.join(TOP, 'target', 'bin', 'calls_test')
 def selection():
     """What the gate runs."""
     draw = Draw(1976)
-    return (list(cases.small(draw, 1, 4)) + list(cases.some_of_five(draw, 60)) + list(cases.of_table(draw)) + list(cases.telling(draw, 120))
-            + list(cases.at_random(draw, 30, 3)) + list(cases.runs_at_random(draw, 16)) + list(cases.illegal(draw, 400))
+    return (list(cases.small(draw, 1, 4)) + list(cases.some_of_five(draw, 40)) + list(cases.of_table(draw)) + list(cases.telling(draw, 120))
+            + list(cases.at_random(draw, 20, 3)) + list(cases.runs_at_random(draw, 16)) + list(cases.illegal(draw, 350))
             + list(cases.limits(draw)) + list(cases.of_many_parts()) + list(cases.meshes(draw, 250)) + list(cases.full_meshes()))
 
 

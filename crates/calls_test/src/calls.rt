@@ -8,6 +8,9 @@ use measures::MeasuresAnswer;
 use mesh::Entries;
 use numbering::answer::RunAnswer;
 use numbering::answer::RunFigures;
+use report::answer::Direction;
+use report::answer::PartReport;
+use report::answer::ReportAnswer;
 use store::Counts;
 use store::Elimination;
 use store::RunElimination;
@@ -70,6 +73,38 @@ pub(crate) fn combined(
     match levels::combined_levels(starts, neighbours, word(node), levels, scratch) {
         CombinedAnswer::Refused(number) => refused(number),
         CombinedAnswer::Levels { k, width } => accepted(&[k as u64, width as u64]),
+    }
+}
+
+fn direction(d: Direction) {
+    match d {
+        Direction::Forward => {
+            io::write_all(STDOUT_FILENO, b" Forward");
+        }
+        Direction::Reversed => {
+            io::write_all(STDOUT_FILENO, b" Reversed");
+        }
+    }
+}
+
+fn report_figures(r: PartReport) {
+    accepted(
+        &[
+            r.v as u64,
+            r.u as u64,
+            r.k as u64,
+            r.width as u64,
+            r.passes as u64,
+        ],
+    );
+    let way = r.direction;
+    direction(way);
+}
+
+pub(crate) fn part_report(starts: &[u16], neighbours: &[u16], node: usize, scratch: &mut [u16]) {
+    match report::part_report(starts, neighbours, word(node), scratch) {
+        ReportAnswer::Refused(number) => refused(number),
+        ReportAnswer::Report(r) => report_figures(r),
     }
 }
 

@@ -27,6 +27,7 @@ fn run(
         7 => calls::combined(starts, neighbours, node, first, second),
         8 => calls::whole_run(starts, neighbours, first, second, third),
         9 => calls::run_eliminate(starts, neighbours, first, second, third, bytes),
+        10 => calls::part_report(starts, neighbours, node, first),
         _ => {}
     }
 }
