@@ -1,3 +1,4 @@
 pub mod Bytes
 pub mod Counted
 pub mod Files
+pub mod Early
