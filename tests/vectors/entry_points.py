@@ -13,7 +13,6 @@ A line has the answer, then for each of the three lent lists its words up to the
 expected lines come from tests/reference.
 """
 
-import argparse
 import os
 import sys
 
@@ -21,7 +20,7 @@ TOP = os.path.dirname(os.path.dirname(os.path.dirname(os.path.abspath(__file__))
 sys.path[:0] = [os.path.join(TOP, 'tests', part) for part in ('reference', 'definitions', 'vectors')]
 
 import cases
-from vectors import Draw, differences, keep, tally
+from vectors import Draw, differences, keep, options, tally
 
 CRATE = os.path.join(TOP, 'crates', 'calls_test')
 PROGRAM = os.path.join(TOP, 'target', 'bin', 'calls_test')
@@ -57,12 +56,7 @@ def run(count, seed):
 
 
 def main():
-    parser = argparse.ArgumentParser(description=__doc__.split('\n')[0])
-    parser.add_argument('--check', action='store_true')
-    parser.add_argument('--show', type=int)
-    parser.add_argument('--run', type=int)
-    parser.add_argument('--seed', type=int, default=1)
-    asked = parser.parse_args()
+    asked = options(__doc__)
     if asked.run is not None:
         return run(asked.run, asked.seed)
     made = selection()

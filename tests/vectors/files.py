@@ -11,7 +11,6 @@ number, then for each of the four lent lists (words, starts, neighbours, scratch
 expected lines come from tests/reference.
 """
 
-import argparse
 import os
 import sys
 
@@ -21,7 +20,7 @@ sys.path[:0] = [os.path.join(TOP, 'tests', part) for part in ('reference', 'vect
 import calls
 from listing import element_refusal, header_refusal, nodes_of_file, words_after_header
 from mesh import NODE_COUNT
-from vectors import Draw, answer_text, changed, differences, keep, number, of_words, pattern, shown, tally
+from vectors import Draw, answer_text, changed, differences, keep, number, of_words, options, pattern, shown, tally
 
 CRATE = os.path.join(TOP, 'crates', 'reading_test')
 PROGRAM = os.path.join(TOP, 'target', 'bin', 'reading_test')
@@ -282,12 +281,7 @@ def line(file):
 
 
 def main():
-    parser = argparse.ArgumentParser(description=__doc__.split('\n')[0])
-    parser.add_argument('--check', action='store_true')
-    parser.add_argument('--show', type=int)
-    parser.add_argument('--run', type=int)
-    parser.add_argument('--seed', type=int, default=1)
-    asked = parser.parse_args()
+    asked = options(__doc__)
     if asked.run is not None:
         draw = Draw(asked.seed)
         made = list(random_valid(draw, asked.run)) + list(random_damaged(draw, asked.run))

@@ -3,6 +3,7 @@
 The crate `vectors` writes buffers in the same form.
 """
 
+import argparse
 import random
 import subprocess
 
@@ -131,3 +132,13 @@ def keep(files, check):
             with open(path, 'wb') as f:
                 f.write(content)
     return status
+
+
+def options(text):
+    """What the words of the command ask; text is the script's own description."""
+    parser = argparse.ArgumentParser(description=text.split('\n')[0])
+    parser.add_argument('--check', action='store_true')
+    parser.add_argument('--show', type=int)
+    parser.add_argument('--run', type=int)
+    parser.add_argument('--seed', type=int, default=1)
+    return parser.parse_args()
