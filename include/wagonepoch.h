@@ -50,10 +50,15 @@ extern "C" {
 #define WAGONEPOCH_ENDS_FIGURES 6
 #define WAGONEPOCH_COMBINED_FIGURES 2
 #define WAGONEPOCH_MEASURES_FIGURES 3
+#define WAGONEPOCH_PART_REPORT_FIGURES 6
 #define WAGONEPOCH_RUN_FIGURES 8
 #define WAGONEPOCH_ELIMINATE_FIGURES 2
 #define WAGONEPOCH_RUN_ELIMINATE_FIGURES 11
 #define WAGONEPOCH_MESH_FIGURES 1
+
+/* The direction of a part report. */
+#define WAGONEPOCH_FORWARD 0
+#define WAGONEPOCH_REVERSED 1
 
 /* Adjacency test: whether the two lists are a legal graph.
    Refusals: 1 to 4. */
@@ -100,6 +105,18 @@ uint16_t wagonepoch_measures(const uint16_t *starts, size_t starts_len,
                              const uint16_t *numbering, size_t numbering_len,
                              uint16_t *scratch, size_t scratch_len,
                              uint64_t *figures, size_t figures_len);
+
+/* Report of the part that holds `node`, any node of it: how the whole run numbers it.
+   Lent: scratch 8n, figures 6.
+   Figures: v and u, which change names where u has the lower degree, so that the numbering starts at v; k, the count of the part's levels; the
+   greatest count of nodes in a level; passes; direction, WAGONEPOCH_REVERSED where the part's numbers are turned end for end, which they are
+   exactly if that makes its profile less, else WAGONEPOCH_FORWARD.
+   Refusals: 1 to 6. */
+uint16_t wagonepoch_part_report(const uint16_t *starts, size_t starts_len,
+                                const uint16_t *neighbours, size_t neighbours_len,
+                                uint16_t node,
+                                uint16_t *scratch, size_t scratch_len,
+                                uint64_t *figures, size_t figures_len);
 
 /* The whole run: every part renumbered.
    Lent: numbers n (the new number of each node), levels n (the combined level of each node), scratch 8n, figures 8.

@@ -8,7 +8,7 @@ use Rattle.basis.specs.Lists.{overwrite}
 use Rattle.spec.specs.Refusal.{_orElse_}
 use Rattle.spec.specs.Lent.{Outcome, accepted, refused, short}
 use Rattle.spec.specs.Ends.{Ends}
-use Rattle.spec.specs.Numbering.{Figures}
+use Rattle.spec.specs.Numbering.{Direction, Forward, Reversed, PartReport, Figures}
 use Rattle.spec.specs.CallsLevels.{LevelFigures, CombinedFigures}
 use Rattle.spec.specs.CallsNumbering.{MeasureFigures}
 use Rattle.spec.specs.CallsStore.{EliminationFigures, RunElimination}
@@ -56,6 +56,15 @@ combinedList f = f .k ∷ f .width ∷ []
 -- "the measures their three"
 abbrev pub measuresList : MeasureFigures → List ℕ
 measuresList f = f .bandwidth ∷ f .profile ∷ f .front ∷ []
+
+-- "a direction, which is Forward or Reversed", as a number
+abbrev pub directionNumber : Direction → ℕ
+directionNumber Forward = 0
+directionNumber Reversed = 1
+
+-- "v and u as now named, k, the combined levels' width, passes and a direction"
+abbrev pub reportList : PartReport → List ℕ
+reportList r = r .v ∷ r .u ∷ r .k ∷ r .width ∷ r .passes ∷ directionNumber (r .direction) ∷ []
 
 -- "the eight figures of the program's first line"
 abbrev pub runList : Figures → List ℕ

@@ -1,8 +1,9 @@
 // The calls of the library of numberings.
 ghost use mathlib.Core.Path.{_≡_};
-ghost use Rattle.spec.specs.CallsNumbering.{measuresAnswer, measuresScratch, runAnswer, runNumbers, runLevels, runScratch};
+ghost use Rattle.spec.specs.CallsNumbering.{measuresAnswer, measuresScratch, reportAnswer, reportScratch, runAnswer, runNumbers, runLevels, runScratch};
 ghost use Rattle.spec.specs.Graph.{graphRefusal};
-ghost use Rattle.capi.specs.Figures.{answerC, lentC, figuresC, measuresList, runList};
+ghost use Rattle.report.specs.Answers.{directionMeaning};
+ghost use Rattle.capi.specs.Figures.{answerC, lentC, figuresC, measuresList, directionNumber, reportList, runList};
 use crate::figures::count;
 use crate::figures::lists_refusal;
 use crate::figures::or_five;
@@ -10,6 +11,8 @@ use crate::figures::put;
 use crate::figures::word;
 use measures::MeasuresAnswer;
 use numbering::answer::RunAnswer;
+use report::answer::Direction;
+use report::answer::ReportAnswer;
 
 // The measures of a graph under a numbering. Figures: bandwidth, profile, front.
 #[no_mangle]
@@ -33,6 +36,52 @@ pub extern "C" fn wagonepoch_measures(
             put(
                 figures,
                 &[count(m.bandwidth), count(m.profile), count(m.front)],
+            );
+            0
+        }
+    }
+}
+
+// A direction as a figure: 0 Forward, 1 Reversed.
+fn direction(d: Direction) -> u64
+    ensures { λ r. ⌜ r ≡ directionNumber (directionMeaning d) ⌝ }
+{
+    match d {
+        Direction::Forward => 0,
+        Direction::Reversed => 1,
+    }
+}
+
+// The report of a part. Figures: v and u as now named, k, width, passes, direction.
+#[no_mangle]
+pub extern "C" fn wagonepoch_part_report(
+    starts: &[u16],
+    neighbours: &[u16],
+    node: u16,
+    scratch: &mut [u16],
+    figures: &mut [u64],
+) -> u16
+    ensures { λ r. ⌜ r ≡ answerC 6 (now (figures .entry)) (graphRefusal (now (starts .entry)) (now (neighbours .entry))) (reportAnswer (now (starts .entry)) (now (neighbours .entry)) node (now (scratch .entry))) ⌝ }
+    ensures { λ _. ⌜ now (figures .exit) ≡ figuresC 6 (now (figures .entry)) reportList (reportAnswer (now (starts .entry)) (now (neighbours .entry)) node (now (scratch .entry))) ⌝ }
+    ensures { λ _. ⌜ now (scratch .exit) ≡ lentC 6 (now (figures .entry)) (now (scratch .entry)) (reportScratch (now (starts .entry)) (now (neighbours .entry)) node (now (scratch .entry))) ⌝ }
+{
+    if figures.len() < 6 {
+        return or_five(lists_refusal(starts, neighbours));
+    }
+    match report::part_report(starts, neighbours, node, scratch) {
+        ReportAnswer::Refused(c) => c,
+        ReportAnswer::Report(r) => {
+            let d = r.direction;
+            put(
+                figures,
+                &[
+                    word(r.v),
+                    word(r.u),
+                    word(r.k),
+                    word(r.width),
+                    word(r.passes),
+                    direction(d),
+                ],
             );
             0
         }
