@@ -1,6 +1,6 @@
 // Document 01's second library: the whole run. It tests what it is handed in the order of the table: 1 to 4, then 5.
 pub mod answer;
-mod whole;
+pub mod legal;
 
 ghost use mathlib.Core.Path.{_≡_};
 ghost use mathlib.Core.Bool.{_||_};
@@ -51,7 +51,7 @@ pub fn run(
             if any_short(n, numbers.len(), levels.len(), scratch.len()) {
                 return RunAnswer::Refused(5);
             }
-            let f = whole::number_all(
+            let f = legal::number_all(
                 starts,
                 neighbours,
                 &mut numbers[..n],

@@ -85,10 +85,11 @@ pasted d s n e =
 
 -- ---- tests of the header
 
--- a header that is not bad has all its bytes
-pub header-whole : (bs : List ℕ) → badHeader bs ≡ false → 9 ≤ length bs
+-- a file whose header is not bad has all bytes of it, and is not too long
+pub header-whole : (bs : List ℕ) → badHeader bs ≡ false → (9 ≤ length bs) × (length bs ≤ 65535)
 unfolding badHeader
 header-whole bs e =
     let a = or-none (ltb 65535 (length bs) || ltb (length bs) 9 || not (hasMark bs)) (not (eqb (fileVersion bs) 1)) e .0 in
     let b = or-none (ltb 65535 (length bs) || ltb (length bs) 9) (not (hasMark bs)) a .0 in
-    ltb-false (length bs) 9 (or-none (ltb 65535 (length bs)) (ltb (length bs) 9) b .1)
+    let c = or-none (ltb 65535 (length bs)) (ltb (length bs) 9) b in
+    (ltb-false (length bs) 9 (c .1), ltb-false 65535 (length bs) (c .0))

@@ -24,12 +24,21 @@ use Rattle.reading.proofs.Counted.{all-taken, taken-most}
 -- ---- the header
 
 -- a header that is not refused
-pub header-good : (bs : List ℕ) → headerRefusal bs ≡ 0 → (9 ≤ length bs) × (fileNodes bs ≤ 4096)
+pub header-passed : (bs : List ℕ) → headerRefusal bs ≡ 0 → (badHeader bs ≡ false) × (badSize (fileNodes bs) ≡ false)
 unfolding headerRefusal
-header-good bs e =
+header-passed bs e =
     let a = or-else-zero (refuse (badHeader bs) 12) (refuse (badSize (fileNodes bs)) 1) e in
-    let b = refuse-zero (badSize (fileNodes bs)) 1 (omega arith) (a .1) in
-    (header-whole bs (refuse-zero (badHeader bs) 12 (omega arith) (a .0)), ltb-false 4096 (fileNodes bs) (or-none (eqb (fileNodes bs) 0) (ltb 4096 (fileNodes bs)) b .1))
+    (refuse-zero (badHeader bs) 12 (omega arith) (a .0), refuse-zero (badSize (fileNodes bs)) 1 (omega arith) (a .1))
+
+-- is whole, and has few nodes
+pub header-good : (bs : List ℕ) → headerRefusal bs ≡ 0 → (9 ≤ length bs) × (fileNodes bs ≤ 4096)
+header-good bs e =
+    let a = header-passed bs e in
+    (header-whole bs (a .0) .0, ltb-false 4096 (fileNodes bs) (or-none (eqb (fileNodes bs) 0) (ltb 4096 (fileNodes bs)) (a .1) .1))
+
+-- and the words after it are no more than 32,763
+pub body-most : (bs : List ℕ) → headerRefusal bs ≡ 0 → length (body bs) ≤ 32763
+body-most bs e = omega (arith, body-length bs, header-whole bs (header-passed bs e .0) .1)
 
 -- ---- the words
 
@@ -73,11 +82,11 @@ module _ (bs : List ℕ) where
 -- ---- after the words: 11 or none
 
 -- no word's refusal is 11
-or-not : (a b : ℕ) → (a ≡ 11 → ⊥) → (b ≡ 11 → ⊥) → (a orElse b) ≡ 11 → ⊥
+pub or-not : (a b : ℕ) → (a ≡ 11 → ⊥) → (b ≡ 11 → ⊥) → (a orElse b) ≡ 11 → ⊥
 or-not zero b h l e = l e
 or-not (suc a) b h l e = h e
 
-refuse-not : (t : Bool) (c : ℕ) → (c ≡ 11 → ⊥) → refuse t c ≡ 11 → ⊥
+pub refuse-not : (t : Bool) (c : ℕ) → (c ≡ 11 → ⊥) → refuse t c ≡ 11 → ⊥
 refuse-not true c h e = h e
 refuse-not false c h e = omega arith
 
@@ -147,6 +156,18 @@ module _ (bs : List ℕ) where
     words-pass =
         body-split ∙ ap (λ (r : ℕ). r orElse refuse (refuses11 (fileGraph bs)) 11) (passed .0)
         ∙ ap (λ (g : Graph). refuse (refuses11 g) 11) words-graph
+
+-- a file that is not refused: its graph is that of its word list, and 11 does not refuse it
+module _ (bs : List ℕ) (e : bodyRefusal bs ≡ 0) where
+  tests : (wordsRefusal bs ≡ 0) × (refuse (refuses11 (fileGraph bs)) 11 ≡ 0)
+  tests = or-else-zero (wordsRefusal bs) (refuse (refuses11 (fileGraph bs)) 11) (sym (body-split bs) ∙ e)
+
+  pub file-graph : fileGraph bs ≡ graphOfElements (fileNodes bs) (body bs)
+  unfolding outcome
+  file-graph = words-graph bs (length (body bs)) (sym (ap (λ (c : ℕ). outcome c (length (body bs))) (tests .0)))
+
+  pub file-few : refuses11 (fileGraph bs) ≡ false
+  file-few = refuse-zero (refuses11 (fileGraph bs)) 11 (omega arith) (tests .1)
 
 -- ---- answer and buffers by the refusal's number
 

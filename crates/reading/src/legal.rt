@@ -17,6 +17,14 @@ use crate::answer::Lengths;
 use crate::answer::Tested;
 use mesh::Entries;
 
+// n, the number of nodes.
+pub fn nodes(file: &[u8]) -> usize
+    requires { ⌜ headerRefusal (now file) ≡ 0 ⌝ }
+    ensures { λ r. ⌜ r ≡ fileNodes (now (file .entry)) ⌝ }
+{
+    words::wide(crate::header::word_at(file, 5))
+}
+
 // Whether a list is short that the reading of a file of n nodes is lent.
 fn lists_short(n: usize, l: Lengths) -> bool
     requires { ⌜ n ≤ 4096 ⌝ }
@@ -57,7 +65,7 @@ pub fn early_refusal(file: &[u8], l: Lengths, words_per_node: usize) -> u16
     if refusal != 0 {
         return refusal;
     }
-    let n = words::wide(crate::header::word_at(file, 5));
+    let n = nodes(file);
     if lists_short(n, l) {
         return 5;
     }
@@ -111,7 +119,7 @@ fn read_elements(file: &[u8], list: &mut [u16]) -> Tested
     ensures { λ r. ⌜ tested r ≡ outcome (wordsRefusal (now (file .entry))) (length (body (now (file .entry)))) ⌝ }
     ensures { λ _. ⌜ now (list .exit) ≡ overwrite (body (now (file .entry))) (now (list .entry)) ⌝ }
 {
-    let n = words::wide(crate::header::word_at(file, 5));
+    let n = nodes(file);
     let count = words::wide(crate::header::word_at(file, 7));
     let size = decode(file, list);
     let answer = test_elements(count, n, &list[..size]);
@@ -143,7 +151,7 @@ pub fn read_mesh(
     ensures { λ _. ⌜ now (neighbours .exit) ≡ filled (bodyRefusal (now (file .entry))) (neighbourList (fileGraph (now (file .entry)))) (now (neighbours .entry)) ⌝ }
     ensures { λ _. ⌜ now (scratch .exit) ≡ scratchAfter (eqb (bodyRefusal (now (file .entry))) 0 || eqb (bodyRefusal (now (file .entry))) 11) (fileNodes (now (file .entry))) (now (scratch .entry)) ⌝ }
 {
-    let n = words::wide(crate::header::word_at(file, 5));
+    let n = nodes(file);
     let answer = read_elements(file, list);
     match answer {
         Tested::Refused(number) => Entries::Refused(number),

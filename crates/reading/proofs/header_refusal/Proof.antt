@@ -19,11 +19,11 @@ good : (c : tie.Else1) → badHeader (now (c .before .before .before .args .file
 good c = sym (c .before .bad-header .ensures) ∙ c .if1 .left
 
 word-at-requires : tie.Need-word-at-requires
-word-at-requires c κs = omega (arith, header-whole (now (c .before .before .before .args .file)) (good c))
+word-at-requires c κs = omega (arith, header-whole (now (c .before .before .before .args .file)) (good c) .0)
 
 -- n
 nodes : (c : tie.After-word-at) → c .word-at .result ≡ fileNodes (now (c .before .before .before .before .args .file))
-nodes c = let W = now (c .before .before .before .before .args .file) in c .word-at .ensures ∙ sym (nodes-is W (header-whole W (good (c .before))))
+nodes c = let W = now (c .before .before .before .before .args .file) in c .word-at .ensures ∙ sym (nodes-is W (header-whole W (good (c .before)) .0))
 
 returns-2 : tie.Need-returns-2
 unfolding headerRefusal

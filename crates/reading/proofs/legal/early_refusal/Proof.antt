@@ -4,7 +4,6 @@ use native.Mathlib.Omega.{arith}
 use denote.Ref.{now}
 use borrow.Author.Needs.{needs}
 use Rattle.spec.specs.File.{fileNodes, headerRefusal}
-use Rattle.reading.proofs.Bytes.{nodes-is}
 use Rattle.reading.proofs.Early.{early-header, early-lists, early-buffers, early-none}
 use Rattle.reading.proofs.Files.{header-good}
 use Rattle.reading.proofs.legal.early_refusal.Statement.{statement}
@@ -12,10 +11,8 @@ use Rattle.reading.proofs.legal.early_refusal.Tie as tie
 use Rattle.reading.proofs.legal.early_refusal.Reads as reads
 use Rattle.reading.proofs.legal.early_refusal.Lts as lts
 use Rattle.reading.proofs.legal.buffers_short.Reads as buffers-short-reads
-use Rattle.reading.proofs.header.word_at.Reads as word-at-reads
 use Rattle.reading.proofs.header_refusal.Reads as header-refusal-reads
 use Rattle.reading.proofs.legal.lists_short.Reads as lists-short-reads
-use Rattle.words.proofs.wide.Reads as wide-reads
 
 header-refusal-requires : tie.Need-header-refusal-requires
 header-refusal-requires c κs = search needs
@@ -27,30 +24,27 @@ returns c = λ b e. early-header (now (c .before .before .before .args .file)) b
 good : (c : tie.Else1) → headerRefusal (now (c .before .before .before .args .file)) ≡ 0
 good c = sym (c .before .header-refusal .ensures) ∙ c .if1 .left
 
-word-at-requires : tie.Need-word-at-requires
-word-at-requires c κs = omega (arith, header-good (now (c .before .before .before .args .file)) (good c) .0)
-
-wide-requires : tie.Need-wide-requires
-wide-requires c κs = search needs
+nodes-requires : tie.Need-nodes-requires
+nodes-requires c κs = good c
 
 -- n
-nodes : (c : tie.After-wide) → c .wide .result ≡ fileNodes (now (c .before .before .before .before .before .args .file))
-nodes c = let F = now (c .before .before .before .before .before .args .file) in c .wide .ensures ∙ c .before .word-at .ensures ∙ sym (nodes-is F (header-good F (good (c .before .before)) .0))
+nodes : (c : tie.After-nodes) → c .nodes .result ≡ fileNodes (now (c .before .before .before .before .args .file))
+nodes c = c .nodes .ensures
 
 lists-short-requires : tie.Need-lists-short-requires
-lists-short-requires c κs = let F = now (c .before .before .before .before .before .args .file) in omega (arith, nodes c, header-good F (good (c .before .before)) .1)
+lists-short-requires c κs = let F = now (c .before .before .before .before .args .file) in omega (arith, nodes c, header-good F (good (c .before)) .1)
 
 returns-2 : tie.Need-returns-2
-returns-2 c = λ b e. early-lists (now (c .before .before .before .before .before .before .before .args .file)) b (good (c .before .before .before .before)) (nodes (c .before .before)) e (c .before .lists-short .ensures) (c .if2 .taken)
+returns-2 c = λ b e. early-lists (now (c .before .before .before .before .before .before .args .file)) b (good (c .before .before .before)) (nodes (c .before .before)) e (c .before .lists-short .ensures) (c .if2 .taken)
 
 buffers-short-requires : tie.Need-buffers-short-requires
-buffers-short-requires c κs = let F = now (c .before .before .before .before .before .before .before .args .file) in (omega (arith, nodes (c .before .before), header-good F (good (c .before .before .before .before)) .1), c .before .before .before .before .before .before .before .pre)
+buffers-short-requires c κs = let F = now (c .before .before .before .before .before .before .args .file) in (omega (arith, nodes (c .before .before), header-good F (good (c .before .before .before)) .1), c .before .before .before .before .before .before .pre)
 
 returns-3 : tie.Need-returns-3
-returns-3 c = λ b e. early-buffers (now (c .before .before .before .before .before .before .before .before .before .args .file)) b (good (c .before .before .before .before .before .before)) (nodes (c .before .before .before .before)) e (c .before .before .before .lists-short .ensures) (c .before .before .if2 .left) (c .before .buffers-short .ensures) (c .if3 .taken)
+returns-3 c = λ b e. early-buffers (now (c .before .before .before .before .before .before .before .before .args .file)) b (good (c .before .before .before .before .before)) (nodes (c .before .before .before .before)) e (c .before .before .before .lists-short .ensures) (c .before .before .if2 .left) (c .before .buffers-short .ensures) (c .if3 .taken)
 
 returns-4 : tie.Need-returns-4
-returns-4 c = λ b e. early-none (now (c .before .before .before .before .before .before .before .before .before .args .file)) b (good (c .before .before .before .before .before .before)) (nodes (c .before .before .before .before)) e (c .before .before .before .lists-short .ensures) (c .before .before .if2 .left) (c .before .buffers-short .ensures) (c .if3 .left)
+returns-4 c = λ b e. early-none (now (c .before .before .before .before .before .before .before .before .args .file)) b (good (c .before .before .before .before .before)) (nodes (c .before .before .before .before)) e (c .before .before .before .lists-short .ensures) (c .before .before .if2 .left) (c .before .buffers-short .ensures) (c .if3 .left)
 
 pub early-refusal-spec : {M : Type 1} → statement M
 early-refusal-spec =
@@ -58,8 +52,7 @@ early-refusal-spec =
     (tie.spec
     header-refusal-requires
     returns
-    word-at-requires
-    wide-requires
+    nodes-requires
     lists-short-requires
     returns-2
     buffers-short-requires

@@ -17,30 +17,25 @@ use Rattle.spec.specs.CallsMesh.{graphOfElements}
 use Rattle.spec.specs.File.{fileNodes, body, fileGraph}
 use Rattle.reading.specs.Answer.{tested}
 use Rattle.reading.specs.Words.{wordsRefusal}
-use Rattle.reading.proofs.Bytes.{nodes-is}
 use Rattle.reading.proofs.Files.{header-good, words-refused, words-all, words-good, words-graph, words-pass, outcome-kept, filled-kept, scratch-kept, scratch-zeroed}
 use Rattle.reading.proofs.legal.read_mesh.Statement.{statement}
 use Rattle.reading.proofs.legal.read_mesh.Tie as tie
 
--- the header is whole
-whole : (s : tie.Start) → 9 ≤ length (now (s .args .file))
-whole s = header-good (now (s .args .file)) (s .pre .0 .0) .0
-
-word-at-requires : tie.Need-word-at-requires
-word-at-requires c κs = omega (arith, whole (c .before .before .before .before .before))
+nodes-requires : tie.Need-nodes-requires
+nodes-requires c κs = c .before .before .before .before .before .pre .0 .0
 
 read-elements-requires : tie.Need-read-elements-requires
-read-elements-requires c κs = c .before .before .before .before .before .before .before .before .pre .0
+read-elements-requires c κs = c .before .before .before .before .before .before .before .pre .0
 
 abbrev start : tie.After-read-elements → tie.Start
-start r = r .before .before .before .before .before .before .before .before .before
+start r = r .before .before .before .before .before .before .before .before
 
 abbrev bytes : tie.After-read-elements → List ℕ
 bytes r = now (start r .args .file)
 
 -- n
-nodes : (r : tie.After-read-elements) → r .before .before .wide .result ≡ fileNodes (bytes r)
-nodes r = r .before .before .wide .ensures ∙ r .before .before .before .word-at .ensures ∙ sym (nodes-is (bytes r) (whole (start r)))
+nodes : (r : tie.After-read-elements) → r .before .before .nodes .result ≡ fileNodes (bytes r)
+nodes r = r .before .before .nodes .ensures
 
 abbrev read : tie.After-known-told2 → tie.After-read-elements
 read k = k .before .before .before .before .before
@@ -141,8 +136,7 @@ pub read-mesh-spec : {M : Type 1} → statement M
 read-mesh-spec =
     tie.close
     (tie.spec
-    word-at-requires
-    (λ c κs. search needs)
+    nodes-requires
     read-elements-requires
     (λ c. search needs)
     (λ c. search needs)

@@ -1,12 +1,12 @@
--- `numbering::whole::number_parts` meets its contract. Assumes nothing.
+-- `numbering::legal::number_parts` meets its contract. Assumes nothing.
 use mathlib.Core.Path.{_≡_, refl, sym, _∙_}
 use Prim.Native.Nat.{_-_}
 use native.Mathlib.Omega.{arith}
 use borrow.Author.Needs.{needs}
 use Rattle.numbering.specs.Ran.{Ran}
 use Rattle.numbering.proofs.Ran.{ran-words, levels-size, passed-all, run-numbers, run-levels, summed}
-use Rattle.numbering.proofs.whole.number_parts.Statement.{statement}
-use Rattle.numbering.proofs.whole.number_parts.Tie as tie
+use Rattle.numbering.proofs.legal.number_parts.Statement.{statement}
+use Rattle.numbering.proofs.legal.number_parts.Tie as tie
 
 abbrev Inv-loop : tie.InvT-loop
 Inv-loop starts neighbours numbers₀ levels₀ scratch₀ count t₀ numbers levels scratch t = (scratch ≡ scratch₀) × Ran starts neighbours (t .parts) (t .nodes) (t .levels) (t .width) (t .passes) numbers levels scratch₀

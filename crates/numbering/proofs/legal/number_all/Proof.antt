@@ -1,4 +1,4 @@
--- `numbering::whole::number_all` meets its contract: its calls in their order. Assumes nothing.
+-- `numbering::legal::number_all` meets its contract: its calls in their order. Assumes nothing.
 use mathlib.Core.Path.{sym, _∙_}
 use Prim.Native.Nat.{_*_}
 use native.Mathlib.Omega.{arith}
@@ -9,8 +9,8 @@ use Rattle.spec.specs.Graph.{sizeOf}
 use Rattle.laws.proofs.Lent.{zeroed-all}
 use Rattle.numbering.proofs.Figures.{legal-lists, members-room, members-blank, lent-room, lent-size, back-size, last-scratch, last-size, numbers-numbering, eight-are, filled-room, levels-blank}
 use Rattle.numbering.proofs.Ran.{starts, ran-begin}
-use Rattle.numbering.proofs.whole.number_all.Statement.{statement}
-use Rattle.numbering.proofs.whole.number_all.Tie as tie
+use Rattle.numbering.proofs.legal.number_all.Statement.{statement}
+use Rattle.numbering.proofs.legal.number_all.Tie as tie
 
 sub-n : tie.Need-sub-n
 sub-n c = omega (arith, starts _ _ (c .before .before .before .before .before .pre .0) .count)

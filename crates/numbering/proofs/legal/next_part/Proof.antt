@@ -1,4 +1,4 @@
--- `numbering::whole::next_part` meets its contract. Assumes nothing.
+-- `numbering::legal::next_part` meets its contract. Assumes nothing.
 use mathlib.Core.Path.{refl, sym, ap, _∙_}
 use Prim.Native.Nat.{ℕ, _+_}
 use native.Mathlib.Omega.{arith}
@@ -6,8 +6,8 @@ use borrow.Author.Needs.{needs}
 use denote.Ref.{now}
 use Rattle.numbering.specs.Ran.{Ran}
 use Rattle.numbering.proofs.Ran.{starts, ran-at, words-size, fits, some, lowest-node, size-is, half-blank, part-given, levels-blank, levels-size, few, parts-few, k-few, passes-low, ran-step}
-use Rattle.numbering.proofs.whole.next_part.Statement.{statement}
-use Rattle.numbering.proofs.whole.next_part.Tie as tie
+use Rattle.numbering.proofs.legal.next_part.Statement.{statement}
+use Rattle.numbering.proofs.legal.next_part.Tie as tie
 
 -- the run so far, with the count of nodes as an index
 at : (c : tie.After-wide) → let s = c .before .before .before .before .before .before in

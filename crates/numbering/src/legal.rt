@@ -100,7 +100,7 @@ fn number_parts(
 }
 
 // Numbers and levels, n words each by old number, and the figures, in scratch that is set to 0 before and after.
-pub(crate) fn number_all(
+pub fn number_all(
     starts: &[u16],
     neighbours: &[u16],
     numbers: &mut [u16],
