@@ -46,22 +46,26 @@ def in_rust(name, kind):
     return [(name, '*%s %s' % ('mut' if m.group(1) else 'const', m.group(2))), (name + '_len', 'usize')]
 
 
-def main():
-    wanted, wrong = exported(), []
+def declared():
+    """{name: (parameters, figures)} of the header."""
     header = text_of('include/wagonepoch.h')
-    declared = {m.group(1): [' '.join(part.split()) for part in m.group(2).split(',')]
-                for m in re.finditer(r'(?m)^uint16_t (\w+)\(([^)]*)\);', header)}
     counts = {m.group(1).lower(): int(m.group(2)) for m in re.finditer(r'#define WAGONEPOCH_(\w+)_FIGURES (\d+)', header)}
-    short = {'rooted_levels': 'rooted', 'combined_levels': 'combined'}
-    for name in sorted(set(wanted) | set(declared)):
-        if name not in wanted or name not in declared:
+    found = {}
+    for m in re.finditer(r'(?m)^uint16_t (wagonepoch_(\w+?)(?:_levels)?)\(([^)]*)\);', header):
+        found[m.group(1)] = ([' '.join(part.split()) for part in m.group(3).split(',')], counts.get(m.group(2), 0))
+    return found
+
+
+def main():
+    wanted, stands, wrong = exported(), declared(), []
+    for name in sorted(set(wanted) | set(stands)):
+        if name not in wanted or name not in stands:
             wrong.append('%s stands in one only' % name)
             continue
         listed, figures = wanted[name]
-        call = name.replace('wagonepoch_', '')
-        if declared[name] != [part for one in listed for part in in_c(*one)]:
+        if stands[name][0] != [part for one in listed for part in in_c(*one)]:
             wrong.append('%s: other parameters in the header' % name)
-        if counts.get(short.get(call, call), 0) != figures:
+        if stands[name][1] != figures:
             wrong.append('%s: another count of figures in the header' % name)
     for m in re.finditer(r'pub fn (wagonepoch_\w+)\(([^)]*)\) -> u16;', text_of('examples/rust/wagonepoch.rs')):
         if parameters(m.group(2)) != [part for one in wanted[m.group(1)][0] for part in in_rust(*one)]:

@@ -21,19 +21,25 @@ from vectors import answer_text, byte_pattern, changed, number, of_words, patter
 # Given lists, a given node (n for the mesh), lengths of what is lent. `kind` says what the case is for.
 Case = namedtuple('Case', 'kind call starts neighbours given node first second third bytes')
 
-# Number of each call in the program, and the call of the reference on a case and its four buffers.
+# A call: its number in the program, the reference's call, and which of a case's fields it is given and lent, in its order.
+Call = namedtuple('Call', 'number reference given lent')
+
 CALLS = {
-    'adjacency test': (1, lambda c, first, second, third, data: calls.adjacency_test(c.starts, c.neighbours)),
-    'rooted levels': (2, lambda c, first, second, third, data: calls.rooted_levels(c.starts, c.neighbours, c.node, first)),
-    'ends': (3, lambda c, first, second, third, data: calls.ends(c.starts, c.neighbours, c.node, first)),
-    'measures': (4, lambda c, first, second, third, data: calls.measures(c.starts, c.neighbours, c.given, first)),
-    'elimination': (5, lambda c, first, second, third, data: calls.elimination(c.starts, c.neighbours, c.given, first, data)),
-    'mesh': (6, lambda c, first, second, third, data: calls.mesh(c.node, c.given, first, second, third)),
-    'combined levels': (7, lambda c, first, second, third, data: calls.combined_levels(c.starts, c.neighbours, c.node, first, second)),
-    'whole run': (8, lambda c, first, second, third, data: calls.whole_run(c.starts, c.neighbours, first, second, third)),
-    'run and eliminate': (9, lambda c, first, second, third, data: calls.run_and_eliminate(c.starts, c.neighbours, first, second, third, data)),
-    'part report': (10, lambda c, first, second, third, data: calls.part_report(c.starts, c.neighbours, c.node, first)),
+    'adjacency test': Call(1, calls.adjacency_test, 'starts neighbours', ''),
+    'rooted levels': Call(2, calls.rooted_levels, 'starts neighbours node', 'first'),
+    'ends': Call(3, calls.ends, 'starts neighbours node', 'first'),
+    'measures': Call(4, calls.measures, 'starts neighbours given', 'first'),
+    'elimination': Call(5, calls.elimination, 'starts neighbours given', 'first bytes'),
+    'mesh': Call(6, calls.mesh, 'node given', 'first second third'),
+    'combined levels': Call(7, calls.combined_levels, 'starts neighbours node', 'first second'),
+    'whole run': Call(8, calls.whole_run, 'starts neighbours', 'first second third'),
+    'run and eliminate': Call(9, calls.run_and_eliminate, 'starts neighbours', 'first second third bytes'),
+    'part report': Call(10, calls.part_report, 'starts neighbours node', 'first'),
 }
+
+
+def fields(c, names):
+    return [getattr(c, name) for name in names.split()]
 
 
 # What the program has room for.
@@ -48,15 +54,16 @@ def encoded(c):
     assert len(c.given) <= MOST_GIVEN and c.bytes <= MOST_BYTES
     lists = b''.join(number(len(words)) + of_words(words) for words in (c.starts, c.neighbours, c.given))
     lengths = b''.join(number(size) for size in (c.node, c.first, c.second, c.third, c.bytes))
-    return number(CALLS[c.call][0]) + lists + lengths
+    return number(CALLS[c.call].number) + lists + lengths
 
 
 def expected(c):
     """The line that the program must write."""
-    lent = [pattern(size) for size in (c.first, c.second, c.third)]
-    data = byte_pattern(c.bytes)
-    answer = CALLS[c.call][1](c, *lent, data)
-    return answer_text(answer) + ''.join(shown(changed(words)) for words in lent) + shown(data)
+    call, words = CALLS[c.call], ('first', 'second', 'third')
+    lent = {name: pattern(getattr(c, name)) for name in words}
+    lent['bytes'] = byte_pattern(c.bytes)
+    answer = call.reference(*fields(c, call.given), *[lent[name] for name in call.lent.split()])
+    return answer_text(answer) + ''.join(shown(changed(lent[name])) for name in words) + shown(lent['bytes'])
 
 
 # Graphs.
@@ -95,7 +102,7 @@ def damaged(draw, starts, neighbours):
     chosen = draw.one(lists)
     way, at = draw.below(5), draw.below(max(1, len(chosen)))
     if way == 0 and chosen:
-        chosen[at] = max(0, chosen[at] + draw.one([-1, 1, 3]))
+        chosen[at] = min(65535, max(0, chosen[at] + draw.one([-1, 1, 3])))
     elif way == 1 and chosen:
         chosen[at] = draw.one([0, 1, len(starts), 32769, 65535])
     elif way == 2 and chosen:

@@ -1,0 +1,84 @@
+"""Trials of each kind: the cases of tests/vectors with lists of figures short, exact and long, numbers that sixteen bits can't hold, full size."""
+
+import cases
+import shapes
+from cases import CALLS, Case, fields
+from graph import from_edges
+from library import FIGURES
+from trials import FILLS, FUNCTIONS, Trial
+
+
+def of_case(draw, c):
+    need = FIGURES[FUNCTIONS[c.call]]
+    way = draw.below(10)
+    figures = draw.below(need + 1) if way == 0 else need if way < 7 else need + 1 + draw.below(5)
+    call = CALLS[c.call]
+    return Trial(c.kind, c.call, fields(c, call.given), fields(c, call.lent), figures, draw.below(len(FILLS)))
+
+
+def every_call(kind, lists, node, numbering, n):
+    """All calls on an adjacency, with enough of everything lent."""
+    yield Case(kind, 'adjacency test', *lists, [], 0, 0, 0, 0, 0)
+    yield Case(kind, 'rooted levels', *lists, [], node, n, 0, 0, 0)
+    yield Case(kind, 'ends', *lists, [], node, 8 * n, 0, 0, 0)
+    yield Case(kind, 'combined levels', *lists, [], node, n, 8 * n, 0, 0)
+    yield Case(kind, 'part report', *lists, [], node, 8 * n, 0, 0, 0)
+    yield Case(kind, 'whole run', *lists, [], 0, n, n, 8 * n, 0)
+    yield Case(kind, 'measures', *lists, numbering, 0, n, 0, 0, 0)
+    need = cases.byte_count(lists, numbering) if len(lists[0]) == n + 1 else 2
+    yield Case(kind, 'elimination', *lists, numbering, 0, n, 0, 0, need)
+    yield Case(kind, 'run and eliminate', *lists, [], 0, n, n, 8 * n, 40000)
+
+
+def wide():
+    """Lengths and words at the limits, and such as sixteen bits would take for small ones."""
+    kind = 'wide'
+    same = list(range(1, 4097))
+    for lists in (([], []), ([0], []), ([65535], [1]), ([0] * 4098, []), ([0] * 65537, []), ([0] * 65539, []), ([0, 0, 0], [1] * 65536),
+                  ([0, 1, 2], [2, 1] + [7] * 65536), ([0] * 4097, [1] * 65536), ([65535] * 4097, []), ([0, 65535], [1] * 65535),
+                  ([0] + [32768] * 4096, same * 8), ([0, 32769], same * 8 + [1]), ([0, 1, 2], [65535, 1]), ([0, 1, 2], [2, 65535]),
+                  ([0] + list(range(1, 4097)), [4096] * 4096)):
+        yield from every_call(kind, lists, 1, same, 4096)
+    isolated = ([0] * 4097, [])
+    yield from every_call(kind, isolated, 4096, same, 4096)
+    for node in (0, 4097, 65535):
+        yield from every_call(kind, isolated, node, same + [1] * 65536, 4096)
+    for n in (65536, 65539, 2 ** 32 + 3, 2 ** 63, 2 ** 64 - 1):
+        yield Case(kind, 'mesh', [], [], [1, 1, 2], n, 4, 32768, 4, 0)
+    for words in ([65535], [10, 65535], [1, 65535, 1], [1, 4096, 1] + [65535] * 65535):
+        yield Case(kind, 'mesh', [], [], words, 4096, 4097, 32768, 4096, 0)
+
+
+def full_size(draw):
+    """Shapes of full size that the reference runs in some seconds: no elimination under old numbers that need a large store."""
+    for n, edges in (shapes.grid(64, 64, False), shapes.renamed(draw, *shapes.grid(512, 8, True)), shapes.renamed(draw, *shapes.band(4096, 4)),
+                     shapes.random_tree(draw, 4096), shapes.rings_of_four(1024)):
+        lists = from_edges(n, edges)
+        for c in every_call('full size', lists, 1 + draw.below(n), list(range(1, n + 1)), n):
+            if c.bytes <= cases.MOST_BYTES:
+                yield c
+
+
+def at_random(draw, count):
+    """So many of each random kind."""
+    yield from cases.telling(draw, count)
+    yield from cases.at_random(draw, count // 2, 3)
+    yield from cases.runs_at_random(draw, count // 2)
+    yield from cases.large(draw, count // 20)
+    yield from cases.illegal(draw, 4 * count)
+    yield from cases.meshes(draw, 2 * count)
+
+
+def some(draw, count):
+    """What is run in some minutes."""
+    for made in (cases.small(draw, 1, 5), cases.of_table(draw), at_random(draw, count), cases.limits(draw), wide(),
+                 cases.of_many_parts(), cases.full_meshes(), cases.long_meshes(), full_size(draw)):
+        for c in made:
+            yield of_case(draw, c)
+
+
+def more(draw, count):
+    """What every further round of a long run adds: random kinds, and full size with the nodes named anew."""
+    for made in (cases.some_of_five(draw, count), at_random(draw, count), cases.of_full_size(draw)):
+        for c in made:
+            yield of_case(draw, c)

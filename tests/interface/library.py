@@ -1,0 +1,68 @@
+"""The C interface as a caller has it: the functions that include/wagonepoch.h declares, over a shared library made of the static one."""
+
+import ctypes
+import os
+import subprocess
+from array import array
+from collections import namedtuple
+
+from callers import LIBRARY, TOP, build_library
+from header import declared
+
+SHARED = os.path.join(TOP, 'target', 'staticlib', 'libcapi.so')
+CODES = {'uint8_t': 'B', 'uint16_t': 'H', 'uint64_t': 'Q'}
+NUMBERS = {'uint16_t': ctypes.c_uint16, 'size_t': ctypes.c_size_t}
+
+# Elements behind the end of every list: no call may write them. They also keep the pointer of an empty list from being null.
+BEHIND = 8
+
+# Of a list `code` is that of its elements, of a number None.
+Parameter = namedtuple('Parameter', 'name code number')
+
+
+def parameters_of(texts):
+    """The parameters; a length belongs to the list before it and is none of its own."""
+    found = []
+    for text in texts:
+        kind, name = text.replace('const ', '').split()
+        if name.startswith('*'):
+            found.append(Parameter(name[1:], CODES[kind], None))
+        elif not name.endswith('_len'):
+            found.append(Parameter(name, None, NUMBERS[kind]))
+    return found
+
+
+PARAMETERS = {name.replace('wagonepoch_', ''): parameters_of(texts) for name, (texts, _) in declared().items()}
+FIGURES = {name.replace('wagonepoch_', ''): count for name, (_, count) in declared().items()}
+
+
+def guarded(code, values):
+    """A list in memory, with the elements behind it."""
+    top = 256 ** array(code).itemsize - 1
+    return array(code, list(values) + [top - i for i in range(BEHIND)])
+
+
+def load():
+    """The library, built where it is older than the crates."""
+    os.chdir(TOP)
+    build_library()
+    subprocess.run(['cc', '-shared', '-o', SHARED, '-Wl,--whole-archive', LIBRARY, '-Wl,--no-whole-archive'], check=True)
+    return ctypes.CDLL(SHARED)
+
+
+class Library:
+    def __init__(self):
+        self.loaded = load()
+
+    def call(self, function, values):
+        """What the function answers, and each list with what is behind it as it is then; a list of values for every list, else a number."""
+        words, lists = [], []
+        for parameter, value in zip(PARAMETERS[function], values):
+            if parameter.code is None:
+                words.append(parameter.number(value))
+                continue
+            lists.append(guarded(parameter.code, value))
+            words += [ctypes.c_void_p(lists[-1].buffer_info()[0]), ctypes.c_size_t(len(value))]
+        called = getattr(self.loaded, 'wagonepoch_' + function)
+        called.restype = ctypes.c_uint16
+        return called(*words), lists

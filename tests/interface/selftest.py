@@ -1,0 +1,93 @@
+#!/usr/bin/env python3
+"""That the comparison can fail: a library that alters one word is reported, and its case is saved and found again; so is one that faults.
+
+Altered in turn are the answer and, of every list of a call, the first word, the last and the last element behind it.
+"""
+
+import contextlib
+import io
+import os
+import signal
+import sys
+import tempfile
+
+import compare
+from cases import CALLS, Case, fields
+from graph import from_edges
+from kinds import every_call
+from library import BEHIND, FIGURES, Library
+from trials import FUNCTIONS, Trial, got
+
+
+class Altered:
+    """The library, with the answer changed, or the word at a place of a list."""
+
+    def __init__(self, library, number, place):
+        self.library, self.number, self.place = library, number, place
+
+    def call(self, function, values):
+        answer, lists = self.library.call(function, values)
+        if self.number is None:
+            return answer ^ 1, lists
+        lists[self.number][self.place] ^= 1
+        return answer, lists
+
+
+class Faulting:
+    def call(self, function, values):
+        os.kill(os.getpid(), signal.SIGSEGV)
+
+
+def trials():
+    """Each call on three nodes, with one word more than it needs in every list that is lent."""
+    on_graph = list(every_call('self-test', from_edges(3, [(1, 2), (2, 3)]), 1, [1, 2, 3], 3))
+    for c in on_graph + [Case('self-test', 'mesh', [], [], [1, 1, 2], 3, 4, 32768, 3, 0)]:
+        lent = [size + 1 for size in fields(c, CALLS[c.call].lent)]
+        yield Trial(c.kind, c.call, fields(c, CALLS[c.call].given), lent, FIGURES[FUNCTIONS[c.call]] + 1, 0)
+
+
+def places(library, trial):
+    """Every alteration of a trial: a list and a place, or none."""
+    yield None, 0
+    for number, words in enumerate(got(library, trial)[1]):
+        for place in (0, len(words) - BEHIND - 1, len(words) - 1):
+            yield number, place
+
+
+def saved_in(folder):
+    return [os.path.join(folder, name) for name in os.listdir(folder)]
+
+
+def seen(library, altered, trial):
+    """Whether the alteration is reported, saved and found again, and the saved case is none of the library itself."""
+    with tempfile.TemporaryDirectory() as folder, contextlib.redirect_stdout(io.StringIO()) as printed:
+        tally = compare.Tally()
+        compare.compare(altered, trial, tally, folder)
+        saved = saved_in(folder)
+        return (tally.failed() == 1 and len(saved) == 1 and ' must ' in printed.getvalue() and compare.replay(altered, saved[0])
+                and not compare.replay(library, saved[0]))
+
+
+def fault_seen():
+    with tempfile.TemporaryDirectory() as folder, contextlib.redirect_stdout(io.StringIO()) as printed:
+        status = compare.watched(Faulting(), compare.options(['--only', 'mesh']), folder)
+        return status and len(saved_in(folder)) == 1 and 'ended by signal' in printed.getvalue()
+
+
+def main():
+    library, tried, missed = Library(), 0, 0
+    for trial in trials():
+        for number, place in places(library, trial):
+            tried += 1
+            if not seen(library, Altered(library, number, place), trial):
+                missed += 1
+                print('%s: not seen: list %s, place %d' % (trial.call, number, place))
+    if not fault_seen():
+        missed += 1
+        print('a fault is not seen')
+    print('%d words altered, %d not seen' % (tried, missed))
+    return tried == 0 or missed > 0
+
+
+if __name__ == '__main__':
+    sys.exit(main())
