@@ -3,8 +3,8 @@
    `rt staticlib capi` writes target/staticlib/libcapi.a, for x86-64. It needs no library but C's, allocates nothing, keeps nothing between calls
    and writes only to what is lent, so calls on different buffers may run at the same time.
 
-   LISTS. A list is a pointer and its length, in words and not in bytes: uint16_t words, uint64_t figures, uint8_t mark bytes. Nodes are
-   numbered from 1. n, the number of nodes, is the length of `starts` less 1, but for wagonepoch_mesh, which is given n.
+   LISTS. A list is a pointer and its length in its elements: uint16_t words, uint64_t figures, uint8_t bytes. Nodes are numbered from 1. n, the
+   number of nodes, is the length of `starts` less 1, but for wagonepoch_mesh, which is given n, and wagonepoch_listing, whose file has it.
 
    WHAT A CALLER OWES. Each pointer is aligned and not null, also that of an empty list, and has as many elements as its length says; and no
    list that is lent, here without `const`, overlaps another list of the same call. Nothing else is asked: whatever numbers the lists hold, a
@@ -13,7 +13,7 @@
    GRAPHS. `starts` has n + 1 words, the first 0, and `neighbours` as many as the last start says: the neighbours of node p are the words
    neighbours[starts[p - 1]] to neighbours[starts[p] - 1]. They rise, never hold p, and hold q exactly if the row of q holds p.
 
-   ANSWERS. 0, or the number of the first test that refuses. Tests run in this order:
+   ANSWERS. 0, or the number of the first test that refuses. Tests run in this order, but for those of wagonepoch_listing:
 
      1   n is 0 or over 4,096, or `starts` is empty
      2   the first start is not 0, starts fall, or the last start is not the length of `neighbours` or is over 32,768
@@ -26,10 +26,11 @@
      9   unknown element kind, or a record runs past the end
      10  an element's node is 0, above n or repeated
      11  over 32,768 neighbour entries result
+     12  a file with a wrong mark or version, over 65,535 or under 9 bytes, or with bytes left over or missing
 
    WHAT IS LEFT. Where a call answers 0 its figures stand in the front of `figures`, its results in the front of their lists, and the scratch
    words that it asks for are 0. A longer list keeps its excess. A refusal leaves every lent list as it was, but for the first n scratch words,
-   which are 0 after 7, 8 and 11. Lent lists need not be cleared before a call. */
+   which are 0 after 7, 8 and 11; wagonepoch_listing also writes the line of its refusal. Lent lists need not be cleared before a call. */
 
 #ifndef WAGONEPOCH_H
 #define WAGONEPOCH_H
@@ -45,6 +46,10 @@ extern "C" {
 #define WAGONEPOCH_NODES 4096
 #define WAGONEPOCH_ENTRIES 32768
 
+/* The most words of a file after its header, and bytes that hold every listing of n nodes. */
+#define WAGONEPOCH_FILE_WORDS 32763
+#define WAGONEPOCH_OUTPUT_BYTES(n) (99 + 15 * (size_t)(n))
+
 /* How many figures each call writes. */
 #define WAGONEPOCH_ROOTED_FIGURES 3
 #define WAGONEPOCH_ENDS_FIGURES 6
@@ -55,6 +60,7 @@ extern "C" {
 #define WAGONEPOCH_ELIMINATE_FIGURES 2
 #define WAGONEPOCH_RUN_ELIMINATE_FIGURES 11
 #define WAGONEPOCH_MESH_FIGURES 1
+#define WAGONEPOCH_LISTING_FIGURES 1
 
 /* The direction of a part report. */
 #define WAGONEPOCH_FORWARD 0
@@ -171,6 +177,29 @@ uint16_t wagonepoch_mesh(size_t n,
                          uint16_t *neighbours, size_t neighbours_len,
                          uint16_t *scratch, size_t scratch_len,
                          uint64_t *figures, size_t figures_len);
+
+/* The listing of a mesh file, from its bytes to the text that the program prints. The file: the letters GRD, then words of two bytes, low byte
+   first: version 1, n, the count of elements, and the elements as wagonepoch_mesh has them.
+   Lent: words 32,763, starts n + 1, neighbours 32,768, scratch 8n, numbers n, levels n, output 99 + 15n bytes, figures 1.
+   Figures: bytes of the listing. They are the front of `output`: a line with the eight figures of wagonepoch_run and their names, then for each
+   node a line with its number, its new number and its level. A line ends with a line feed; no byte 0 follows.
+   An accepted file's graph is in `starts` and `neighbours`, of which starts[n] words are written, its new numbers in `numbers`, its levels in
+   `levels`, and `words` has the file's words after its header.
+   Refusals: 12 by the length, the mark or the version, then 1, then 5; then element by element 9, 12 where it runs past the file's end, 10; then 12
+   by bytes left over; then 11.
+   A refusal writes its line, as `refused 9` and a line feed, to the front of `output` if it has room there: 10 bytes where the number has one
+   digit, 11 where it has two. The line ends with the first line feed. An output with less room is untouched; that can only be with 12, 1 and 5,
+   and a short `figures` is 5 here too. `words` is working memory: once it is clear that the answer is not 1, not 5 and not 12 by the header, it
+   has the file's words after its header. 11 leaves the first n scratch words 0. A refusal leaves all else as it was. */
+uint16_t wagonepoch_listing(const uint8_t *file, size_t file_len,
+                            uint16_t *words, size_t words_len,
+                            uint16_t *starts, size_t starts_len,
+                            uint16_t *neighbours, size_t neighbours_len,
+                            uint16_t *scratch, size_t scratch_len,
+                            uint16_t *numbers, size_t numbers_len,
+                            uint16_t *levels, size_t levels_len,
+                            uint8_t *output, size_t output_len,
+                            uint64_t *figures, size_t figures_len);
 
 #ifdef __cplusplus
 }

@@ -4,6 +4,8 @@
 use Prim.Native.Nat.{ℕ}
 use mathlib.Core.Bool.{cond}
 use mathlib.Core.List.{List, [], _∷_, _++_}
+use lib.ListN.{length}
+use lib.Dec.{leb}
 use Rattle.basis.specs.Lists.{overwrite}
 use Rattle.spec.specs.Refusal.{_orElse_}
 use Rattle.spec.specs.Lent.{Outcome, accepted, refused, short}
@@ -12,6 +14,7 @@ use Rattle.spec.specs.Numbering.{Direction, Forward, Reversed, PartReport, Figu
 use Rattle.spec.specs.CallsLevels.{LevelFigures, CombinedFigures}
 use Rattle.spec.specs.CallsNumbering.{MeasureFigures}
 use Rattle.spec.specs.CallsStore.{EliminationFigures, RunElimination}
+use Rattle.spec.specs.File.{refusedLine}
 
 -- ---- the rule of every call
 
@@ -86,3 +89,13 @@ runEliminateList r = runList (r .figures) ++ eliminatedList (r .elimination)
 -- "the mesh call the entry count"
 abbrev pub meshList : ℕ → List ℕ
 meshList entries = entries ∷ []
+
+-- how many bytes the listing has
+abbrev pub listingList : ℕ → List ℕ
+listingList bytes = bytes ∷ []
+
+-- ---- the output of a listing that is refused by c
+
+-- the line of the refusal, where it has room
+unfoldable pub lineIn : ℕ → List ℕ → List ℕ
+lineIn c out = cond (leb (length (refusedLine c)) (length out)) (overwrite (refusedLine c) out) out

@@ -1,27 +1,26 @@
 -- What a listing answers and leaves: refused early, refused by its elements, and accepted. Assumes nothing.
 use mathlib.Core.Path.{_≡_, refl, sym, ap, _∙_}
-use mathlib.Core.Bool.{Bool, true, cond, _||_}
-use mathlib.Core.List.{List, _++_}
+use mathlib.Core.Bool.{true, cond, _||_}
+use mathlib.Core.List.{List}
 use Prim.Native.Nat.{ℕ, zero, suc, _+_, _*_, _≤_}
 use native.Mathlib.Omega.{arith}
 use lib.ListN.{length, drop}
 use lib.Seq.{drop-drop}
 use lib.Dec.{eqb, leb, eqb·suc-zero}
-use borrow.Author.Tests.{le-leb}
 use Rattle.basis.specs.Lists.{overwrite}
-use Rattle.spec.specs.Refusal.{refuse, _orElse_}
+use Rattle.spec.specs.Refusal.{_orElse_}
 use Rattle.spec.specs.Lent.{Outcome, refused, accepted, outcome, filled, zeroed, scratchAfter, wordsPerNode}
-use Rattle.spec.specs.Graph.{Graph, badSize}
 use Rattle.spec.specs.Mesh.{startList, neighbourList}
 use Rattle.spec.specs.Numbering.{run}
-use Rattle.spec.specs.File.{body, fileNodes, fileGraph, badHeader, headerRefusal, bodyRefusal, refusedLine, listing, output}
-use Rattle.spec.specs.CallsListing.{ListingBuffers, shortBuffers, earlyRefusal, listingRefusal, listingText, textFits, listingAnswer, listingBytes, listingOutput, listingWords, listingStarts, listingNeighbours, listingNumbers, listingLevels, listingScratch}
+use Rattle.spec.specs.File.{body, fileNodes, fileGraph, bodyRefusal, refusedLine, listing, output}
+use Rattle.spec.specs.CallsListing.{ListingBuffers, earlyRefusal, listingRefusal, listingText, textFits, listingAnswer, listingBytes, listingOutput, listingWords, listingStarts, listingNeighbours, listingNumbers, listingLevels, listingScratch}
 use Rattle.laws.proofs.Lent.{zeroed-behind}
 use Rattle.levels.proofs.Scratch.{zeroed-again}
-use Rattle.writing.proofs.Fits.{listing-fits}
-use Rattle.reading.proofs.Files.{header-good, or-not, refuse-not, outcome-kept, filled-kept, scratch-kept}
+use Rattle.reading.proofs.Early.{early-told}
+use Rattle.reading.proofs.Files.{outcome-kept, filled-kept, scratch-kept}
 use Rattle.listing.specs.Lent.{lent, Left}
-use Rattle.listing.proofs.Passed.{header, long, mesh-is-legal, size-is}
+use Rattle.listing.proofs.Passed.{long}
+use Rattle.listing.proofs.Room.{bytes-suffice}
 
 module _ (file : List ℕ) (b : ListingBuffers) where
   -- ---- refused: the line is written where it has room
@@ -59,14 +58,6 @@ module _ (file : List ℕ) (b : ListingBuffers) where
     kept new old = filled-kept c new old some ∙ ap (λ (r : ℕ). filled r new old) (sym e)
 
   -- 12, 1 or 5: all else is untouched
-
-  early-not : earlyRefusal file b ≡ 11 → ⊥
-  unfolding earlyRefusal headerRefusal
-  early-not =
-      or-not (refuse (badHeader file) 12 orElse refuse (badSize (fileNodes file)) 1) (refuse (shortBuffers (fileNodes file) b) 5)
-      (or-not (refuse (badHeader file) 12) (refuse (badSize (fileNodes file)) 1) (refuse-not (badHeader file) 12 (λ e. omega arith)) (refuse-not (badSize (fileNodes file)) 1 (λ e. omega arith)))
-      (refuse-not (shortBuffers (fileNodes file) b) 5 (λ e. omega arith))
-
   pub refused-early : {c z : ℕ} {a : Outcome ℕ} {O : List ℕ} → c ≡ earlyRefusal file b → (c ≡ 0 → ⊥) → Line c a z O
       → Left file b a z (lent (b .words) (b .starts) (b .neighbours) (b .scratch) (b .numbers) (b .levels) O)
   unfolding listingWords listingStarts listingNeighbours listingNumbers listingLevels listingScratch listingRefusal
@@ -79,7 +70,7 @@ module _ (file : List ℕ) (b : ListingBuffers) where
         words = filled-kept c (body file) (b .words) some ∙ ap (λ (x : ℕ). filled x (body file) (b .words)) e;
         starts = kept r some (startList (fileGraph file)) (b .starts);
         neighbours = kept r some (neighbourList (fileGraph file)) (b .neighbours);
-        scratch = scratch-kept c _ (b .scratch) some (λ q. early-not (sym e ∙ q))
+        scratch = scratch-kept c _ (b .scratch) some (λ q. early-told file b .other (sym e ∙ q))
             ∙ ap (λ (x : ℕ). scratchAfter (eqb x 0 || eqb x 11) (cond (eqb x 0) (wordsPerNode * fileNodes file) (fileNodes file)) (b .scratch)) (sym r);
         numbers = kept r some (run (fileGraph file) .numbers) (b .numbers);
         levels = kept r some (run (fileGraph file) .levels) (b .levels);
@@ -157,12 +148,7 @@ module _ (file : List ℕ) (b : ListingBuffers) where
         listed = ap (λ (r : ℕ). output r (fileGraph file)) all-passed
 
         fits : textFits file b ≡ true
-        unfolding textFits
-        fits =
-            let n = size-is file (header file b early) none in
-            let few = header-good file (header file b early) .1 in
-            le-leb (length (listingText file b)) (length (b .output))
-            (omega (arith, ap length listed, n, few, listing-fits (mesh-is-legal file (header file b early) none) (omega (arith, n, few)), long file b early .output))
+        fits = bytes-suffice file b (long file b early .output)
 
         cleared : zeroed (wordsPerNode * fileNodes file) C ≡ listingScratch file b
         unfolding listingScratch scratchAfter

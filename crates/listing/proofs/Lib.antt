@@ -1,3 +1,4 @@
 pub mod Leaves
 pub mod Passed
+pub mod Room
 pub mod Texts

@@ -7,10 +7,12 @@ use lib.Dec.{ltb}
 use native.Mathlib.Omega.{arith}
 use borrow.Author.Tests.{lt-ltb, le-ltb}
 use Rattle.spec.specs.CallsListing.{ListingBuffers, shortBuffers, earlyRefusal}
-use Rattle.spec.specs.File.{fileNodes, headerRefusal}
+use Rattle.spec.specs.File.{fileNodes, badHeader, headerRefusal}
+use Rattle.spec.specs.Graph.{badSize}
 use Rattle.spec.specs.Refusal.{refuse, _orElse_}
 use Rattle.reading.specs.Lent.{lengthsOf, listsShort, buffersShort}
 use Rattle.reading.specs.declared.answer.Lengths.{Lengths}
+use Rattle.reading.proofs.Files.{Told, told, or-else-has}
 
 -- ---- a product of which one side is known
 
@@ -59,6 +61,15 @@ module _ (file : List ℕ) (b : ListingBuffers) where
       ≡ headerRefusal file orElse refuse (listsShort (fileNodes file) (lengthsOf b) || buffersShort (fileNodes file) (lengthsOf b)) 5
   unfolding earlyRefusal
   early-is = ap (λ (s : Bool). headerRefusal file orElse refuse s 5) short-is
+
+  -- 12, 1 or 5, or none
+  pub early-told : Told (earlyRefusal file b)
+  unfolding earlyRefusal headerRefusal
+  early-told =
+      or-else-has Told (refuse (badHeader file) 12 orElse refuse (badSize (fileNodes file)) 1) (refuse (shortBuffers (fileNodes file) b) 5)
+      (or-else-has Told (refuse (badHeader file) 12) (refuse (badSize (fileNodes file)) 1)
+      (told (badHeader file) 12 (omega arith) (λ e. omega arith)) (told (badSize (fileNodes file)) 1 (omega arith) (λ e. omega arith)))
+      (told (shortBuffers (fileNodes file) b) 5 (omega arith) (λ e. omega arith))
 
   pub early-header : {c : ℕ} → c ≡ headerRefusal file → (c ≡ 0 → ⊥) → c ≡ earlyRefusal file b
   early-header {c} e h = go c h ∙ ap (λ (x : ℕ). x orElse refuse (listsShort (fileNodes file) (lengthsOf b) || buffersShort (fileNodes file) (lengthsOf b)) 5) e ∙ sym early-is

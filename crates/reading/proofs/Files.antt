@@ -81,45 +81,59 @@ module _ (bs : List ℕ) where
 
 -- ---- after the words: 11 or none
 
--- no word's refusal is 11
-pub or-not : (a b : ℕ) → (a ≡ 11 → ⊥) → (b ≡ 11 → ⊥) → (a orElse b) ≡ 11 → ⊥
-or-not zero b h l e = l e
-or-not (suc a) b h l e = h e
+-- a property that the number of each test has, and 0, is one of the refusal
+pub or-else-has : (P : ℕ → Type 0) (a b : ℕ) → P a → P b → P (a orElse b)
+or-else-has P zero b h l = l
+or-else-has P (suc a) b h l = h
 
-pub refuse-not : (t : Bool) (c : ℕ) → (c ≡ 11 → ⊥) → refuse t c ≡ 11 → ⊥
-refuse-not true c h e = h e
-refuse-not false c h e = omega arith
+pub refuse-has : (P : ℕ → Type 0) (t : Bool) (c : ℕ) → P c → P 0 → P (refuse t c)
+refuse-has P true c h l = h
+refuse-has P false c h l = l
 
-element-not : (n k : ℕ) (ws : List ℕ) → elementRefusal 12 n k ws ≡ 11 → ⊥
+-- one of the table's numbers, or 0, but not 11
+pub record Told (c : ℕ) : Type 0 where
+  pub most : c ≤ 12
+  pub other : c ≡ 11 → ⊥
+
+pub told : (t : Bool) (c : ℕ) → c ≤ 12 → (c ≡ 11 → ⊥) → Told (refuse t c)
+told t c h l = refuse-has Told t c (record { most = h; other = l }) (record { most = omega arith; other = λ e. omega arith })
+
+element-told : (n k : ℕ) (ws : List ℕ) → Told (elementRefusal 12 n k ws)
 unfolding elementRefusal
-element-not n k ws =
-    or-not (refuse (eqb (nodeCount k) 0) 9) (refuse (ltb (length ws) (nodeCount k)) 12 orElse refuse (badNodes n (take (nodeCount k) ws)) 10)
-    (refuse-not (eqb (nodeCount k) 0) 9 (λ e. omega arith))
-    (or-not (refuse (ltb (length ws) (nodeCount k)) 12) (refuse (badNodes n (take (nodeCount k) ws)) 10)
-    (refuse-not (ltb (length ws) (nodeCount k)) 12 (λ e. omega arith)) (refuse-not (badNodes n (take (nodeCount k) ws)) 10 (λ e. omega arith)))
+element-told n k ws =
+    or-else-has Told (refuse (eqb (nodeCount k) 0) 9) (refuse (ltb (length ws) (nodeCount k)) 12 orElse refuse (badNodes n (take (nodeCount k) ws)) 10)
+    (told (eqb (nodeCount k) 0) 9 (omega arith) (λ e. omega arith))
+    (or-else-has Told (refuse (ltb (length ws) (nodeCount k)) 12) (refuse (badNodes n (take (nodeCount k) ws)) 10)
+    (told (ltb (length ws) (nodeCount k)) 12 (omega arith) (λ e. omega arith)) (told (badNodes n (take (nodeCount k) ws)) 10 (omega arith) (λ e. omega arith)))
 
-counted-not : (c n : ℕ) (ws : List ℕ) → countedRefusal c n ws ≡ 11 → ⊥
+counted-told : (c n : ℕ) (ws : List ℕ) → Told (countedRefusal c n ws)
 unfolding countedRefusal
-counted-not zero n ws e = omega arith
-counted-not (suc c) n [] e = omega arith
-counted-not (suc c) n (k ∷ ws) e = or-not (elementRefusal 12 n k ws) (countedRefusal c n (drop (nodeCount k) ws)) (element-not n k ws) (counted-not c n (drop (nodeCount k) ws)) e
+counted-told zero n ws = record { most = omega arith; other = λ e. omega arith }
+counted-told (suc c) n [] = record { most = omega arith; other = λ e. omega arith }
+counted-told (suc c) n (k ∷ ws) =
+    or-else-has Told (elementRefusal 12 n k ws) (countedRefusal c n (drop (nodeCount k) ws)) (element-told n k ws) (counted-told c n (drop (nodeCount k) ws))
 
 module _ (bs : List ℕ) where
-  words-not : wordsRefusal bs ≡ 11 → ⊥
+  words-told : Told (wordsRefusal bs)
   unfolding wordsRefusal
-  words-not =
-      or-not (countedRefusal (fileElements bs) (fileNodes bs) (body bs)) (refuse (leftOver bs) 12) (counted-not (fileElements bs) (fileNodes bs) (body bs))
-      (refuse-not (leftOver bs) 12 (λ e. omega arith))
+  words-told =
+      or-else-has Told (countedRefusal (fileElements bs) (fileNodes bs) (body bs)) (refuse (leftOver bs) 12) (counted-told (fileElements bs) (fileNodes bs) (body bs))
+      (told (leftOver bs) 12 (omega arith) (λ e. omega arith))
 
   body-split : bodyRefusal bs ≡ wordsRefusal bs orElse refuse (refuses11 (fileGraph bs)) 11
   unfolding bodyRefusal wordsRefusal
   body-split = sym (in-order (countedRefusal (fileElements bs) (fileNodes bs) (body bs)) (refuse (leftOver bs) 12) (refuse (refuses11 (fileGraph bs)) 11))
 
+  -- the table ends with 12
+  pub body-refusal-most : bodyRefusal bs ≤ 12
+  body-refusal-most =
+      omega (arith, body-split, or-else-has (λ (c : ℕ). c ≤ 12) (wordsRefusal bs) (refuse (refuses11 (fileGraph bs)) 11) (words-told .most) (refuse-has (λ (c : ℕ). c ≤ 12) (refuses11 (fileGraph bs)) 11 (omega arith) (omega arith)))
+
   -- the words are refused, so the file is, by the same number
   pub words-refused : (r : ℕ) → refused r ≡ outcome (wordsRefusal bs) (length (body bs)) → (bodyRefusal bs ≡ r) × (1 ≤ r) × (r ≡ 11 → ⊥)
   words-refused r e =
       let w = outcome-refused (wordsRefusal bs) r (length (body bs)) (sym e) in
-      (body-split ∙ first (wordsRefusal bs) (omega (arith, w .0, w .1)) ∙ w .0, w .1, λ z. words-not (w .0 ∙ z))
+      (body-split ∙ first (wordsRefusal bs) (omega (arith, w .0, w .1)) ∙ w .0, w .1, λ z. words-told .other (w .0 ∙ z))
     where
       first : (c : ℕ) → 1 ≤ c → c orElse refuse (refuses11 (fileGraph bs)) 11 ≡ c
       first zero h = absurd (omega arith)

@@ -1,12 +1,12 @@
 -- `listing::listing` meets its contract: refused early, or what `list_mesh` leaves. Assumes nothing.
-use mathlib.Core.Path.{_≡_, refl, sym, _∙_}
+use mathlib.Core.Path.{refl, sym, _∙_}
 use mathlib.Core.List.{List}
 use Prim.Native.Nat.{ℕ}
 use denote.Ref.{now}
 use borrow.Author.Needs.{needs}
 use Rattle.spec.specs.CallsListing.{ListingBuffers}
 use Rattle.listing.specs.Lent.{lent}
-use Rattle.listing.proofs.Leaves.{Line, refused-early}
+use Rattle.listing.proofs.Leaves.{refused-early}
 use Rattle.listing.proofs.listing.Statement.{statement}
 use Rattle.listing.proofs.listing.Tie as tie
 

@@ -19,7 +19,7 @@ use Rattle.mesh.specs.Answer.{meaning}
 use Rattle.reading.proofs.Files.{header-good, body-most}
 use Rattle.listing.specs.Lent.{lent}
 use Rattle.listing.proofs.Passed.{header, long, few, starts-are, neighbours-are, lists-legal, lists-graph, lists-size}
-use Rattle.listing.proofs.Leaves.{Read, Line, Renumbered, refused-body, accepted-left}
+use Rattle.listing.proofs.Leaves.{Read, refused-body, accepted-left}
 use Rattle.listing.proofs.legal.list_mesh.Statement.{statement}
 use Rattle.listing.proofs.legal.list_mesh.Tie as tie
 

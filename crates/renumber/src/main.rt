@@ -1,0 +1,61 @@
+// Document 01's program: reads a file from standard input and prints its listing, or the line of a refusal.
+ghost use mathlib.Core.Path.{_≡_};
+ghost use lib.ListN.{take};
+ghost use Rattle.spec.specs.File.{programOutput};
+ghost use Rattle.io.specs.Counts.{Counts};
+use libc::STDIN_FILENO;
+use libc::STDOUT_FILENO;
+use listing::ListingAnswer;
+
+// The text of a file, at the front of the output, and its length. What is lent suffices for 4,096 nodes.
+fn text(
+    file: &[u8],
+    words: &mut [u16; 32763],
+    starts: &mut [u16; 4097],
+    neighbours: &mut [u16; 32768],
+    scratch: &mut [u16; 32768],
+    numbers: &mut [u16; 4096],
+    levels: &mut [u16; 4096],
+    output: &mut [u8; 61539],
+) -> usize
+    ensures { λ r. ⌜ Counts r (now (output .exit)) ⌝ }
+    ensures { λ r. ⌜ take r (now (output .exit)) ≡ programOutput (now (file .entry)) ⌝ }
+{
+    match listing::listing(
+        file,
+        words,
+        starts,
+        neighbours,
+        scratch,
+        numbers,
+        levels,
+        output,
+    ) {
+        ListingAnswer::Refused { number, bytes } => bytes,
+        ListingAnswer::Listed(bytes) => bytes,
+    }
+}
+
+// One byte more than a file may have is read, so that a longer file is seen to be too long.
+fn main() {
+    let mut file = [0u8; 65536];
+    let mut words = [0u16; 32763];
+    let mut starts = [0u16; 4097];
+    let mut neighbours = [0u16; 32768];
+    let mut scratch = [0u16; 32768];
+    let mut numbers = [0u16; 4096];
+    let mut levels = [0u16; 4096];
+    let mut output = [0u8; 61539];
+    let size = io::read_full(STDIN_FILENO, &mut file);
+    let bytes = text(
+        &file[..size],
+        &mut words,
+        &mut starts,
+        &mut neighbours,
+        &mut scratch,
+        &mut numbers,
+        &mut levels,
+        &mut output,
+    );
+    io::write_all(STDOUT_FILENO, &output[..bytes]);
+}
