@@ -2,7 +2,7 @@
 use mathlib.Core.Path.{_≡_, refl, sym, ap, _∙_, subst}
 use mathlib.Core.Logic.{⊎-elim}
 use mathlib.Core.Bool.{Bool, true, false, _&&_}
-use mathlib.Core.List.{List, map}
+use mathlib.Core.List.{List, [], map}
 use Prim.Native.Nat.{ℕ, zero, suc, _-_, _/_, _%_, _^_, _≤_, _<_}
 use native.Mathlib.Nat.{zero-div}
 use native.Mathlib.Omega.{arith}
@@ -20,14 +20,13 @@ use Rattle.laws.proofs.ByTest.{renumbered-legal}
 use Rattle.laws.proofs.Legal.{to-row, of-row}
 use Rattle.laws.proofs.Marks.{marks-at, marks-spare, bytes-are}
 use Rattle.laws.proofs.Numberings.{numbering-length, order-length, orderOf-perm}
-use Rattle.laws.proofs.Places.{first-nbr, start-next, place-split, placed-at, placed-has}
+use Rattle.laws.proofs.Places.{start-next, place-split, placed-at, placed-has}
 use Rattle.laws.proofs.Renumber.{number-node, order-node, number-of-node, row-there, row-back, renumbered-size}
 use Rattle.marks.specs.Marks.{marked}
-use Rattle.eliminate.specs.Walk.{pair, stored, parentIn, placeIn, withEdges, Reach, IsRow, Walk, Given, newGraph, rowAt, Done}
+use Rattle.eliminate.specs.Walk.{pair, stored, parentIn, placeIn, Reach, IsRow, Walk, Given, newGraph, rowAt, Done}
 use Rattle.eliminate.specs.declared.legal.Row.{Row}
-use Rattle.eliminate.proofs.Edges.{edges-walk}
-use Rattle.eliminate.proofs.Pass.{met-none, met-parents, met-all}
-use Rattle.eliminate.proofs.Walk.{stored-at, row-room, start-small}
+use Rattle.eliminate.proofs.Pass.{met-none, met-next, met-parents, met-all}
+use Rattle.eliminate.proofs.Walk.{stored-at, start-small}
 use Rattle.eliminate.proofs.Words.{word-set, word-other}
 
 -- ---- marks as bits
@@ -71,7 +70,7 @@ no-parent words (suc i) = rw (le-ltb (suc i) 1 (omega arith))
 -- ---- what the pass leaves
 
 -- where all rows are done the bytes are the mark bytes
-pub walk-bytes : {h : Graph} {o words bytes : List ℕ} {b : ℕ} → Walk h o words bytes b (h .size) (h .size) → ((i : ℕ) → getD bytes i 0 < 256)
+pub walk-bytes : {h : Graph} {o words bytes : List ℕ} {b : ℕ} → Walk h o words bytes b (h .size) [] → ((i : ℕ) → getD bytes i 0 < 256)
     → bytes ≡ markBytes h
 walk-bytes {h} {o} {words} {bytes} w small =
     bytes-are h bytes (w .room) small
@@ -131,14 +130,12 @@ module _ {S N x : List ℕ} (Γ : Given S N x) where
         let n = number-node (Γ .graph) x (Γ .numbering) a A in
         record { low = n .low; high = omega (arith, n .high, size); first = refl; start = start }
 
-    -- the neighbours of a have numbers, and those below its own have room
-    pub row-reach : (bytes : ℕ) → bytes ≡ markByteCount (newGraph S N x) → Reach (rowAt (newGraph S N x) (ofNode x a) s) bytes x (rowOf S N a)
+    -- the neighbours of a have numbers
+    pub row-reach : Reach x (rowOf S N a)
     unfolding adjoins
-    row-reach bytes e = record {
+    row-reach = record {
       some = λ b m. Γ .graph .inside a b m .low;
       most = λ b m. omega (arith, Γ .graph .inside a b m .high, numbering-length (sizeOf S) x (Γ .numbering));
-      room = λ b m l. row-room row-is few bytes e (ofNode x b)
-          (record { low = first-nbr (newGraph S N x) (ofNode x b) (ofNode x a) (row-back (Γ .graph) x (Γ .numbering) a b m); less = l });
     }
 
     -- its edges are those of its number
@@ -152,11 +149,21 @@ module _ {S N x : List ℕ} (Γ : Given S N x) where
         let w = row-there (Γ .graph) x (Γ .numbering) a p A e in
         subst (λ (z : ℕ). memb z (map (ofNode x) (rowOf S N a)) ≡ true) (sym (w .2)) (memb-map (ofNode x) (rowOf S N a) (w .0) (to-row (graphOf S N) a (w .0) (w .1)))
 
-    -- once they are marked the pass may go along the row
+    -- the pass comes to the row: they are due
     pub row-open : {words bytes : List ℕ} {q : ℕ} → Done S N x words bytes q → ofNode x a ≡ suc q
-        → Walk (newGraph S N x) (orderOf x) words (withEdges (rowAt (newGraph S N x) (ofNode x a) s) bytes (map (ofNode x) (rowOf S N a)))
-        (ofNode x a) (ofNode x a) (firstIn (newGraph S N x) (ofNode x a))
-    row-open w e = edges-walk legal row-is w e (map (ofNode x) (rowOf S N a)) row-all row-each
+        → Walk (newGraph S N x) (orderOf x) words bytes (ofNode x a) (ofNode x a) (map (ofNode x) (rowOf S N a))
+    row-open {words} {bytes} {q} w e =
+        subst (λ (k : ℕ). Walk (newGraph S N x) (orderOf x) words bytes k k (map (ofNode x) (rowOf S N a))) (sym e) (record {
+          legal = w .legal;
+          few = w .few;
+          size = w .size;
+          room = w .room;
+          spare = w .spare;
+          ahead = w .ahead;
+          met = met-next legal (w .met) (map (ofNode x) (rowOf S N a))
+              (λ i m. row-each i (subst (λ (k : ℕ). adjoins (newGraph S N x) k i ≡ true) (sym e) (legal .both i (suc q) m)))
+              (λ i m. legal .both (suc q) i (subst (λ (k : ℕ). adjoins (newGraph S N x) k i ≡ true) e (row-all i m)));
+        })
 
   -- the word behind the rows done holds the next node
   module _ {words bytes : List ℕ} {q : ℕ} (w : Done S N x words bytes q) (l : q < sizeOf S) where
@@ -193,9 +200,11 @@ module _ {S N x : List ℕ} (Γ : Given S N x) where
       pub opened-row : IsRow (newGraph S N x) row
       opened-row = rw er (row-is a node s start-of)
 
-      pub opened-walk : {bytes′ : List ℕ} → bytes′ ≡ withEdges row bytes (map (ofNode x) (rowOf S N a))
-          → Walk (newGraph S N x) (orderOf x) words bytes′ (row .q) (row .q) (row .first)
-      opened-walk e = rw (e, er) (row-open a node s start-of w number)
+      pub opened-walk : Walk (newGraph S N x) (orderOf x) words bytes (row .q) (row .q) (map (ofNode x) (rowOf S N a))
+      opened-walk = rw er (row-open a node s start-of w number)
+
+      pub opened-reach : Reach x (rowOf S N a)
+      opened-reach = row-reach a node s start-of
 
       -- the next row starts where the place of the pair q, q would be
       pub next-start : placeIn row (row .q) ≡ startOf (newGraph S N x) (suc (suc q))
@@ -237,7 +246,7 @@ module _ (words : List ℕ) (q : ℕ) (l : q < length words) where
       (λ t. let m = ltb-false i (suc q) t in rw (t, le-ltb i (suc (suc q)) (omega arith))))
 
   -- so the pass may go on to the next row
-  pub row-shut : {h : Graph} {o bytes : List ℕ} → Walk h o words bytes (suc q) (suc q) (suc q) → Walk h o (set words q 0) bytes (suc (suc q)) (suc q) (suc q)
+  pub row-shut : {h : Graph} {o bytes : List ℕ} → Walk h o words bytes (suc q) (suc q) [] → Walk h o (set words q 0) bytes (suc (suc q)) (suc q) []
   row-shut w = record {
     legal = w .legal;
     few = w .few;
@@ -248,10 +257,10 @@ module _ (words : List ℕ) (q : ℕ) (l : q < length words) where
     met = met-parents (w .legal) (w .met) parents-kept;
   }
 
-pub row-closed : {h : Graph} {o words bytes : List ℕ} {row : Row} {q : ℕ} → IsRow h row → row .q ≡ suc q → Walk h o words bytes (row .q) (row .q) (row .q)
-    → Walk h o (set words q 0) bytes (suc (suc q)) (suc q) (suc q)
+pub row-closed : {h : Graph} {o words bytes : List ℕ} {row : Row} {q : ℕ} → IsRow h row → row .q ≡ suc q → Walk h o words bytes (row .q) (row .q) []
+    → Walk h o (set words q 0) bytes (suc (suc q)) (suc q) []
 row-closed {h} {o} {words} {bytes} {row} {q} R e w =
-    row-shut words q (omega (arith, e, R .high, w .size)) (subst (λ (k : ℕ). Walk h o words bytes k k k) e w)
+    row-shut words q (omega (arith, e, R .high, w .size)) (subst (λ (k : ℕ). Walk h o words bytes k k []) e w)
 
 -- the first row starts at place 0
 pub start-none : (h : Graph) → startOf h 1 ≡ 0
@@ -267,4 +276,4 @@ module _ {S N x words bytes : List ℕ} (Γ : Given S N x) where
   pub rows-bytes : Done S N x words bytes (sizeOf S) → ((i : ℕ) → getD bytes i 0 < 256) → bytes ≡ markBytes (newGraph S N x)
   rows-bytes w small =
       walk-bytes
-      (subst (λ (k : ℕ). Walk (newGraph S N x) (orderOf x) words bytes (suc (sizeOf S)) k k) (sym (renumbered-size (Γ .graph) x (Γ .numbering))) w) small
+      (subst (λ (k : ℕ). Walk (newGraph S N x) (orderOf x) words bytes (suc (sizeOf S)) k []) (sym (renumbered-size (Γ .graph) x (Γ .numbering))) w) small

@@ -1,19 +1,20 @@
--- A turn of the pass on the lent words and bytes keeps what holds of them. Assumes nothing.
+-- A step of the pass on the lent words and bytes keeps what holds of them. Assumes nothing.
 use mathlib.Core.Path.{_≡_, refl, sym, ap, ap₂, _∙_}
 use mathlib.Core.Logic.{_⊎_, inl, inr, ⊎-elim}
 use mathlib.Core.Bool.{true, false}
-use mathlib.Core.List.{List}
+use mathlib.Core.List.{List, [], _∷_, map}
 use Prim.Native.Nat.{ℕ, zero, suc, _+_, _-_, _*_, _/_, _≤_, _<_}
 use native.Mathlib.Nat.{pos-of-ne-zero}
 use native.Mathlib.Omega.{arith}
 use lib.Dec.{eqb}
-use lib.ListN.{length, getD, set, length-set}
+use lib.ListN.{length, getD, set, drop, length-set}
+use lib.Seq.{drop-cons, drop-length}
 use borrow.Author.Tests.{eqb-true, eq-eqb, lt-ltb}
 use Rattle.basis.proofs.Index.{least-is}
 use Rattle.basis.proofs.Logic.{and-split, or-split, or-left, or-right}
-use Rattle.spec.specs.Graph.{Graph, adjoins}
+use Rattle.spec.specs.Graph.{Graph, adjoins, ofNode}
 use Rattle.spec.specs.Measures.{firstIn, rowSpan, profile}
-use Rattle.spec.specs.Store.{startOf, hasPlace, place, markByteCount}
+use Rattle.spec.specs.Store.{startOf, hasPlace, place, markByteCount, markAt}
 use Rattle.laws.specs.Legal.{LegalGraph}
 use Rattle.laws.proofs.Legal.{ofNode-at}
 use Rattle.laws.proofs.Marks.{profile-fits}
@@ -21,8 +22,9 @@ use Rattle.laws.proofs.Places.{first-le, start-next, start-profile, place-make,
 use Rattle.marks.specs.Marks.{marked, withMark}
 use Rattle.marks.proofs.Marks.{mark-length, mark-other, mark-set}
 use Rattle.eliminate.specs.Walk.{pair, stored, parentIn, placeIn, Room, IsRow, Walk, InRow}
+use Rattle.eliminate.specs.Pass.{Met}
 use Rattle.eliminate.specs.declared.legal.Row.{Row}
-use Rattle.eliminate.proofs.Pass.{met-skip, met-adopt, met-join, met-below}
+use Rattle.eliminate.proofs.Pass.{Added, met-drop, met-idle, met-low, met-adopt, met-above, met-below, met-climb}
 use Rattle.eliminate.proofs.Words.{word-set, word-other}
 
 -- ---- sizes
@@ -58,21 +60,18 @@ module _ (h : Graph) (bytes : List ℕ) where
 
 -- a mark set at the place of a pair is one pair more
 module _ (h : Graph) (bytes : List ℕ) (r q : ℕ) (has : hasPlace h (pair r q) ≡ true) (fits : place h (pair r q) / 8 < length bytes) where
-  after : List ℕ
-  after = withMark bytes (place h (pair r q))
-
-  pub stored-new : stored h (withMark bytes (place h (pair r q))) r q ≡ true
+  stored-new : stored h (withMark bytes (place h (pair r q))) r q ≡ true
   stored-new =
       stored-make h (withMark bytes (place h (pair r q))) r q has
       (mark-set bytes (place h (pair r q)) fits (place h (pair r q)) ∙ or-left _ (eq-eqb (place h (pair r q)) _ refl))
 
-  pub stored-grow : (x y : ℕ) → stored h bytes x y ≡ true → stored h (withMark bytes (place h (pair r q))) x y ≡ true
+  stored-grow : (x y : ℕ) → stored h bytes x y ≡ true → stored h (withMark bytes (place h (pair r q))) x y ≡ true
   stored-grow x y e =
       let s = stored-split h bytes x y e in
       stored-make h (withMark bytes (place h (pair r q))) x y (s .0)
       (mark-set bytes (place h (pair r q)) fits (place h (pair x y)) ∙ or-right (eqb (place h (pair x y)) (place h (pair r q))) (s .1))
 
-  pub stored-only : (x y : ℕ) → stored h (withMark bytes (place h (pair r q))) x y ≡ true → (stored h bytes x y ≡ true) ⊎ ((x ≡ r) × (y ≡ q))
+  stored-only : (x y : ℕ) → stored h (withMark bytes (place h (pair r q))) x y ≡ true → (stored h bytes x y ≡ true) ⊎ ((x ≡ r) × (y ≡ q))
   stored-only x y e =
       let s = stored-split h (withMark bytes (place h (pair r q))) x y e in
       ⊎-elim
@@ -82,7 +81,10 @@ module _ (h : Graph) (bytes : List ℕ) (r q : ℕ) (has : hasPlace h (pair r q)
       (λ (z : marked bytes (place h (pair x y)) ≡ true). inl (stored-make h bytes x y (s .0) z))
       (or-split (eqb (place h (pair x y)) (place h (pair r q))) _ (sym (mark-set bytes (place h (pair r q)) fits (place h (pair x y))) ∙ s .1))
 
--- ---- one turn
+  stored-added : Added (stored h bytes) (stored h (withMark bytes (place h (pair r q)))) r q
+  stored-added = record { new = stored-new; grow = stored-grow; only = stored-only }
+
+-- ---- one step
 
 module _ {h : Graph} {row : Row} (R : IsRow h row) where
   -- the place that the code computes
@@ -103,92 +105,107 @@ module _ {h : Graph} {row : Row} (R : IsRow h row) where
         fits = omega (arith, profile-fits h);
       }
 
-module _ {h : Graph} {o words bytes : List ℕ} {row : Row} {p : ℕ} (R : IsRow h row) (w : Walk h o words bytes (row .q) (row .q) p) where
-  pub room : (x : ℕ) → InRow row x → Room row (length bytes) x
-  room x I = row-room R (w .few) (length bytes) (w .room) x I
+-- other numbers are due
+walk-due : {h : Graph} {o words bytes due due′ : List ℕ} {b q : ℕ} → Walk h o words bytes b q due → Met h (stored h bytes) (parentIn b words) q due′
+    → Walk h o words bytes b q due′
+walk-due w v = record {
+  legal = w .legal;
+  few = w .few;
+  size = w .size;
+  room = w .room;
+  spare = w .spare;
+  ahead = w .ahead;
+  met = v;
+}
 
+-- p is due
+module _ {h : Graph} {o words bytes due : List ℕ} {row : Row} {p : ℕ} (R : IsRow h row) (w : Walk h o words bytes (row .q) (row .q) (p ∷ due)) where
   -- q is a number of 16 bits
   pub number-fits : row .q ≤ 4096
   number-fits = omega (arith, R .high, w .few)
 
-  module _ (I : InRow row p) where
+  -- where p is not lower it need not be due
+  pub climbed : row .q ≤ p → Walk h o words bytes (row .q) (row .q) due
+  climbed g = walk-due w (met-drop (w .legal) p (w .met) (λ l. absurd (omega arith)))
+
+  module _ (less : p < row .q) where
+    inside : InRow row p
+    inside = record { low = omega (arith, R .first, met-low (w .legal) (w .met) less); less = less }
+
+    pub room : Room row (length bytes) p
+    room = row-room R (w .few) (length bytes) (w .room) p inside
+
     pub low : 1 ≤ p
-    low = omega (arith, first-low (w .legal) (row .q) (R .low), R .first, I .low)
+    low = omega (arith, first-low (w .legal) (row .q) (R .low), R .first, inside .low)
 
     pub index : p - 1 < length words
-    index = omega (arith, w .size, I .less, R .high, low)
+    index = omega (arith, w .size, R .high, low)
 
     here : stored h bytes p (row .q) ≡ marked bytes (placeIn row p)
-    here = stored-at h bytes p (row .q) (I .less) (omega (arith, R .first, I .low)) ∙ ap (marked bytes) (sym (place-in R p))
+    here = stored-at h bytes p (row .q) less (omega (arith, R .first, inside .low)) ∙ ap (marked bytes) (sym (place-in R p))
 
     parent-at : parentIn (row .q) words p ≡ getD words (p - 1) 0
     unfolding parentIn
-    parent-at = rw (lt-ltb p (row .q) (I .less)) (ofNode-at words p low)
+    parent-at = rw (lt-ltb p (row .q) less) (ofNode-at words p low)
 
-    pub turned-skip : marked bytes (placeIn row p) ≡ false → Walk h o words bytes (row .q) (row .q) (suc p)
-    turned-skip e = record {
-      legal = w .legal;
-      few = w .few;
-      size = w .size;
-      room = w .room;
-      spare = w .spare;
-      ahead = w .ahead;
-      met = met-skip (w .legal) (w .met) (here ∙ e);
-    }
+    -- p was joined before
+    pub risen-joined : marked bytes (placeIn row p) ≡ true → Walk h o words bytes (row .q) (row .q) (row .q ∷ due)
+    risen-joined e = walk-due w (met-idle (w .legal) (row .q) (omega arith) (met-drop (w .legal) p (w .met) (λ l. here ∙ e)))
 
-    module _ (e : marked bytes (placeIn row p) ≡ true) where
-      pub turned-adopt : getD words (p - 1) 0 ≡ 0 → Walk h o (set words (p - 1) (row .q)) bytes (row .q) (row .q) (suc p)
+    module _ (e : marked bytes (placeIn row p) ≡ false) where
+      has : hasPlace h (pair p (row .q)) ≡ true
+      has = row-has R p inside
+
+      fits : place h (pair p (row .q)) / 8 < length bytes
+      fits = rw (place-in R p) at (room .fits)
+
+      spare-after : (t : ℕ) → profile h ≤ t → markAt (withMark bytes (place h (pair p (row .q)))) t ≡ 0
+      spare-after t l =
+          mark-other bytes (place h (pair p (row .q))) fits t (omega (arith, place-below h (pair p (row .q)) has (R .high))) ∙ w .spare t l
+
+      -- p has no parent
+      pub risen-adopt : getD words (p - 1) 0 ≡ 0
+          → Walk h o (set words (p - 1) (row .q)) (withMark bytes (placeIn row p)) (row .q) (row .q) (row .q ∷ due)
       unfolding parentIn
-      turned-adopt z = record {
+      risen-adopt z = rw (place-in R p) (record {
         legal = w .legal;
         few = w .few;
         size = simp length-set (w .size);
-        room = w .room;
-        spare = w .spare;
-        ahead = λ j l. word-other words p (row .q) low j (omega (arith, I .less)) ∙ w .ahead j l;
-        met = met-adopt (w .legal) (w .met) low (I .less) (here ∙ e) (parent-at ∙ z) (parentIn (row .q) (set words (p - 1) (row .q)))
-            (rw (lt-ltb p (row .q) (I .less)) (word-set words p (row .q) low (omega (arith, index))))
-            (λ i d. rw (word-other words p (row .q) low i d));
-      }
-
-      parent-some : (getD words (p - 1) 0 ≡ 0 → ⊥) → 1 ≤ parentIn (row .q) words p
-      parent-some z = omega (arith, parent-at, pos-of-ne-zero z)
-
-      -- the parent of p is a number of the row
-      pub parent-in : (getD words (p - 1) 0 ≡ 0 → ⊥) → InRow row (getD words (p - 1) 0)
-      parent-in z =
-          let a = parent-some z in
-          record {
-            low = omega (arith, parent-at, w .met .parent p a .0, I .low);
-            less = omega (arith, parent-at, met-below (w .legal) (w .met) a);
-          }
-
-      pub turned-join : (getD words (p - 1) 0 ≡ 0 → ⊥) → Walk h o words (withMark bytes (placeIn row (getD words (p - 1) 0))) (row .q) (row .q) (suc p)
-      turned-join z = rw (place-in R r) (record {
-        legal = w .legal;
-        few = w .few;
-        size = w .size;
-        room = mark-length bytes (place h (pair r (row .q))) ∙ w .room;
-        spare = λ t l. mark-other bytes (place h (pair r (row .q))) fits t (omega (arith, below)) ∙ w .spare t l;
-        ahead = w .ahead;
-        met = met-join (w .legal) (w .met) low (I .less) (here ∙ e) r parent-at (pos-of-ne-zero z) (stored h (withMark bytes (place h (pair r (row .q)))))
-            (stored-new h bytes r (row .q) has fits) (stored-grow h bytes r (row .q) has fits) (stored-only h bytes r (row .q) has fits);
+        room = mark-length bytes (place h (pair p (row .q))) ∙ w .room;
+        spare = spare-after;
+        ahead = λ j l. word-other words p (row .q) low j (omega arith) ∙ w .ahead j l;
+        met = met-idle (w .legal) (row .q) (omega arith)
+            (met-adopt (w .legal) (w .met) less _ (stored-added h bytes p (row .q) has fits) (parent-at ∙ z) (parentIn (row .q) (set words (p - 1) (row .q)))
+            (rw (lt-ltb p (row .q) less) (word-set words p (row .q) low (omega (arith, index))))
+            (λ i d. rw (word-other words p (row .q) low i d)));
       })
-        where
-          r : ℕ
-          r = getD words (p - 1) 0
 
-          I′ : InRow row r
-          I′ = parent-in z
+      -- p has a parent
+      module _ (z : getD words (p - 1) 0 ≡ 0 → ⊥) where
+        pub parent-above : p < getD words (p - 1) 0
+        parent-above = met-above (w .legal) (w .met) less (here ∙ e) (getD words (p - 1) 0) parent-at (pos-of-ne-zero z)
 
-          has : hasPlace h (pair r (row .q)) ≡ true
-          has = row-has R r I′
+        pub parent-below : getD words (p - 1) 0 < row .q
+        parent-below = met-below (w .legal) (w .met) less (here ∙ e) (getD words (p - 1) 0) parent-at (pos-of-ne-zero z)
 
-          below : place h (pair r (row .q)) < profile h
-          below = place-below h (pair r (row .q)) has (R .high)
+        pub risen-climb : Walk h o words (withMark bytes (placeIn row p)) (row .q) (row .q) (getD words (p - 1) 0 ∷ due)
+        risen-climb = rw (place-in R p) (record {
+          legal = w .legal;
+          few = w .few;
+          size = w .size;
+          room = mark-length bytes (place h (pair p (row .q))) ∙ w .room;
+          spare = spare-after;
+          ahead = w .ahead;
+          met = met-climb (w .legal) (w .met) less _ (stored-added h bytes p (row .q) has fits) low (here ∙ e) (getD words (p - 1) 0) parent-at (pos-of-ne-zero z);
+        })
 
-          fits : place h (pair r (row .q)) / 8 < length bytes
-          fits = rw (place-in R r) at (room r I′ .fits)
+-- the neighbours from the i-th on are due: one more is done, or none is left
+module _ (x l : List ℕ) (i : ℕ) where
+  pub due-next : i < length l → map (ofNode x) (drop i l) ≡ ofNode x (getD l i 0) ∷ map (ofNode x) (drop (suc i) l)
+  due-next h = ap (map (ofNode x)) (drop-cons l i 0 h)
+
+  pub due-none : i ≡ length l → map (ofNode x) (drop i l) ≡ []
+  due-none e = rw (e, drop-length l)
 
 -- f_q is at most q
 pub first-high : {h : Graph} {row : Row} → IsRow h row → row .first ≤ row .q

@@ -1,14 +1,14 @@
 // Functions on a legal adjacency and numbering: their callers have tested them, and the room.
 ghost use mathlib.Core.Path.{_≡_};
-ghost use mathlib.Core.List.{List, map};
+ghost use mathlib.Core.List.{List, _∷_, map};
 ghost use Prim.Native.Nat.{ℕ, suc, _≤_, _<_};
 ghost use lib.ListN.{length, replicate};
-ghost use Rattle.spec.specs.Graph.{Graph, ofNode, sizeOf, rowOf, graphOf};
+ghost use Rattle.spec.specs.Graph.{Graph, ofNode, sizeOf, graphOf};
 ghost use Rattle.spec.specs.Measures.{orderOf};
 ghost use Rattle.spec.specs.Store.{startOf, markByteCount, markBytes};
 ghost use Rattle.laws.specs.Legal.{Node};
 ghost use Rattle.marks.specs.Marks.{marked, withMark};
-ghost use Rattle.eliminate.specs.Walk.{placeIn, Room, IsRow, InRow, Walk, withLower, withEdges, Reach, Turned, Swept, Given, newGraph, rowAt, Done};
+ghost use Rattle.eliminate.specs.Walk.{placeIn, Room, IsRow, Walk, Risen, Climbed, Joined, Reach, Given, newGraph, rowAt, Done};
 use envelope::legal::first;
 use envelope::legal::number;
 use words::wide;
@@ -44,86 +44,63 @@ fn join(bytes: &mut [u8], row: Row, p: usize)
     marks::legal::set(bytes, place(row, p));
 }
 
-// Marks the pair p, q where p is the lower of the two.
-fn join_lower(bytes: &mut [u8], row: Row, p: usize)
-    requires { ⌜ (p < row .q → Room row (length (now bytes)) p) ⌝ }
-    ensures { λ _. ⌜ now (bytes .exit) ≡ withLower row (now (bytes .entry)) p ⌝ }
+// Joins p < q to q: the pair is marked, and q becomes the parent of p where it has none. Returns what is to be joined to q next: the parent of p, or q,
+// for nothing, where the pair was marked before or p had no parent.
+fn rise(scratch: &mut [u16], bytes: &mut [u8], row: Row, p: usize) -> usize
+    requires { ⌜ ((h : Graph) × (o : List ℕ) × (due : List ℕ) × IsRow h row × Walk h o (now scratch) (now bytes) (row .q) (row .q) (p ∷ due)) × (p < row .q) ⌝ }
+    ensures { λ r. ⌜ (p < r) × (r ≤ row .q) × Risen row p r (now (scratch .entry)) (now (bytes .entry)) (now (scratch .exit)) (now (bytes .exit)) ⌝ }
 {
-    if p < row.q {
-        join(bytes, row, p);
+    if joined(bytes, row, p) {
+        return row.q;
+    }
+    join(bytes, row, p);
+    let at = p - 1;
+    let parent = wide(scratch[at]);
+    if parent == 0 {
+        scratch[at] = row.q as u16;
+        return row.q;
+    }
+    parent
+}
+
+// Joins to q, where it is lower, the number `from`, its parent, the parent of that, and so on up to what is joined already.
+fn climb(scratch: &mut [u16], bytes: &mut [u8], row: Row, from: usize)
+    requires { ⌜ ((h : Graph) × (o : List ℕ) × (due : List ℕ) × IsRow h row × Walk h o (now scratch) (now bytes) (row .q) (row .q) (from ∷ due)) ⌝ }
+    ensures { λ _. ⌜ Climbed row from (now (scratch .entry)) (now (bytes .entry)) (now (scratch .exit)) (now (bytes .exit)) ⌝ }
+{
+    let mut p = from;
+    while p < row.q {
+        p = rise(scratch, bytes, row, p);
     }
 }
 
-// Marks the edges of q to lower numbers; `adjacent` are the neighbours of the node that has the number q.
-fn join_edges(adjacent: &[u16], numbering: &[u16], bytes: &mut [u8], row: Row)
-    requires { ⌜ Reach row (length (now bytes)) (now numbering) (now adjacent) ⌝ }
-    ensures { λ _. ⌜ now (bytes .exit) ≡ withEdges row (now (bytes .entry)) (map (ofNode (now (numbering .entry))) (now (adjacent .entry))) ⌝ }
+// Joins to q all of its lower neighbours; `adjacent` are the neighbours of the node that has the number q.
+fn join_edges(adjacent: &[u16], numbering: &[u16], scratch: &mut [u16], bytes: &mut [u8], row: Row)
+    requires { ⌜ Reach (now numbering) (now adjacent)
+        × ((h : Graph) × (o : List ℕ) × IsRow h row × Walk h o (now scratch) (now bytes) (row .q) (row .q) (map (ofNode (now numbering)) (now adjacent))) ⌝ }
+    ensures { λ _. ⌜ Joined row (map (ofNode (now (numbering .entry))) (now (adjacent .entry))) (now (scratch .entry)) (now (bytes .entry)) (now (scratch .exit)) (now (bytes .exit)) ⌝ }
 {
     let mut i = 0;
     while i < adjacent.len() {
         let b = wide(adjacent[i]);
-        join_lower(bytes, row, number(numbering, b));
+        climb(scratch, bytes, row, number(numbering, b));
         i += 1;
     }
 }
 
-// The turn of the pair p < q: where it is marked and p has no parent, that is q; where p has one, that is joined to q.
-fn turn(scratch: &mut [u16], bytes: &mut [u8], row: Row, p: usize)
-    requires { ⌜ ((h : Graph) × (o : List ℕ) × IsRow h row × Walk h o (now scratch) (now bytes) (row .q) (row .q) p × InRow row p) ⌝ }
-    ensures { λ _. ⌜ (InRow row p → Turned row p (now (scratch .entry)) (now (bytes .entry)) (now (scratch .exit)) (now (bytes .exit))) ⌝ }
-{
-    if joined(bytes, row, p) {
-        let at = p - 1;
-        let parent = wide(scratch[at]);
-        if parent == 0 {
-            scratch[at] = row.q as u16;
-        } else {
-            join(bytes, row, parent);
-        }
-    }
-}
-
-// The turns of all pairs of the row.
-fn sweep(scratch: &mut [u16], bytes: &mut [u8], row: Row)
-    requires { ⌜ ((h : Graph) × (o : List ℕ) × IsRow h row × Walk h o (now scratch) (now bytes) (row .q) (row .q) (row .first)) ⌝ }
-    ensures { λ _. ⌜ Swept row (now (scratch .entry)) (now (bytes .entry)) (now (scratch .exit)) (now (bytes .exit)) ⌝ }
-{
-    let mut p = row.first;
-    while p < row.q {
-        turn(scratch, bytes, row, p);
-        p += 1;
-    }
-}
-
-// The row of a node's number, with its edges marked.
-fn open_row(
-    starts: &[u16],
-    neighbours: &[u16],
-    numbering: &[u16],
-    bytes: &mut [u8],
-    node: usize,
-    start: u32,
-) -> Row
-    requires { ⌜ Given (now starts) (now neighbours) (now numbering)
-        × Node (graphOf (now starts) (now neighbours)) node
-        × (start ≡ startOf (newGraph (now starts) (now neighbours) (now numbering)) (ofNode (now numbering) node))
-        × (length (now bytes) ≡ markByteCount (newGraph (now starts) (now neighbours) (now numbering))) ⌝ }
+// The row of a node's number.
+fn row_of(starts: &[u16], neighbours: &[u16], numbering: &[u16], node: usize, start: u32) -> Row
+    requires { ⌜ Given (now starts) (now neighbours) (now numbering) × Node (graphOf (now starts) (now neighbours)) node ⌝ }
     ensures { λ r. ⌜ r ≡ rowAt (newGraph (now (starts .entry)) (now (neighbours .entry)) (now (numbering .entry))) (ofNode (now (numbering .entry)) node) start ⌝ }
-    ensures { λ r. ⌜ now (bytes .exit) ≡ withEdges r (now (bytes .entry)) (map (ofNode (now (numbering .entry))) (rowOf (now (starts .entry)) (now (neighbours .entry)) node)) ⌝ }
 {
-    let q = number(numbering, node);
-    let f = first(starts, neighbours, numbering, node);
-    let row = Row {
-        q: q,
-        first: f,
+    Row {
+        q: number(numbering, node),
+        first: first(starts, neighbours, numbering, node),
         start: start,
-    };
-    let adjacent = graph::legal::row(starts, neighbours, node);
-    join_edges(adjacent, numbering, bytes, row);
-    row
+    }
 }
 
-// Row q = done + 1: its edges are marked and the turns of its pairs made. Returns where the next row starts.
+// Row q = done + 1: the lower neighbours of q are joined to it, and what they bring. Returns where the next row starts.
 fn eliminate_row(
     starts: &[u16],
     neighbours: &[u16],
@@ -141,8 +118,9 @@ fn eliminate_row(
     ensures { λ _. ⌜ Done (now (starts .entry)) (now (neighbours .entry)) (now (numbering .entry)) (now (scratch .exit)) (now (bytes .exit)) (suc done) ⌝ }
 {
     let node = wide(scratch[done]);
-    let row = open_row(starts, neighbours, numbering, bytes, node, start);
-    sweep(scratch, bytes, row);
+    let row = row_of(starts, neighbours, numbering, node, start);
+    let adjacent = graph::legal::row(starts, neighbours, node);
+    join_edges(adjacent, numbering, scratch, bytes, row);
     scratch[done] = 0;
     place(row, row.q)
 }

@@ -1,0 +1,69 @@
+-- `eliminate::legal::rise` meets its contract: a law for each of the three ways. Assumes nothing.
+use mathlib.Core.Path.{_≡_, sym, _∙_}
+use Prim.Native.Nat.{_-_}
+use native.Mathlib.Omega.{arith}
+use borrow.Author.Needs.{needs}
+use lib.ListN.{getD}
+use Rattle.eliminate.proofs.Walk.{room, number-fits, low, index, risen-joined, risen-adopt, parent-above, parent-below, risen-climb}
+use Rattle.eliminate.proofs.legal.rise.Statement.{statement}
+use Rattle.eliminate.proofs.legal.rise.Tie as tie
+
+joined-requires : tie.Need-joined-requires
+joined-requires c κs = let k = c .before .before .before .pre in room (k .0 .3) (k .0 .4) (k .1)
+
+returns : tie.Need-returns
+returns c =
+    let k = c .before .before .before .before .before .pre in
+    (k .1, omega arith, λ h o due R w. risen-joined R w (k .1) (sym (c .before .joined .ensures) ∙ c .if1 .taken))
+
+join-requires : tie.Need-join-requires
+join-requires c κs = let k = c .before .before .before .before .before .before .pre in room (k .0 .3) (k .0 .4) (k .1)
+
+sub-at : tie.Need-sub-at
+sub-at c = let k = c .before .before .before .before .before .before .before .before .before .pre in low (k .0 .3) (k .0 .4) (k .1)
+
+slice-read-wide : tie.Need-slice-read-wide
+slice-read-wide c = let k = c .before .before .before .before .before .before .before .before .before .before .pre in index (k .0 .3) (k .0 .4) (k .1)
+
+cast-scratch : tie.Need-cast-scratch
+cast-scratch c = let k = c .before .before .before .before .before .before .before .before .before .before .before .before .before .pre in omega (arith, number-fits (k .0 .3) (k .0 .4))
+
+slice-write-scratch : tie.Need-slice-write-scratch
+slice-write-scratch c = let k = c .before .before .before .before .before .before .before .before .before .before .before .before .before .pre in index (k .0 .3) (k .0 .4) (k .1)
+
+returns-2 : tie.Need-returns-2
+returns-2 c =
+    let k = c .before .before .before .before .before .before .before .before .before .before .before .before .before .pre in
+    (k .1, omega arith, λ h o due R w. rw (c .before .before .before .before .before .before .join .ensures) (risen-adopt R w (k .1) (sym (c .before .before .before .before .before .before .before .before .before .joined .ensures) ∙ c .before .before .before .before .before .before .before .before .if1 .left) (sym (c .before .before .wide .ensures) ∙ c .before .if2 .taken)))
+
+returns-3 : tie.Need-returns-3
+returns-3 c =
+    let k = c .before .before .before .before .before .before .before .before .before .before .before .before .pre in
+    let e = c .before .wide .ensures in
+    let free = sym (c .before .before .before .before .before .before .before .before .joined .ensures) ∙ c .before .before .before .before .before .before .before .if1 .left in
+    let z : getD (c .before .before .before .before .before .before .before .before .before .before .before .before .args .scratch .now) (c .before .before .before .before .before .before .before .before .before .before .before .before .args .p - 1) 0 ≡ 0 → ⊥ = λ y. c .if2 .left (e ∙ y) in (
+      omega (arith, e, parent-above (k .0 .3) (k .0 .4) (k .1) free z),
+      omega (arith, e, parent-below (k .0 .3) (k .0 .4) (k .1) free z),
+      λ h o due R w. rw (c .before .before .before .before .before .join .ensures, e) (risen-climb R w (k .1) free z),
+    )
+
+pub rise-spec : {M : Type 1} → statement M
+rise-spec =
+    tie.close
+    (tie.spec
+    joined-requires
+    (λ c. search needs)
+    returns
+    join-requires
+    sub-at
+    (λ c. search needs)
+    slice-read-wide
+    (λ c κs. search needs)
+    cast-scratch
+    (λ c. search needs)
+    slice-write-scratch
+    (λ c. search needs)
+    (λ c. search needs)
+    returns-2
+    (λ c. search needs)
+    returns-3)
