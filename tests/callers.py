@@ -1,7 +1,7 @@
 #!/usr/bin/env python3
 """The examples in C, Fortran and Rust: built over the static library, run on two meshes, held to the independent program.
 
-A language without its compiler here is skipped, as 'skipped: no gfortran'. The library is built first where it is older than the crates.
+One without its compiler here is skipped, as 'skipped: no gfortran'. The library is built first where it is older than the crates.
 """
 
 import os
@@ -14,14 +14,17 @@ TOP = os.path.dirname(os.path.dirname(os.path.abspath(__file__)))
 sys.path.insert(0, os.path.join(TOP, 'tests', 'reference'))
 
 import calls
+import program
 from listing import nodes_of_file, words_after_header
 
 LIBRARY = os.path.join('target', 'staticlib', 'libcapi.a')
 MESHES = ('bracket', 'two_parts')
 
-# language: its compiler, and the words behind it; {out} is the folder for what is made
-LANGUAGES = {
-    'C': ('cc', '-std=c99 -Wall -Wextra -pedantic -Werror -O2 -Iinclude examples/c/bracket.c ' + LIBRARY + ' -o {out}/C'),
+# example: its compiler, and the words behind it; {out} is the folder for what is made
+C_WORDS = '-std=c99 -Wall -Wextra -pedantic -Werror -O2 -Iinclude examples/c/{0}.c ' + LIBRARY + ' -o {{out}}/{1}'
+EXAMPLES = {
+    'C': ('cc', C_WORDS.format('bracket', 'C')),
+    'listing': ('cc', C_WORDS.format('listing', 'listing')),
     'Fortran': ('gfortran', '-std=f2008 -Wall -Werror -fcheck=all -O2 -J {out} examples/fortran/wagonepoch.f90 examples/fortran/bracket.f90 '
                 + LIBRARY + ' -o {out}/Fortran'),
     'Rust': ('rustc', '--edition 2021 -D warnings -O -L target/staticlib -l static=capi examples/rust/bracket.rs -o {out}/Rust'),
@@ -34,8 +37,13 @@ def value(answer):
     return figures
 
 
+def listing(file):
+    """The listing of these bytes, or the line of its refusal."""
+    return program.text_for(file).decode('ascii')
+
+
 def expected(file):
-    """What an example prints for the mesh in these bytes."""
+    """What the other examples print for the mesh in these bytes."""
     n = nodes_of_file(file)
     starts, neighbours, scratch = [0] * (n + 1), [0] * 32768, [0] * (8 * n)
     entries, = value(calls.mesh(n, words_after_header(file), starts, neighbours, scratch))
@@ -65,19 +73,23 @@ def build_library():
         subprocess.run(['rt', 'staticlib', 'capi'], check=True, stdout=subprocess.DEVNULL)
 
 
-def try_language(language, wanted, out):
+def try_example(example, files, out):
     """'ok', or what is wrong."""
-    compiler, words = LANGUAGES[language]
+    compiler, words = EXAMPLES[example]
     if not shutil.which(compiler):
         return 'skipped: no ' + compiler
     built = subprocess.run([compiler] + words.format(out=out).split(), stdout=subprocess.PIPE, stderr=subprocess.STDOUT, text=True)
     if built.returncode:
         print(built.stdout)
         return 'FAILED: not built'
-    for name, text in wanted.items():
-        run = subprocess.run([os.path.join(out, language), 'examples/%s.grd' % name], stdout=subprocess.PIPE, text=True)
-        if run.returncode or run.stdout != text:
-            print('%s, %s: printed\n%swanted\n%s' % (language, name, run.stdout, text))
+    for name, file in files.items():
+        path = os.path.join(out, name)
+        with open(path, 'wb') as f:
+            f.write(file)
+        text = (listing if example == 'listing' else expected)(file)
+        run = subprocess.run([os.path.join(out, example), path], stdout=subprocess.PIPE, text=True)
+        if run.returncode != text.startswith('refused') or run.stdout != text:
+            print('%s, %s: printed\n%swanted\n%s' % (example, name, run.stdout, text))
             return 'FAILED: ' + name
     return 'ok'
 
@@ -85,12 +97,13 @@ def try_language(language, wanted, out):
 def main():
     os.chdir(TOP)
     build_library()
-    wanted = {}
+    meshes = {}
     for name in MESHES:
         with open('examples/%s.grd' % name, 'rb') as f:
-            wanted[name] = expected(f.read())
+            meshes[name] = f.read()
+    broken = {'cut': meshes['bracket'][:-1], 'empty': b'', 'kind': b'GRD\1\0\5\0\1\0\13\0'}
     with tempfile.TemporaryDirectory() as out:
-        results = {language: try_language(language, wanted, out) for language in LANGUAGES}
+        results = {example: try_example(example, dict(meshes, **broken) if example == 'listing' else meshes, out) for example in EXAMPLES}
     print('; '.join('%s %s' % pair for pair in results.items()))
     return any(result.startswith('FAILED') for result in results.values())
 

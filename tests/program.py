@@ -21,7 +21,7 @@ from harness import Cases, grd_file
 from program import text_for
 
 # What the script calls, for a path on which no toolchain is.
-COMMANDS = 'awk bash cat chmod dirname env find head mkdir mktemp python3 readlink rm tail tee touch'.split()
+COMMANDS = 'awk bash cat chmod dirname env find flock head mkdir mktemp mv python3 readlink rm sleep tail tee touch'.split()
 
 
 def run(*words, given=b'', path=None, script=SCRIPT):
@@ -168,6 +168,7 @@ RT = """#!/usr/bin/env bash
 echo "$*" >> calls
 if [ -e broken ]; then echo 'error: a fact'; exit 1; fi
 echo 'rt: renumber proved (3 s)'
+sleep 0.2
 mkdir -p target/bin
 printf '#!/bin/sh\\necho refused 12\\n' > target/bin/renumber
 chmod +x target/bin/renumber
@@ -179,7 +180,7 @@ def building(c, folder):
     commands, kit, place = (os.path.join(folder, name) for name in ('commands', 'kit', 'place'))
     for made in (commands, kit, os.path.join(place, 'crates', 'renumber', 'src')):
         os.makedirs(made)
-    for name in COMMANDS:
+    for name in filter(shutil.which, COMMANDS):
         os.symlink(shutil.which(name), os.path.join(commands, name))
     script, source, calls = (os.path.join(place, *names) for names in (['renumber'], ['crates', 'renumber', 'src', 'main.rt'], ['calls']))
     shutil.copy(SCRIPT, script)
@@ -203,6 +204,14 @@ def building(c, folder):
     c.equal('a newer source, no toolchain', run(given=SAMPLE, path=commands, script=script)[:2], (2, b''))
     c.equal('a newer source', run(given=SAMPLE, path=both, script=script)[:2], (1, b'refused 12\n'))
     c.equal('it is built again', read(calls), b'check renumber\n' * 2)
+    if shutil.which('flock'):
+        shutil.rmtree(os.path.join(place, 'target'))
+        os.utime(source)
+        started = [subprocess.Popen([script], stdin=subprocess.DEVNULL, stdout=subprocess.PIPE, stderr=subprocess.DEVNULL,
+                                    env=dict(os.environ, PATH=both)) for _ in range(3)]
+        c.equal('three at once', [process.communicate()[0] for process in started], [b'refused 12\n'] * 3)
+        c.equal('and one build', read(calls), b'check renumber\n' * 3)
+        os.utime(source, (later, later))
     # the source's time is still ahead
     with open(os.path.join(place, 'broken'), 'w', encoding='ascii'):
         pass

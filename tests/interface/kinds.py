@@ -1,19 +1,24 @@
 """Trials of each kind: the cases of tests/vectors with lists of figures short, exact and long, numbers that sixteen bits can't hold, full size."""
 
 import cases
+import files
 import shapes
 from cases import CALLS, Case, fields
-from graph import from_edges
+from graph import MOST_ENTRIES, from_edges
 from library import FIGURES
+from listing import HEADER_BYTES, MOST_FILE_WORDS, most_output_bytes, nodes_of_file
 from trials import FILLS, FUNCTIONS, Trial
 
 
-def of_case(draw, c):
-    need = FIGURES[FUNCTIONS[c.call]]
-    way = draw.below(10)
+def trial(draw, kind, call, given, lent):
+    """With a list of figures that is short, exact or long, and lent lists that hold this or that."""
+    need, way = FIGURES[FUNCTIONS[call]], draw.below(10)
     figures = draw.below(need + 1) if way == 0 else need if way < 7 else need + 1 + draw.below(5)
-    call = CALLS[c.call]
-    return Trial(c.kind, c.call, fields(c, call.given), fields(c, call.lent), figures, draw.below(len(FILLS)))
+    return Trial(kind, call, given, lent, figures, draw.below(len(FILLS)))
+
+
+def of_case(draw, c):
+    return trial(draw, c.kind, c.call, fields(c, CALLS[c.call].given), fields(c, CALLS[c.call].lent))
 
 
 def every_call(kind, lists, node, numbering, n):
@@ -59,6 +64,38 @@ def full_size(draw):
                 yield c
 
 
+# Listings.
+
+def needs(n):
+    """words, starts, neighbours, scratch, numbers, levels, output"""
+    return [MOST_FILE_WORDS, n + 1, MOST_ENTRIES, 8 * n, n, n, most_output_bytes(n)]
+
+
+def lent_to_listing(draw, file):
+    """Lengths of all seven: exact, longer, one of them short; or any, with an output that has room for a line or hardly."""
+    need, way = needs(nodes_of_file(file) if len(file) >= HEADER_BYTES else 3), draw.below(10)
+    if way < 4:
+        return need
+    if way < 7:
+        return [cases.enough(draw, size) for size in need]
+    if way < 8:
+        return [draw.below(40) for _ in need[:-1]] + [draw.below(13)]
+    at = draw.below(len(need))
+    return need[:at] + [draw.one([need[at] - 1, draw.below(need[at])])] + need[at + 1:]
+
+
+def listings(draw, made):
+    for kind, file in made:
+        yield trial(draw, 'file: ' + kind, 'listing', [list(file)], lent_to_listing(draw, file))
+
+
+def random_files(draw, count):
+    return ([('random valid', file) for file in files.random_valid(draw, count)]
+            + [('random damaged', file) for file in files.random_damaged(draw, count)])
+
+
+# All kinds.
+
 def at_random(draw, count):
     """So many of each random kind."""
     yield from cases.telling(draw, count)
@@ -75,6 +112,7 @@ def some(draw, count):
                  cases.of_many_parts(), cases.full_meshes(), cases.long_meshes(), full_size(draw)):
         for c in made:
             yield of_case(draw, c)
+    yield from listings(draw, files.all_files() + random_files(draw, count))
 
 
 def more(draw, count):
@@ -82,3 +120,4 @@ def more(draw, count):
     for made in (cases.some_of_five(draw, count), at_random(draw, count), cases.of_full_size(draw)):
         for c in made:
             yield of_case(draw, c)
+    yield from listings(draw, random_files(draw, 10 * count))

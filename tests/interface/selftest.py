@@ -13,8 +13,9 @@ import tempfile
 
 import compare
 from cases import CALLS, Case, fields
+from files import ALONE
 from graph import from_edges
-from kinds import every_call
+from kinds import every_call, needs
 from library import BEHIND, FIGURES, Library
 from trials import FUNCTIONS, Trial, got
 
@@ -44,6 +45,7 @@ def trials():
     for c in on_graph + [Case('self-test', 'mesh', [], [], [1, 1, 2], 3, 4, 32768, 3, 0)]:
         lent = [size + 1 for size in fields(c, CALLS[c.call].lent)]
         yield Trial(c.kind, c.call, fields(c, CALLS[c.call].given), lent, FIGURES[FUNCTIONS[c.call]] + 1, 0)
+    yield Trial('self-test', 'listing', [list(ALONE)], [size + 1 for size in needs(3)], 2, 0)
 
 
 def places(library, trial):

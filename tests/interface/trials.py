@@ -7,6 +7,7 @@ import calls
 from cases import CALLS as CASE_CALLS
 from graph import adjacency_refusal, wrong_node_count
 from library import FIGURES, PARAMETERS, guarded
+from listing import header_refusal
 
 # What is given, lists and numbers in the order of the call; the lengths of what is lent, and that of the list of figures; what is in them.
 Trial = namedtuple('Trial', 'kind call given lent figures fill')
@@ -14,9 +15,9 @@ Trial = namedtuple('Trial', 'kind call given lent figures fill')
 FUNCTIONS = {
     'adjacency test': 'test_adjacency', 'rooted levels': 'rooted_levels', 'ends': 'ends', 'combined levels': 'combined_levels',
     'measures': 'measures', 'part report': 'part_report', 'whole run': 'run', 'elimination': 'eliminate', 'run and eliminate': 'run_eliminate',
-    'mesh': 'mesh',
+    'mesh': 'mesh', 'listing': 'listing',
 }
-REFERENCE = {call: CASE_CALLS[call].reference for call in FUNCTIONS}
+REFERENCE = dict({call: CASE_CALLS[call].reference for call in CASE_CALLS}, listing=calls.listing)
 
 # What a lent list holds before the call, by place, below the modulus of its elements: falling from the top, zeros, ones, small numbers.
 FILLS = (lambda i: -1 - i % 5000, lambda i: 0, lambda i: -1, lambda i: 1 + i % 7)
@@ -52,12 +53,17 @@ def before_five(call, given):
     """The refusal by a test that comes before 5, or 0."""
     if call == 'mesh':
         return 1 if wrong_node_count(given[0]) else 0
+    if call == 'listing':
+        return header_refusal(given[0])
     return adjacency_refusal(given[0], given[1])
 
 
 def refused_short(trial, lent):
-    """A short list of figures is 5, tested with the other lists; nothing is written."""
-    return before_five(trial.call, trial.given) or 5
+    """A short list of figures is 5, tested with the other lists; nothing is written but the line of a listing."""
+    number = before_five(trial.call, trial.given) or 5
+    if trial.call == 'listing':
+        calls.refused_with_line(number, lent[-1])
+    return number
 
 
 def wanted(trial):
