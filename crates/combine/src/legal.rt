@@ -1,8 +1,8 @@
 // The combined levels of one part, for callers that have found the adjacency legal, the ends of the part and the levels rooted at both.
-// The words of a part, n each: levels rooted at v, a queue, levels rooted at u, starts of the pieces and from the end down the counts of
-// the levels, members of the parts, levels by old number. Starts and counts do not meet: each piece has a loose node, each level a settled one.
+// The words of a part, n each: levels rooted at v, a queue, levels rooted at u, levels by old number, members of the parts, starts of the
+// pieces and from the end down the counts of the levels. These do not meet: the starts and their sort have a word for each loose node, and
+// each level has a settled one. The end search uses the first four areas, and the sixth, 0 until then, has the levels in the end.
 ghost use mathlib.Core.Path.{_≡_};
-ghost use mathlib.Core.Bool.{Bool};
 ghost use mathlib.Core.List.{_++_};
 ghost use Prim.Native.Nat.{_+_, _-_, _*_, _≤_, _<_};
 ghost use lib.ListN.{length, drop, replicate};
@@ -10,16 +10,16 @@ ghost use lib.Seq.{sets, slice};
 ghost use lib.Dec.{ltb};
 ghost use Rattle.basis.specs.Lists.{filterb};
 ghost use Rattle.spec.specs.Combined.{combined, widthOf};
-ghost use Rattle.spec.specs.Ends.{Ends};
 ghost use Rattle.spec.specs.Graph.{graphOf, sizeOf, graphRefusal};
 ghost use Rattle.spec.specs.Lent.{zeroed};
-ghost use Rattle.combining.specs.Areas.{wordsOf, levelsOf};
+ghost use Rattle.combining.specs.Areas.{wordsOf, swapped, workOf, heldOf};
+ghost use Rattle.combining.specs.Model.{numberAt};
 ghost use Rattle.piecing.specs.Starts.{startsOf, membersOf};
 ghost use Rattle.piecing.specs.Placed.{wordsAfter, levelsAfter, PlaceableAll};
 ghost use Rattle.piecing.specs.Given.{firstOf, endsOf, Given, merged, Entry, Levelled};
-ghost use Rattle.piecing.specs.Members.{Members, Turnable, Clearable, settledAt, stored, turnedAt, nought};
+ghost use Rattle.piecing.specs.Members.{Members, Turnable, Clearable, Movable, settledAt, stored, turnedAt, nought};
 use crate::pieces::find;
-use crate::pieces::size_at;
+use dealing::legal::size_at;
 use placing::legal::place;
 use placing::legal::settle;
 use placing::legal::widest;
@@ -60,14 +60,14 @@ fn gather(scratch: &mut [u16], n: usize, from: usize, to: usize) -> usize
 
 // Places the m pieces in the order of their starts, each against the counts as they then are.
 fn place_all(scratch: &mut [u16], n: usize, m: usize, narrow: bool)
-    requires { ⌜ (n ≤ 4096) × (m ≤ n) × (5 * n ≤ length (wordsOf n (now scratch))) ⌝ }
-    requires { ⌜ PlaceableAll n (n - m) narrow (startsOf n m (wordsOf n (now scratch))) (wordsOf n (now scratch)) (levelsOf n (now scratch)) ⌝ }
-    ensures { λ _. ⌜ wordsOf n (now (scratch .exit)) ≡ wordsAfter n narrow (startsOf n m (wordsOf n (now (scratch .entry)))) (wordsOf n (now (scratch .entry))) (levelsOf n (now (scratch .entry))) ⌝ }
-    ensures { λ _. ⌜ levelsOf n (now (scratch .exit)) ≡ levelsAfter n narrow (startsOf n m (wordsOf n (now (scratch .entry)))) (wordsOf n (now (scratch .entry))) (levelsOf n (now (scratch .entry))) ⌝ }
+    requires { ⌜ (n ≤ 4096) × (m ≤ n) × (6 * n ≤ length (now scratch)) ⌝ }
+    requires { ⌜ PlaceableAll n (n - m) narrow (startsOf n m (workOf n (now scratch))) (workOf n (now scratch)) (heldOf n (now scratch)) ⌝ }
+    ensures { λ _. ⌜ workOf n (now (scratch .exit)) ≡ wordsAfter n narrow (startsOf n m (workOf n (now (scratch .entry)))) (workOf n (now (scratch .entry))) (heldOf n (now (scratch .entry))) ⌝ }
+    ensures { λ _. ⌜ heldOf n (now (scratch .exit)) ≡ levelsAfter n narrow (startsOf n m (workOf n (now (scratch .entry)))) (workOf n (now (scratch .entry))) (heldOf n (now (scratch .entry))) ⌝ }
 {
     let mut i = 0;
     while i < m {
-        let s = wide(scratch[3 * n + i]);
+        let s = wide(scratch[5 * n + i]);
         let t = s + size_at(scratch, n, s);
         place(scratch, n, s, t, narrow);
         i += 1;
@@ -99,14 +99,14 @@ fn level(
     narrow: bool,
 )
     requires { ⌜ graphRefusal (now starts) (now neighbours) ≡ 0 ⌝ }
-    requires { ⌜ Entry (graphOf (now starts) (now neighbours)) (firstOf (sizeOf (now starts)) from (wordsOf (sizeOf (now starts)) (now scratch))) (endsOf (graphOf (now starts) (now neighbours)) from (wordsOf (sizeOf (now starts)) (now scratch))) (sizeOf (now starts)) from to (wordsOf (sizeOf (now starts)) (now scratch)) (levelsOf (sizeOf (now starts)) (now scratch)) ⌝ }
-    requires { ⌜ k ≡ endsOf (graphOf (now starts) (now neighbours)) from (wordsOf (sizeOf (now starts)) (now scratch)) .k ⌝ }
-    requires { ⌜ narrow ≡ ltb (endsOf (graphOf (now starts) (now neighbours)) from (wordsOf (sizeOf (now starts)) (now scratch)) .widthU) (endsOf (graphOf (now starts) (now neighbours)) from (wordsOf (sizeOf (now starts)) (now scratch)) .widthV) ⌝ }
-    ensures { λ _. ⌜ Levelled (graphOf (now (starts .entry)) (now (neighbours .entry))) (firstOf (sizeOf (now (starts .entry))) from (wordsOf (sizeOf (now (starts .entry))) (now (scratch .entry)))) (endsOf (graphOf (now (starts .entry)) (now (neighbours .entry))) from (wordsOf (sizeOf (now (starts .entry))) (now (scratch .entry)))) (sizeOf (now (starts .entry))) from to (wordsOf (sizeOf (now (starts .entry))) (now (scratch .entry))) (levelsOf (sizeOf (now (starts .entry))) (now (scratch .entry))) (wordsOf (sizeOf (now (starts .entry))) (now (scratch .exit))) (levelsOf (sizeOf (now (starts .entry))) (now (scratch .exit))) ⌝ }
+    requires { ⌜ Entry (graphOf (now starts) (now neighbours)) (firstOf (sizeOf (now starts)) from (workOf (sizeOf (now starts)) (now scratch))) (endsOf (graphOf (now starts) (now neighbours)) from (workOf (sizeOf (now starts)) (now scratch))) (sizeOf (now starts)) from to (workOf (sizeOf (now starts)) (now scratch)) (heldOf (sizeOf (now starts)) (now scratch)) ⌝ }
+    requires { ⌜ k ≡ endsOf (graphOf (now starts) (now neighbours)) from (workOf (sizeOf (now starts)) (now scratch)) .k ⌝ }
+    requires { ⌜ narrow ≡ ltb (endsOf (graphOf (now starts) (now neighbours)) from (workOf (sizeOf (now starts)) (now scratch)) .widthU) (endsOf (graphOf (now starts) (now neighbours)) from (workOf (sizeOf (now starts)) (now scratch)) .widthV) ⌝ }
+    ensures { λ _. ⌜ Levelled (graphOf (now (starts .entry)) (now (neighbours .entry))) (firstOf (sizeOf (now (starts .entry))) from (workOf (sizeOf (now (starts .entry))) (now (scratch .entry)))) (endsOf (graphOf (now (starts .entry)) (now (neighbours .entry))) from (workOf (sizeOf (now (starts .entry))) (now (scratch .entry)))) (sizeOf (now (starts .entry))) from to (workOf (sizeOf (now (starts .entry))) (now (scratch .entry))) (heldOf (sizeOf (now (starts .entry))) (now (scratch .entry))) (workOf (sizeOf (now (starts .entry))) (now (scratch .exit))) (heldOf (sizeOf (now (starts .entry))) (now (scratch .exit))) ⌝ }
 {
     let n = starts.len() - 1;
-    turn(&mut scratch[..5 * n], n, from, to, k);
-    let t = gather(&mut scratch[..5 * n], n, from, to);
+    turn(scratch, n, from, to, k);
+    let t = gather(scratch, n, from, to);
     settle(scratch, n, 0, 0, t);
     let m = find(starts, neighbours, scratch, from, to);
     place_all(scratch, n, m, narrow);
@@ -124,20 +124,45 @@ fn blank(scratch: &mut [u16], a: usize, count: usize)
     }
 }
 
-// Sets the words of a part to 0, in the time of the part.
+// Sets the words of a part to 0 but for its levels, in the time of the part.
 fn tidy(scratch: &mut [u16], n: usize, from: usize, to: usize, k: usize)
-    requires { ⌜ Clearable n from to k (now scratch) ⌝ }
-    ensures { λ _. ⌜ now (scratch .exit) ≡ zeroed (4 * n) (now (scratch .entry)) ⌝ }
+    requires { ⌜ 6 * n ≤ length (now scratch) ⌝ }
+    requires { ⌜ Clearable n from to k (workOf n (now scratch)) ⌝ }
+    ensures { λ _. ⌜ workOf n (now (scratch .exit)) ≡ zeroed (4 * n) (workOf n (now (scratch .entry))) ⌝ }
+    ensures { λ _. ⌜ heldOf n (now (scratch .exit)) ≡ heldOf n (now (scratch .entry)) ⌝ }
 {
     erase(scratch, n, 0, from, to);
     erase(scratch, n, 2 * n, from, to);
     blank(scratch, n, to - from);
-    blank(scratch, 3 * n, to - from);
-    blank(scratch, 4 * n - k, k);
+    blank(scratch, 5 * n, to - from);
+    blank(scratch, 6 * n - k, k);
+}
+
+// Copies the words of the members from the fourth area to the sixth.
+fn copy_levels(scratch: &mut [u16], n: usize, from: usize, to: usize)
+    requires { ⌜ 6 * n ≤ length (now scratch) ⌝ }
+    requires { ⌜ Members n from to (now scratch) ⌝ }
+    ensures { λ _. ⌜ now (scratch .exit) ≡ stored (5 * n) (numberAt (3 * n) (now (scratch .entry))) (now (scratch .entry)) (membersOf n from to (now (scratch .entry))) ⌝ }
+{
+    let mut i = from;
+    while i < to {
+        let z = wide(scratch[4 * n + i]);
+        scratch[5 * n + z - 1] = scratch[3 * n + z - 1];
+        i += 1;
+    }
+}
+
+// Moves the levels of a part to the sixth area, which is 0.
+fn move_levels(scratch: &mut [u16], n: usize, from: usize, to: usize)
+    requires { ⌜ Movable n from to (now scratch) ⌝ }
+    ensures { λ _. ⌜ now (scratch .exit) ≡ swapped n (now (scratch .entry)) ⌝ }
+{
+    copy_levels(scratch, n, from, to);
+    erase(scratch, n, 3 * n, from, to);
 }
 
 // The combined levels of the part whose members stand from..to: in the sixth area, n words by old number, and the greatest level count. The
-// first four areas are 0 afterwards. The counts stand where the queue of the search from u was, which is cleared for them.
+// first four areas are 0 afterwards. Meanwhile the levels stand where the queue of the search from u was, which is cleared for them.
 pub fn combine(
     starts: &[u16],
     neighbours: &[u16],
@@ -165,6 +190,7 @@ pub fn combine(
         width_u < width_v,
     );
     let w = widest(scratch, n, wide(k));
-    tidy(&mut scratch[..5 * n], n, from, to, wide(k));
+    tidy(scratch, n, from, to, wide(k));
+    move_levels(scratch, n, from, to);
     w as u16
 }

@@ -1,3 +1,4 @@
 pub mod Tally
 pub mod Counting
 pub mod Areas
+pub mod Loops

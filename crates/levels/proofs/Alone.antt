@@ -88,7 +88,7 @@ module _ (S N : List ℕ) (p : ℕ) (W : List ℕ) (ok : graphRefusal S N ≡ 0)
     L₀-size : length L₀ ≡ n
     L₀-size = length-slice (5 * n) (6 * n) U (omega (arith, U-size)) ∙ omega arith
 
-    pub levels-blank : L₀ ≡ replicate n 0
+    levels-blank : L₀ ≡ replicate n 0
     levels-blank =
         ext-getD 0 L₀ (replicate n 0) (L₀-size ∙ sym (length-replicate n 0))
         (λ i l.
@@ -121,14 +121,13 @@ module _ (S N : List ℕ) (p : ℕ) (W : List ℕ) (ok : graphRefusal S N ≡ 0)
       ok,
       record {
         words = omega (arith, length-take (5 * n) U, U-size);
-        room = L₀-size;
         order = omega (arith, P-some);
         most = omega (arith, P-most);
         members = members;
         blank =
             take-take (4 * n) (5 * n) U (omega arith) ∙ ap (take (4 * n)) u ∙ take-sets (4 * n) W₀ (4 * n) P (omega arith)
             ∙ blank (4 * n) (omega arith);
-        clean = λ q e. L₀-at (q - 1);
+        clean = levels-blank;
       },
     )
 

@@ -4,7 +4,7 @@ use mathlib.Core.Bool.{true}
 use mathlib.Core.List.{List, _++_}
 use Prim.Native.Nat.{ℕ, zero, suc, _+_, _-_, _*_, _≤_, _<_}
 use native.Mathlib.Omega.{arith}
-use lib.ListN.{length, getD, take, drop, replicate, length-append, length-take, length-drop, length-map, take-append-drop, List·getD-append}
+use lib.ListN.{length, getD, take, drop, replicate, length-append, length-take, length-drop, length-map, length-replicate, take-append-drop, List·getD-append}
 use lib.Seq.{slice, length-slice, ext-getD, take-append-le, take-take, getD-take, getD-drop}
 use borrow.Rule.Slice.PartMut.{postOf, mid-len}
 use Rattle.basis.specs.Lists.{memb, upFrom}
@@ -31,7 +31,6 @@ use Rattle.ends.specs.declared.shape.Found.{Found}
 use Rattle.ends.proofs.Areas.{front-lent, front-back, slice-front, slice-shift}
 use Rattle.combining.specs.Areas.{wordsOf}
 use Rattle.piecing.specs.Given.{Given, firstOf, endsOf, merged}
-use Rattle.piecing.specs.Seek.{at}
 use Rattle.piecing.specs.Starts.{membersOf}
 use Rattle.piecing.proofs.Storing.{member-in}
 use Rattle.levels.specs.Part.{PartGiven, partLevelsOf}
@@ -90,7 +89,7 @@ module _ (S N : List ℕ) (ok : graphRefusal S N ≡ 0) {from to : ℕ} (X : Lis
   G = not-refused S N ok
 
   pub room : 6 * n ≤ length X
-  room = omega (arith, A .room, A .order, A .most, length-drop (5 * n) (take (6 * n) X), length-take (6 * n) X)
+  room = omega (arith, ap length (A .clean), length-replicate {A = ℕ} n 0, A .order, A .most, length-drop (5 * n) (take (6 * n) X), length-take (6 * n) X)
 
   same-word : (i : ℕ) → i < 5 * n → getD W i 0 ≡ getD X i 0
   same-word i h = getD-take (5 * n) X i 0 h
@@ -203,7 +202,6 @@ module _ (S N : List ℕ) (ok : graphRefusal S N ≡ 0) {from to : ℕ} (X : Lis
       given : Given g from to (f .k) (f .widthv) (f .widthu) W₁ (slice (5 * n) (6 * n) X₁)
       given = record {
         words = omega (arith, length-take (5 * n) X₁, size-same, room);
-        room = ap length levels-same ∙ A .room;
         order = A .order;
         most = A .most;
         members =
@@ -229,7 +227,7 @@ module _ (S N : List ℕ) (ok : graphRefusal S N ≡ 0) {from to : ℕ} (X : Lis
             let q : half S + (i - half S) ≡ i = omega arith in
             in-front i (omega arith) ∙ ap (λ (j : ℕ). getD Y j 0) (sym q) ∙ sym (getD-drop (half S) Y (i - half S) 0)
             ∙ past-queue (E .second .holds) (i - half S) (omega (arith, reaches (e .u) (O .u-part)));
-        clean = λ q m. ap (λ (l : List ℕ). at l q) levels-same ∙ A .clean q (ap (λ (x : ℕ). memb q (part g x)) (sym z-same) ∙ m);
+        clean = levels-same ∙ A .clean;
       }
 
       pub combine-ask : (graphRefusal S N ≡ 0) × Given g from to (f .k) (f .widthv) (f .widthu) W₁ (slice (5 * n) (6 * n) X₁)

@@ -1,17 +1,15 @@
 -- One part in the lent words: what its ends and combined levels ask, and what is returned of them. Assumes nothing.
 use mathlib.Core.Path.{_≡_}
-use mathlib.Core.Bool.{true}
 use mathlib.Core.List.{List}
 use Prim.Native.Nat.{ℕ, _*_, _≤_, _<_}
 use lib.ListN.{length, take, replicate}
 use lib.Dec.{ltb}
-use Rattle.basis.specs.Lists.{filterb, memb, upFrom}
+use Rattle.basis.specs.Lists.{filterb, upFrom}
 use Rattle.spec.specs.Combined.{combined, widthOf}
 use Rattle.spec.specs.Ends.{Ends}
 use Rattle.spec.specs.Graph.{Graph, ofNode}
 use Rattle.spec.specs.Levels.{part}
 use Rattle.piecing.specs.Given.{firstOf}
-use Rattle.piecing.specs.Seek.{at}
 use Rattle.piecing.specs.Starts.{membersOf}
 use Rattle.levels.specs.declared.shape.PartLevels.{PartLevels}
 
@@ -19,15 +17,14 @@ use Rattle.levels.specs.declared.shape.PartLevels.{PartLevels}
 abbrev pub placed : ℕ → List ℕ → List ℕ
 placed n W = filterb (λ q. ltb 0 (ofNode W q)) (upFrom 1 n)
 
--- the members of one part stand from..to in the fifth area of n words, the four in front are 0, and so are the levels of its nodes
+-- the members of one part stand from..to in the fifth area of n words, the four in front are 0, and so is the sixth
 pub record PartGiven (g : Graph) (from to : ℕ) (W L : List ℕ) : Type 0 where
   pub words : 5 * g .size ≤ length W
-  pub room : length L ≡ g .size
   pub order : from < to
   pub most : to ≤ g .size
   pub members : membersOf (g .size) from to W ≡ part g (firstOf (g .size) from W)
   pub blank : take (4 * g .size) W ≡ replicate (4 * g .size) 0
-  pub clean : (q : ℕ) → memb q (part g (firstOf (g .size) from W)) ≡ true → at L q ≡ 0
+  pub clean : L ≡ replicate (g .size) 0
 
 -- the ends, k, the greatest level count and the passes
 abbrev pub partLevelsOf : Graph → Ends → PartLevels

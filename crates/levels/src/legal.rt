@@ -1,5 +1,6 @@
 // For crates above: the test of a given node, and the combined levels of one part of a legal graph, for callers that have its members. The
-// scratch has areas of n words: the levels and queues of two searches, the members of the parts, and the combined levels.
+// scratch has areas of n words: the levels and queues of two searches, the members of the parts, and one that is 0 until the ends are found.
+// That then has the counts of the levels, and at last the combined levels.
 ghost use mathlib.Core.Path.{_≡_};
 ghost use Prim.Native.Nat.{_*_, _≤_};
 ghost use mathlib.Core.List.{_++_};

@@ -24,7 +24,7 @@ use Rattle.piecing.specs.Given.{firstOf}
 use Rattle.piecing.specs.Starts.{membersOf}
 use Rattle.search.proofs.Stores.{take-replicate}
 use Rattle.levels.specs.Part.{PartGiven}
-use Rattle.levels.proofs.OnePart.{members-lent, zeros-at}
+use Rattle.levels.proofs.OnePart.{members-lent}
 use Rattle.parts.specs.Walked.{Walked, leaderAt}
 use Rattle.parts.proofs.Leads.{parts-length}
 use Rattle.parts.proofs.Walk.{walk-begin, walk-end, walk-next, next-node, next-some, next-fits, scratch-first, scratch-part}
@@ -182,27 +182,20 @@ module _ {S N : List ℕ} {j a k w p : ℕ} {X L W : List ℕ} (R : Ran S N j a 
       (λ i x. same-word (4 * n + i) (omega (arith, upFrom-in a (a + m - a) i x .1, fits)))
       ∙ members-are
 
-  levels-zero : (q : ℕ) → getD (slice (5 * n) (6 * n) W) (q - 1) 0 ≡ 0
-  levels-zero q = ap (λ (l : List ℕ). getD l (q - 1) 0) (R .blank) ∙ zeros-at n (q - 1)
-
   given : PartGiven (graphOf S N) a (a + m) U (slice (5 * n) (6 * n) W)
   given = record {
     words = omega (arith, length-take-le (5 * n) W (omega (arith, words-size)));
-    room = ap length (R .blank) ∙ length-replicate n 0;
     order = omega (arith, some);
     most = fits;
     members = members-words ∙ ap (part (graphOf S N)) (sym first-word);
     blank = take-take (4 * n) (5 * n) W (omega arith) ∙ front-blank;
-    clean = λ q i. levels-zero q;
+    clean = R .blank;
   }
 
   pub part-given : {t : ℕ} {W′ : List ℕ} → t ≡ m → W′ ≡ W → PartGiven (graphOf S N) a (a + t) (wordsOf n W′) (slice (5 * n) (6 * n) W′)
   part-given {t} t-is e =
       subst (λ (u : List ℕ). PartGiven (graphOf S N) a (a + t) (wordsOf n u) (slice (5 * n) (6 * n) u)) (sym e)
       (subst (λ (x : ℕ). PartGiven (graphOf S N) a (a + x) U (slice (5 * n) (6 * n) W)) (sym t-is) given)
-
-  pub levels-blank : {W′ : List ℕ} → W′ ≡ W → slice (5 * n) (6 * n) W′ ≡ replicate n 0
-  levels-blank e = ap (slice (5 * n) (6 * n)) e ∙ R .blank
 
   -- what is summed up stays small
   pub few : n ≤ 4096

@@ -34,7 +34,7 @@ use Rattle.piecing.specs.Members.{Members, Turnable, settledAt, stored, 
 use Rattle.piecing.specs.Seek.{at}
 use Rattle.piecing.specs.Starts.{membersOf}
 use Rattle.piecing.proofs.Laying.{named-by}
-use Rattle.piecing.proofs.Storing.{length-stored, stored-at, stored-other}
+use Rattle.piecing.proofs.Storing.{length-stored, stored-at, stored-other, members-on}
 use Rattle.piecing.proofs.Stores.{sets-before, sets-behind, sets-at, written-at}
 
 part-listed : (g : Graph) (z : ℕ) → part g z ≡ filterb (λ q. memb q (part g z)) (nodes g)
@@ -193,17 +193,7 @@ module _ {g : Graph} {z : ℕ} {e : Ends} {n from to : ℕ} {W L : List ℕ} (A 
   one-members = same-members W₁ (λ i h. one-high i (omega arith))
 
   pub members-one : Members n from to W₁
-  members-one =
-      let B = members-at in
-      record {
-        few = B .few;
-        order = B .order;
-        most = B .most;
-        words = omega (arith, B .words, one-size);
-        once = subst Once (sym one-members) m-once;
-        low = λ i l h. rw (one-high (4 * n + i) (omega arith)) (B .low i l h);
-        high = λ i l h. rw (one-high (4 * n + i) (omega arith)) (B .high i l h);
-      }
+  members-one = members-on members-at W₁ (omega (arith, A .words, one-size)) (λ i h. one-high (4 * n + i) (omega arith))
 
   -- ---- the settled nodes
 
@@ -260,7 +250,7 @@ module _ {g : Graph} {z : ℕ} {e : Ends} {n from to : ℕ} {W L : List ℕ} (A 
   two-second : (q : ℕ) → Node g q → numberAt (2 * n) W₂ q ≡ Y q
   two-second q N = two-high (2 * n + q - 1) (omega (arith, N .low)) ∙ one-second q N
 
-  two-counts : (i : ℕ) → 3 * n ≤ i → i < 4 * n → getD W₂ i 0 ≡ 0
+  pub two-counts : (i : ℕ) → 3 * n ≤ i → i < 4 * n → getD W₂ i 0 ≡ 0
   two-counts i l h = two-high i (omega arith) ∙ one-high i (omega arith) ∙ A .counts i l h
 
   readable-two : Readable n 0 0 (length Z) W₂

@@ -1,5 +1,5 @@
 -- The words of a part are cleared: the members' words, the queues and the counts. Assumes nothing.
-use mathlib.Core.Path.{_≡_, refl, sym, ap, _∙_, subst}
+use mathlib.Core.Path.{_≡_, refl, sym, ap, _∙_}
 use mathlib.Core.Logic.{⊎-elim}
 use mathlib.Core.Bool.{true}
 use mathlib.Core.List.{List, [], _∷_}
@@ -7,15 +7,13 @@ use Prim.Native.Nat.{ℕ, _+_, _-_, _*_, _≤_, _<_}
 use native.Mathlib.Omega.{arith}
 use lib.ListN.{length, getD, set, drop, replicate, length-replicate, getD-replicate, length-append, length-drop, replicate-append-replicate}
 use lib.Seq.{sets, length-sets, ext-getD, getD-take, getD-drop}
-use Rattle.basis.specs.Lists.{memb, upFrom}
-use Rattle.basis.specs.Perm.{Once}
-use Rattle.basis.proofs.Lists.{map-cong}
+use Rattle.basis.specs.Lists.{memb}
 use Rattle.basis.proofs.Logic.{by-test, lt-or-le}
 use Rattle.spec.specs.Lent.{zeroed}
 use Rattle.laws.proofs.Lent.{zeroed-is, zeroed-front, zeroed-behind}
 use Rattle.piecing.specs.Members.{Members, Clearable, stored, nought}
 use Rattle.piecing.specs.Starts.{membersOf}
-use Rattle.piecing.proofs.Storing.{length-stored, stored-at, stored-other, member-range}
+use Rattle.piecing.proofs.Storing.{length-stored, stored-at, stored-other, member-range, members-same, members-on}
 use Rattle.piecing.proofs.Stores.{sets-append, sets-before, sets-behind, sets-at}
 
 -- ---- a run of words set to 0
@@ -94,21 +92,11 @@ module _ {n from to k : ℕ} {W : List ℕ} (A : Clearable n from to k W) where
   one-behind i h = stored-other 0 n nought W M range i (λ z l r e. omega arith)
 
   one-members : membersOf n from to U₁ ≡ M
-  one-members = map-cong (λ i. getD U₁ (4 * n + i) 0) (λ i. getD W (4 * n + i) 0) (upFrom from (to - from)) (λ i m. one-behind (4 * n + i) (omega arith))
+  one-members = members-same (A .members) U₁ (omega (arith, A .members .words, one-size)) (λ i h. one-behind (4 * n + i) (omega arith))
 
   -- the members are still there
   pub members-one : Members n from to U₁
-  members-one =
-      let B = A .members in
-      record {
-        few = B .few;
-        order = B .order;
-        most = B .most;
-        words = omega (arith, B .words, one-size);
-        once = subst Once (sym one-members) (B .once);
-        low = λ i l h. rw (one-behind (4 * n + i) (omega arith)) (B .low i l h);
-        high = λ i l h. rw (one-behind (4 * n + i) (omega arith)) (B .high i l h);
-      }
+  members-one = members-on (A .members) U₁ (omega (arith, A .members .words, one-size)) (λ i h. one-behind (4 * n + i) (omega arith))
 
   abbrev pub U₂ : List ℕ
   U₂ = stored (2 * n) nought U₁ (membersOf n from to U₁)
@@ -188,7 +176,3 @@ module _ {n from to k : ℕ} {W : List ℕ} (A : Clearable n from to k W) where
       (λ a. low i a ∙ sym (zeroed-low (4 * n) W i a))
       (λ a. behind i a ∙ sym (zeroed-high (4 * n) W i a))
       (lt-or-le i (4 * n)))
-
-  -- room for the last three
-  pub rooms : (n + c ≤ length U₂) × (3 * n + c ≤ length U₃) × (4 * n - k + k ≤ length U₄)
-  rooms = (omega (arith, two-size, A .members .words, A .members .most), omega (arith, three-size, A .members .words, A .members .most), omega (arith, four-size, A .members .words, A .deep))

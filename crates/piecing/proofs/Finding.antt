@@ -1,8 +1,7 @@
--- The pieces as they are found, in order of their lowest node: which members lead a piece, what is marked, and the order of the list of
--- starts. Assumes nothing.
+-- The pieces as they are found, in order of their lowest node: which members lead a piece, and what is marked. Assumes nothing.
 use mathlib.Core.Path.{_≡_, refl, sym, ap, _∙_}
 use mathlib.Core.Logic.{⊎-elim}
-use mathlib.Core.Bool.{Bool, true, false, not, _&&_, _||_, cond}
+use mathlib.Core.Bool.{Bool, true, false, not, _&&_, cond}
 use mathlib.Core.List.{List, [], _∷_, _++_}
 use Prim.Native.Nat.{ℕ, _≤_}
 use native.Mathlib.Omega.{arith}
@@ -10,8 +9,6 @@ use lib.ListN.{length}
 use lib.Dec.{eqb, ltb}
 use borrow.Author.Tests.{eq-eqb, eqb-true, eqb-false, not-true}
 use Rattle.basis.specs.Lists.{filterb, anyb, chainb, headOr, memb}
-use Rattle.basis.specs.Sorted.{Total}
-use Rattle.basis.proofs.Lex.{less-order, flip-order, lex-order}
 use Rattle.basis.proofs.Lists.{memb-here, memb-append, any-find, any-make, filter-in, filter-make, filter-cong}
 use Rattle.basis.proofs.Logic.{by-test, clash, same, and-split, and-make, or-split, or-left, or-right}
 use Rattle.spec.specs.Graph.{Graph, nodes, adjoins, restrict}
@@ -49,10 +46,6 @@ module _ (g : Graph) (t : ℕ → Bool) where
   abbrev pub len : ℕ → ℕ
   len w = length (part (restrict g t) w)
 
-  -- by size falling, then by number
-  abbrev pub ord : ℕ → ℕ → Bool
-  ord a b = ltb (len b) (len a) || eqb (len a) (len b) && ltb a b
-
   -- z leads a piece
   abbrev pub leadb : ℕ → Bool
   leadb z = t z && leads (restrict g t) z
@@ -60,9 +53,6 @@ module _ (g : Graph) (t : ℕ → Bool) where
   -- q is in one of the pieces that ws lead
   abbrev pub covered : List ℕ → ℕ → Bool
   covered ws q = anyb (λ w. memb q (part (restrict g t) w)) ws
-
-  pub ord-total : Total ord
-  ord-total = lex-order (λ a b. ltb (len b) (len a)) (λ a b. eqb (len a) (len b)) ltb (flip-order less-order) len (λ x y. refl) (λ x y. refl) less-order
 
 module _ {g : Graph} (G : LegalGraph g) (t : ℕ → Bool) where
   legal-left : LegalGraph (restrict g t)

@@ -1,18 +1,16 @@
 -- The combined levels and their counts stand in the words and the levels, and what is asked before the words are cleared. Assumes nothing.
-use mathlib.Core.Path.{_≡_, refl, sym, ap, _∙_, subst}
-use mathlib.Core.Logic.{⊎-elim}
+use mathlib.Core.Path.{_≡_, refl, sym, ap, _∙_}
 use mathlib.Core.Bool.{Bool, true, false, cond}
 use mathlib.Core.List.{List, [], _∷_, map}
 use Prim.Native.Nat.{ℕ, zero, suc, _+_, _-_, _*_, _≤_, _<_}
 use native.Mathlib.Omega.{arith}
-use lib.ListN.{length, getD, length-map, take, replicate}
-use lib.Seq.{sets, length-sets, getD-take, getD-drop}
+use lib.ListN.{length, getD, length-map, take, replicate, length-replicate, getD-replicate}
+use lib.Seq.{getD-take, getD-drop}
 use lib.Dec.{ltb}
 use Rattle.basis.specs.Lists.{anyb, memb, upFrom, greatest, All}
-use Rattle.basis.specs.Perm.{Once}
 use Rattle.basis.proofs.Count.{length-filter, count-length}
 use Rattle.basis.proofs.Lists.{filter-in, map-cong, upFrom-in, length-upFrom}
-use Rattle.basis.proofs.Logic.{by-test, clash, fails, or-neither, lt-or-le}
+use Rattle.basis.proofs.Logic.{by-test, clash, fails, or-neither}
 use Rattle.spec.specs.Combined.{LevelPairs, levelPairs, settled, settledLevels, pieces, countAt, combined, widthOf}
 use Rattle.spec.specs.Ends.{Ends, ends, depthAt}
 use Rattle.spec.specs.Graph.{Graph, nodes, ofNode}
@@ -30,11 +28,10 @@ use Rattle.piecing.specs.Members.{Clearable, settledAt}
 use Rattle.piecing.specs.Placed.{wordsAfter, levelsAfter}
 use Rattle.piecing.specs.Seek.{at, looseAt}
 use Rattle.piecing.specs.Starts.{startsOf, membersOf, Found}
-use Rattle.piecing.proofs.Begin.{W₁, W₃, L₃, Z, part-is-node, x-out, y-out, z-in, z-make, m-part, same-members, members-at, three-size, three-behind, three-front, three-first, three-second, level-three, one-low, one-high, two-high}
-use Rattle.piecing.proofs.Clearing.{run-in, run-before, run-behind}
+use Rattle.piecing.proofs.Begin.{W₁, W₃, L₃, Z, part-is-node, x-out, y-out, z-in, z-make, same-members, members-at, three-size, three-behind, three-front, three-first, three-second, level-three, one-low, one-high, two-high}
 use Rattle.piecing.proofs.Folding.{After}
 use Rattle.piecing.proofs.Start.{settled-out, loose-three, levels-three, after}
-use Rattle.piecing.proofs.Storing.{member-in}
+use Rattle.piecing.proofs.Storing.{member-in, members-on}
 use Rattle.piecing.proofs.Stores.{sets-behind}
 
 -- the word of a node, by index
@@ -85,7 +82,7 @@ module _ {g : Graph} {z : ℕ} {e : Ends} {n from to : ℕ} {W L : List ℕ} (A 
           ∙ sets-behind (W₁ A) n (Z A) i (omega (arith, z-less)) ∙ one-low A i h;
       starts = λ i l h. R .front i h ∙ F .beside .behind i (omega (arith, F .less)) ∙ three-front A i h ∙ two-high A i (omega arith) ∙ one-high A i (omega arith);
       counts = λ i l h. R .laid .counts i l h;
-      behind = λ i l. R .behind i l ∙ F .beside .behind i (omega (arith, F .most)) ∙ three-behind A i l;
+      behind = λ i l. R .behind i l ∙ F .beside .behind i (omega (arith, F .less, A .most)) ∙ three-behind A i l;
       inside = λ q p.
           let N = part-is-node A q p in
           by-test (anyb (memb q) (pieces g pr))
@@ -101,25 +98,17 @@ module _ {g : Graph} {z : ℕ} {e : Ends} {n from to : ℕ} {W L : List ℕ} (A 
   -- ---- of what is levelled
 
   module _ {W′ L′ : List ℕ} (K : Levelled g z e n from to W L W′ L′) where
-    members-same : membersOf n from to W′ ≡ membersOf n from to W
-    members-same = same-members A W′ (K .behind)
+    pub members-kept : membersOf n from to W′ ≡ part g z
+    members-kept = same-members A W′ (K .behind) ∙ A .members
 
     pub clearable : ((i : ℕ) → n + (to - from) ≤ i → i < 2 * n → getD W i 0 ≡ 0) → Clearable n from to (e .k) W′
     clearable qv =
         let B = members-at A in
         record {
-          members = record {
-            few = B .few;
-            order = B .order;
-            most = B .most;
-            words = omega (arith, B .words, K .words);
-            once = subst Once (sym members-same) (B .once);
-            low = λ i l h. rw (K .behind (4 * n + i) (omega arith)) (B .low i l h);
-            high = λ i l h. rw (K .behind (4 * n + i) (omega arith)) (B .high i l h);
-          };
+          members = members-on B W′ (omega (arith, B .words, K .words)) (λ i h. K .behind (4 * n + i) (omega arith));
           deep = A .deep;
-          firsts = λ q l h o. K .first-out q (record { low = l; high = omega (arith, A .is) }) (sym (m-part A q) ∙ sym (ap (memb q) members-same) ∙ o);
-          seconds = λ q l h o. K .second-out q (record { low = l; high = omega (arith, A .is) }) (sym (m-part A q) ∙ sym (ap (memb q) members-same) ∙ o);
+          firsts = λ q l h o. K .first-out q (record { low = l; high = omega (arith, A .is) }) (sym (ap (memb q) members-kept) ∙ o);
+          seconds = λ q l h o. K .second-out q (record { low = l; high = omega (arith, A .is) }) (sym (ap (memb q) members-kept) ∙ o);
           queue = λ i l h. K .queue i l h ∙ qv i l h;
           starts = λ i l h. K .starts i l h ∙ A .counts i (omega arith) (omega arith);
         }
@@ -140,39 +129,37 @@ module _ {g : Graph} {z : ℕ} {e : Ends} {n from to : ℕ} {W L : List ℕ} (A 
 
 -- ---- what is given is an entry, once u's queue is cleared
 
+-- what is worked on then, U, and the levels L, from the words W that are given
+pub record Cleared (n : ℕ) (W U L : List ℕ) : Type 0 where
+  pub size : length U ≡ length W
+  pub front : (i : ℕ) → i < 3 * n → getD U i 0 ≡ getD W i 0
+  pub counts : (i : ℕ) → 3 * n ≤ i → i < 4 * n → getD U i 0 ≡ 0
+  pub members : (i : ℕ) → i < n → getD U (4 * n + i) 0 ≡ getD W (4 * n + i) 0
+  pub levels : L ≡ replicate n 0
+
 in-part-node : (g : Graph) (z q : ℕ) → memb q (part g z) ≡ true → Node g q
 unfolding part
 in-part-node g z q m = node-in g q (filter-in (λ y. ltb 0 (levelOf (levels g z) y)) (nodes g) q m .0)
 
 module _ {g : Graph} {from to k widthV widthU : ℕ} {W L : List ℕ} (G : LegalGraph g) (few : g .size ≤ 4096) (A : Given g from to k widthV widthU W L)
-    {U : List ℕ} (q : U ≡ sets W (3 * g .size) (replicate (to - from) 0)) where
+    {U M : List ℕ} (C : Cleared (g .size) W U M) where
   abbrev n : ℕ
   n = g .size
 
   abbrev e : Ends
   e = endsOf g from W
 
-  low-same : (i : ℕ) → i < 3 * n → getD U i 0 ≡ getD W i 0
-  low-same i h = ap (λ (x : List ℕ). getD x i 0) q ∙ run-before W (3 * n) (to - from) i h
-
-  pub high-same : (i : ℕ) → 4 * n ≤ i → getD U i 0 ≡ getD W i 0
-  high-same i h = ap (λ (x : List ℕ). getD x i 0) q ∙ run-behind W (3 * n) (to - from) i (omega (arith, A .most))
-
-  pub size-same : length U ≡ length W
-  size-same = ap length q ∙ length-sets W (3 * n) (replicate (to - from) 0)
-
   pub first-same : firstOf n from U ≡ firstOf n from W
-  first-same = high-same (4 * n + from) (omega arith)
+  first-same = C .members from (omega (arith, A .order, A .most))
 
   pub queue-same : (i : ℕ) → n + (to - from) ≤ i → i < 2 * n → getD U i 0 ≡ 0
-  queue-same i l h = low-same i (omega arith) ∙ A .queue-v i l h
+  queue-same i l h = C .front i (omega arith) ∙ A .queue-v i l h
 
-  -- with u's queue cleared
-  pub entry-of : Entry g (firstOf n from W) e n from to U L
+  pub entry-of : Entry g (firstOf n from W) e n from to U M
   unfolding depthAt
   entry-of =
       let z : ℕ = firstOf n from W in
-      let m : memb z (part g z) ≡ true = sym (ap (memb z) (A .members)) ∙ first-in in
+      let m : memb z (part g z) ≡ true = sym (ap (memb z) (A .members)) ∙ member-in n from to W from (omega arith) (A .order) in
       let N : Node g z = in-part-node g z z m in
       let E = ends-of G N in
       record {
@@ -181,29 +168,27 @@ module _ {g : Graph} {from to k widthV widthU : ℕ} {W L : List ℕ} (G : Legal
         ends = E;
         is = refl;
         few = few;
-        words = omega (arith, A .words, size-same);
-        room = omega (arith, A .room);
+        words = omega (arith, A .words, C .size);
+        room = omega (arith, ap length (C .levels), length-replicate {A = ℕ} n 0);
         order = omega (arith, A .order);
         most = A .most;
         deep = omega (arith, E .k-depth, depth-most g (e .v));
-        members = map-cong (λ i. getD U (4 * n + i) 0) (λ i. getD W (4 * n + i) 0) (upFrom from (to - from)) (λ i x. high-same (4 * n + i) (omega arith)) ∙ A .members;
+        members =
+            map-cong (λ i. getD U (4 * n + i) 0) (λ i. getD W (4 * n + i) 0) (upFrom from (to - from))
+            (λ i x. C .members i (omega (arith, A .order, A .most, upFrom-in from (to - from) i x .1))) ∙ A .members;
         firsts = λ y Q.
-            low-same (y - 1) (omega (arith, Q .low, Q .high)) ∙ sym (getD-take n W (y - 1) 0 (omega (arith, Q .low, Q .high))) ∙ ap (λ (l : List ℕ). getD l (y - 1) 0) (A .firsts)
+            C .front (y - 1) (omega (arith, Q .low, Q .high)) ∙ sym (getD-take n W (y - 1) 0 (omega (arith, Q .low, Q .high))) ∙ ap (λ (l : List ℕ). getD l (y - 1) 0) (A .firsts)
             ∙ sym (of-node (levelList g (levels g (e .v))) y (Q .low)) ∙ levelList-at g (levels g (e .v)) y Q;
         seconds = λ y Q.
             let i : 2 * n + y - 1 ≡ 2 * n + (y - 1) = omega (arith, Q .low) in
-            low-same (2 * n + y - 1) (omega (arith, Q .low, Q .high)) ∙ ap (λ (j : ℕ). getD W j 0) i ∙ sym (getD-take (3 * n) W (2 * n + (y - 1)) 0 (omega (arith, Q .low, Q .high)))
+            C .front (2 * n + y - 1) (omega (arith, Q .low, Q .high)) ∙ ap (λ (j : ℕ). getD W j 0) i ∙ sym (getD-take (3 * n) W (2 * n + (y - 1)) 0 (omega (arith, Q .low, Q .high)))
             ∙ sym (getD-drop (2 * n) (take (3 * n) W) (y - 1) 0) ∙ ap (λ (l : List ℕ). getD l (y - 1) 0) (A .seconds)
             ∙ sym (of-node (levelList g (levels g (e .u))) y (Q .low)) ∙ levelList-at g (levels g (e .u)) y Q;
-        counts = λ i l h. ap (λ (x : List ℕ). getD x i 0) q ∙ ⊎-elim
-            (λ a. run-in W (3 * n) (to - from) i (omega (arith, A .words, A .most)) l a)
-            (λ a. run-behind W (3 * n) (to - from) i a ∙ A .queue-u i a h)
-            (lt-or-le i (3 * n + (to - from)));
-        clean = A .clean;
+        counts = C .counts;
+        clean = λ q i.
+            let Q = in-part-node g z q i in
+            ap (λ (l : List ℕ). at l q) (C .levels) ∙ getD-replicate n (q - 1) 0 0 (omega (arith, Q .low, Q .high));
       }
-    where
-      first-in : memb (firstOf n from W) (membersOf n from to W) ≡ true
-      first-in = member-in n from to W from (omega arith) (A .order)
 
 -- where every other node has 0, the levels are the combined levels
 pub merged-alone : {g : Graph} {z : ℕ} {e : Ends} → LegalGraph g → Node g z → EndsOf g z e → (L : List ℕ)

@@ -1,86 +1,100 @@
 -- The steps that level a part, in one slice: what each asks, from what the ones before it have done. Assumes nothing.
 use mathlib.Core.Path.{_≡_, ap, _∙_}
 use mathlib.Core.Bool.{Bool}
-use mathlib.Core.List.{List, _++_}
+use mathlib.Core.List.{List}
 use Prim.Native.Nat.{ℕ, _+_, _-_, _*_, _≤_}
 use native.Mathlib.Omega.{arith}
-use lib.ListN.{length, length-append}
-use lib.Seq.{sets, length-sets}
+use lib.ListN.{length, getD, length-map}
+use lib.Seq.{sets}
 use lib.Dec.{ltb}
-use Rattle.basis.specs.Lists.{filterb}
+use Rattle.basis.specs.Lists.{filterb, upFrom}
+use Rattle.basis.proofs.Count.{length-filter, count-length}
+use Rattle.basis.proofs.Lists.{length-upFrom}
 use Rattle.spec.specs.Ends.{Ends}
 use Rattle.spec.specs.Graph.{Graph}
-use Rattle.combining.specs.Areas.{wordsOf, levelsOf}
+use Rattle.combining.specs.Areas.{workOf, heldOf}
 use Rattle.combining.specs.Model.{queued, slots, numberAt, written, Countable}
 use Rattle.combining.specs.Tally.{tally}
-use Rattle.combining.proofs.Areas.{words-room, words-length, put-words, put-levels}
+use Rattle.combining.proofs.Areas.{front-read, front-sets, view-room}
 use Rattle.piecing.specs.Given.{Entry, Levelled}
 use Rattle.piecing.specs.Members.{Members, Turnable, settledAt, stored, turnedAt}
 use Rattle.piecing.specs.Placed.{wordsAfter, levelsAfter, PlaceableAll}
 use Rattle.piecing.specs.Seek.{looseAt}
 use Rattle.piecing.specs.Starts.{startsOf, membersOf, Findable, Found}
-use Rattle.piecing.proofs.Steps.{turn-ok, gather-ok, settle-ok, find-ok, place-room, place-ok, level-done}
+use Rattle.piecing.proofs.Steps.{turn-ok, gather-ok, settle-ok, find-ok, place-ok, level-done}
 use Rattle.piecing.proofs.Storing.{length-stored}
+use Rattle.piecing.proofs.Views.{members-in, members-stored, settled-seen, turnable-in}
 
-module _ {g : Graph} {z : ℕ} {e : Ends} {n from to : ℕ} (X : List ℕ) (A : Entry g z e n from to (wordsOf n X) (levelsOf n X)) {k : ℕ} (p : k ≡ e .k) where
-  pub turn-room : 5 * n ≤ length X
-  turn-room = words-room n X (A .words)
+module _ {g : Graph} {z : ℕ} {e : Ends} {n from to : ℕ} (X : List ℕ) (A : Entry g z e n from to (workOf n X) (heldOf n X)) {k : ℕ} (p : k ≡ e .k) where
+  room : 6 * n ≤ length X
+  room = view-room n X (A .words) (A .room)
 
-  pub turn-in : Turnable n from to k (wordsOf n X)
-  turn-in = turn-ok A p
+  pub turn-in : Turnable n from to k X
+  turn-in = turnable-in n X room (turn-ok A p)
 
-  module _ {U : List ℕ} (q : U ≡ stored (2 * n) (turnedAt n k (wordsOf n X)) (wordsOf n X) (membersOf n from to (wordsOf n X))) where
-    -- the slice with the words turned
-    abbrev pub Y : List ℕ
-    Y = U ++ levelsOf n X
+  -- the members turned
+  module _ (Y : List ℕ) (q : Y ≡ stored (2 * n) (turnedAt n k X) X (membersOf n from to X)) where
+    turned-room : 6 * n ≤ length Y
+    turned-room = omega (arith, room, ap length q, length-stored (2 * n) (turnedAt n k X) X (membersOf n from to X))
 
-    turned-size : length U ≡ 5 * n
-    turned-size = ap length q ∙ length-stored (2 * n) (turnedAt n k (wordsOf n X)) (wordsOf n X) (membersOf n from to (wordsOf n X)) ∙ words-length n X turn-room
+    turned : (workOf n Y ≡ stored (2 * n) (turnedAt n k (workOf n X)) (workOf n X) (membersOf n from to (workOf n X))) × (heldOf n Y ≡ heldOf n X)
+    turned = members-stored n X room (turn-ok A p .members) (2 * n) (turnedAt n k X) (turnedAt n k (workOf n X)) (omega arith)
+        (λ y l h. ap (λ (x : ℕ). k + 1 - x) (front-read n X room (2 * n + y - 1) (omega arith))) q
 
-    turned : wordsOf n Y ≡ stored (2 * n) (turnedAt n k (wordsOf n X)) (wordsOf n X) (membersOf n from to (wordsOf n X))
-    turned = put-words n U (levelsOf n X) turned-size ∙ q
+    still : Members n from to (workOf n Y)
+    still = gather-ok A p (turned .0)
 
-    pub gather-room : 5 * n ≤ length Y
-    gather-room = omega (arith, length-append U (levelsOf n X), turned-size)
-
-    pub gather-in : Members n from to (wordsOf n Y)
-    gather-in = gather-ok A p turned
+    pub gather-in : Members n from to Y
+    gather-in = members-in n Y turned-room still
 
     abbrev Z : List ℕ
-    Z = filterb (settledAt n (wordsOf n Y)) (membersOf n from to (wordsOf n Y))
+    Z = filterb (settledAt n Y) (membersOf n from to Y)
 
-    module _ {t : ℕ} {Q : List ℕ} (c : t ≡ length Z) (r : Q ≡ sets (wordsOf n Y) n Z) where
-      -- and the settled members in the queue
-      abbrev pub S : List ℕ
-      S = Q ++ levelsOf n Y
+    Z-less : length Z ≤ n
+    Z-less = omega (
+      arith,
+      length-filter (settledAt n Y) (membersOf n from to Y),
+      count-length (settledAt n Y) (membersOf n from to Y),
+      length-map (upFrom from (to - from)) (λ i. getD Y (4 * n + i) 0),
+      length-upFrom from (to - from),
+      A .most,
+    )
 
-      gathered-size : length Q ≡ 5 * n
-      gathered-size = ap length r ∙ length-sets (wordsOf n Y) n Z ∙ words-length n Y gather-room
+    -- and the settled ones in the queue
+    module _ {t : ℕ} (S : List ℕ) (c : t ≡ length Z) (r : S ≡ sets Y n Z) where
+      count : t ≡ length (filterb (settledAt n (workOf n Y)) (membersOf n from to (workOf n Y)))
+      count = c ∙ ap length (settled-seen n Y turned-room still)
 
-      gathered : wordsOf n S ≡ sets (wordsOf n Y) n Z
-      gathered = put-words n Q (levelsOf n Y) gathered-size ∙ r
+      queued-seen : (workOf n S ≡ sets (workOf n Y) n Z) × (heldOf n S ≡ heldOf n Y)
+      queued-seen = let b = front-sets n Y turned-room n Z (omega (arith, Z-less)) in (ap (workOf n) r ∙ b .0, ap (heldOf n) r ∙ b .1)
 
-      same-levels : levelsOf n S ≡ levelsOf n X
-      same-levels = put-levels n Q (levelsOf n Y) gathered-size ∙ put-levels n U (levelsOf n X) turned-size
+      gathered : workOf n S ≡ sets (workOf n Y) n (filterb (settledAt n (workOf n Y)) (membersOf n from to (workOf n Y)))
+      gathered = queued-seen .0 ∙ ap (sets (workOf n Y) n) (settled-seen n Y turned-room still)
 
-      pub settle-in : Countable n 0 0 t (wordsOf n S) × (n ≤ length (levelsOf n S))
-      settle-in = (settle-ok A p turned c gathered, omega (arith, ap length same-levels, A .room))
+      same-levels : heldOf n S ≡ heldOf n X
+      same-levels = queued-seen .1 ∙ turned .1
 
-      module _ (T : List ℕ) (w : wordsOf n T ≡ tally (wordsOf n S) (slots n 0 0 t (wordsOf n S)))
-          (l : levelsOf n T ≡ written (numberAt 0 (wordsOf n S)) (levelsOf n S) (queued n 0 t (wordsOf n S))) where
-        placed : levelsOf n T ≡ written (numberAt 0 (wordsOf n S)) (levelsOf n X) (queued n 0 t (wordsOf n S))
-        placed = l ∙ ap (λ (L : List ℕ). written (numberAt 0 (wordsOf n S)) L (queued n 0 t (wordsOf n S))) same-levels
+      pub settle-in : Countable n 0 0 t (workOf n S) × (n ≤ length (heldOf n S))
+      settle-in = (settle-ok A p (turned .0) count gathered, omega (arith, ap length same-levels, A .room))
 
-        pub find-in : Findable g n from to (wordsOf n T) (levelsOf n T)
-        find-in = find-ok A p turned c gathered w placed
+      module _ (T : List ℕ) (w : workOf n T ≡ tally (workOf n S) (slots n 0 0 t (workOf n S)))
+          (l : heldOf n T ≡ written (numberAt 0 (workOf n S)) (heldOf n S) (queued n 0 t (workOf n S))) where
+        placed : heldOf n T ≡ written (numberAt 0 (workOf n S)) (heldOf n X) (queued n 0 t (workOf n S))
+        placed = l ∙ ap (λ (L : List ℕ). written (numberAt 0 (workOf n S)) L (queued n 0 t (workOf n S))) same-levels
 
-        module _ (P : List ℕ) {m : ℕ} (F : Found g n (to - from) (looseAt n (wordsOf n T)) (wordsOf n T) (levelsOf n T) (wordsOf n P) (levelsOf n P) m)
+        pub find-in : Findable g n from to (workOf n T) (heldOf n T)
+        find-in = find-ok A p (turned .0) count gathered w placed
+
+        module _ (P : List ℕ) {m : ℕ} (F : Found g n (to - from) (looseAt n (workOf n T)) (workOf n T) (heldOf n T) (workOf n P) (heldOf n P) m)
             {narrow : Bool} (v : narrow ≡ ltb (e .widthU) (e .widthV)) where
-          pub place-in : ((n ≤ 4096) × (m ≤ n) × (5 * n ≤ length (wordsOf n P)))
-              × PlaceableAll n (n - m) narrow (startsOf n m (wordsOf n P)) (wordsOf n P) (levelsOf n P)
-          place-in = (place-room A p turned c gathered w placed F v, place-ok A p turned c gathered w placed F v)
+          pub place-in : ((n ≤ 4096) × (m ≤ n) × (6 * n ≤ length P))
+              × PlaceableAll n (n - m) narrow (startsOf n m (workOf n P)) (workOf n P) (heldOf n P)
+          place-in =
+              let f = find-in in
+              let r = view-room n P (omega (arith, F .beside .size, f .words)) (omega (arith, F .levels, f .levels)) in
+              ((A .few, omega (arith, F .most, F .less, A .most), r), place-ok A p (turned .0) count gathered w placed F v)
 
-          pub level-in : (R : List ℕ) → wordsOf n R ≡ wordsAfter n narrow (startsOf n m (wordsOf n P)) (wordsOf n P) (levelsOf n P)
-              → levelsOf n R ≡ levelsAfter n narrow (startsOf n m (wordsOf n P)) (wordsOf n P) (levelsOf n P)
-              → Levelled g z e n from to (wordsOf n X) (levelsOf n X) (wordsOf n R) (levelsOf n R)
-          level-in R a b = level-done A p turned c gathered w placed F v a b
+          pub level-in : (R : List ℕ) → workOf n R ≡ wordsAfter n narrow (startsOf n m (workOf n P)) (workOf n P) (heldOf n P)
+              → heldOf n R ≡ levelsAfter n narrow (startsOf n m (workOf n P)) (workOf n P) (heldOf n P)
+              → Levelled g z e n from to (workOf n X) (heldOf n X) (workOf n R) (heldOf n R)
+          level-in R a b = level-done A p (turned .0) count gathered w placed F v a b

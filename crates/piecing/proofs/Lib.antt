@@ -1,8 +1,12 @@
 pub mod Stores
 pub mod Seeking
 pub mod Growing
-pub mod Gaps
 pub mod Orders
+pub mod Ranks
+pub mod Rows
+pub mod Walking
+pub mod Counted
+pub mod Dealing
 pub mod Finding
 pub mod Taking
 pub mod Done
@@ -16,5 +20,9 @@ pub mod Clearing
 pub mod Finish
 pub mod Steps
 pub mod Slices
+pub mod Sorting
+pub mod Views
+pub mod Tidying
+pub mod Moving
 pub mod Levelling
 pub mod Whole

@@ -10,9 +10,9 @@ use lib.Dec.{eqb, leb, ltb}
 use borrow.Author.Tests.{eq-eqb, eqb-true, not-true}
 use Rattle.basis.specs.Lists.{filterb, countb, chainb, sortb, memb, upFrom, sum, All}
 use Rattle.basis.specs.Perm.{Perm}
-use Rattle.basis.proofs.Count.{count-length, count-mono, count-parted, count-range, length-filter, memb-times}
-use Rattle.basis.proofs.Lists.{filter-cong, filter-make, map-memb, memb-map, memb-here, upFrom-in, length-upFrom}
-use Rattle.basis.proofs.Logic.{by-test, clash, fails, and-split, or-split, or-right}
+use Rattle.basis.proofs.Count.{count-cong, count-length, count-parted, count-range, length-filter, memb-times}
+use Rattle.basis.proofs.Lists.{filter-cong, filter-make, map-memb, memb-map, memb-here, upFrom-in}
+use Rattle.basis.proofs.Logic.{by-test, clash, fails, or-split, or-right}
 use Rattle.spec.specs.Combined.{LevelPairs, levelPairs, settled, settledLevels, pieces, largerPiece}
 use Rattle.spec.specs.Ends.{Ends}
 use Rattle.spec.specs.Graph.{Graph, nodes, restrict}
@@ -28,11 +28,10 @@ use Rattle.combining.specs.Model.{nodeAt, queued, numberAt}
 use Rattle.piecing.specs.Given.{Entry}
 use Rattle.piecing.specs.Seek.{looseAt}
 use Rattle.piecing.specs.Starts.{startAt, startsOf, sizeAt, membersOf, Findable, Found}
-use Rattle.piecing.proofs.Begin.{X, Y, W₂, W₃, L₃, Z, part-is-node, x-is, y-is, x-range, y-range, x-out, y-out, z-in, same-members, three-size, three-behind, three-first, three-second, three-counts, level-three}
+use Rattle.piecing.proofs.Begin.{X, Y, W₂, W₃, L₃, Z, part-is-node, x-is, y-is, x-range, y-range, x-out, y-out, z-in, same-members, three-size, three-behind, three-front, three-first, three-second, three-counts, two-counts, level-three}
 use Rattle.piecing.proofs.Finding.{restrict-cong, len-some}
 use Rattle.piecing.proofs.Folding.{After, lay-all}
 use Rattle.piecing.proofs.Laying.{Piece, Stand, Laid}
-use Rattle.piecing.proofs.Orders.{length-sort}
 use Rattle.piecing.proofs.Stores.{length-written}
 
 all-in : (Q : List ℕ → Type 0) (f : ℕ → List ℕ) (os : List ℕ) → All Q (map f os) → (o : ℕ) → memb o os ≡ true → Q (f o)
@@ -56,19 +55,6 @@ stand-map f (o ∷ os) h = (h o (memb-here o os), stand-map f os (λ x m. h x (o
 sum-some : (f : ℕ → ℕ) (a k : ℕ) → ((i : ℕ) → a ≤ i → i < a + k → 1 ≤ f i) → k ≤ sum (map f (upFrom a k))
 sum-some f a zero h = omega arith
 sum-some f a (suc k) h = omega (arith, h a (omega arith) (omega arith), sum-some f (suc a) k (λ i l r. h i (omega arith) (omega arith)))
-
-pieces-few : (g : Graph) (pr : LevelPairs) → length (pieces g pr) ≤ countb (loose pr) (nodes g)
-unfolding pieces
-pieces-few g pr =
-    let left : Graph = restrict g (loose pr) in
-    let f : ℕ → Bool = λ y. loose pr y && leads left y in
-    omega (
-      arith,
-      length-sort largerPiece (map (part left) (filterb f (nodes g))),
-      length-map (filterb f (nodes g)) (part left),
-      length-filter f (nodes g),
-      count-mono f (loose pr) (nodes g) (λ y m. and-split (loose pr y) (leads left y) m .0),
-    )
 
 module _ {g : Graph} {z : ℕ} {e : Ends} {n from to : ℕ} {W L : List ℕ} (A : Entry g z e n from to W L) where
   abbrev pr : LevelPairs
@@ -115,6 +101,18 @@ module _ {g : Graph} {z : ℕ} {e : Ends} {n from to : ℕ} {W L : List ℕ} (A 
         length-filter (settled pr) (nodes g),
       )
 
+  -- each level has a settled node: the counts leave a word for each loose node
+  pub sharing : countb (looseAt n (W₃ A)) (nodes g) + e .k ≤ n
+  sharing = omega (
+    arith,
+    count-cong (looseAt n (W₃ A)) (loose pr) (nodes g) (λ q a. loose-three q (node-in g q a)),
+    count-parted (λ q. true) (settled pr) (nodes g),
+    levels-few,
+    count-length (λ q. true) (nodes g),
+    length-nodes g,
+    A .is,
+  )
+
   members-three : membersOf n from to (W₃ A) ≡ part g z
   members-three = same-members A (W₃ A) (three-behind A) ∙ A .members
 
@@ -129,6 +127,7 @@ module _ {g : Graph} {z : ℕ} {e : Ends} {n from to : ℕ} {W L : List ℕ} (A 
     levels = omega (arith, levels-three, A .room);
     order = A .order;
     most = A .most;
+    free = λ i l h. three-front A i (omega (arith, sharing)) ∙ two-counts A i l (omega (arith, sharing));
     rises = ap (chainb ltb) members-three ∙ part-rises g z;
     nodes = λ q m. part-is-node A q (sym (ap (memb q) members-three) ∙ m);
     all = λ q N l. ap (memb q) members-three ∙ loose-in q N (not-true (settled pr q) (sym (loose-three q N) ∙ l));
@@ -160,23 +159,6 @@ module _ {g : Graph} {z : ℕ} {e : Ends} {n from to : ℕ} {W L : List ℕ} (A 
         ∙ ap (λ (l : List ℕ). sortb largerPiece (map (part (restrict g (loose pr))) l))
         (filter-cong (λ y. t y && leads (restrict g (loose pr)) y) (λ y. loose pr y && leads (restrict g (loose pr)) y) (nodes g)
         (λ y a. ap (λ (b : Bool). b && leads (restrict g (loose pr)) y) (loose-three y (node-in g y a))))
-
-    -- each piece has a loose node, and each level a settled one: starts and counts have room in n words together
-    pub sharing : m + e .k ≤ n
-    sharing =
-        let c = ap length pieces-are in
-        let p = count-parted (λ q. true) (settled pr) (nodes g) in
-        omega (
-          arith,
-          length-map os piece-of,
-          length-map (upFrom 0 m) (startAt n W₄),
-          length-upFrom 0 m,
-          pieces-few g pr,
-          levels-few,
-          count-length (λ q. true) (nodes g),
-          length-nodes g,
-          A .is,
-        )
 
     laid : Laid g e pr n W₄ L₄ (settledLevels g pr) (pieces g pr)
     laid = record {
@@ -225,4 +207,4 @@ module _ {g : Graph} {z : ℕ} {e : Ends} {n from to : ℕ} {W L : List ℕ} (A 
 
     -- all is placed
     pub after : (narrow : Bool) → narrow ≡ ltb (e .widthU) (e .widthV) → After g e pr n (n - m) narrow os (pieces g pr) W₄ L₄ (settledLevels g pr)
-    after narrow w = lay-all g e pr n (n - m) (omega (arith, sharing)) narrow w os (pieces g pr) W₄ L₄ (settledLevels g pr) laid stand
+    after narrow w = lay-all g e pr n (n - m) (omega (arith, sharing, F .most)) narrow w os (pieces g pr) W₄ L₄ (settledLevels g pr) laid stand

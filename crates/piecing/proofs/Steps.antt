@@ -4,7 +4,7 @@ use mathlib.Core.Path.{_≡_, sym, ap, _∙_, subst}
 use mathlib.Core.Bool.{Bool}
 use mathlib.Core.Logic.{⊎-elim}
 use mathlib.Core.List.{List}
-use Prim.Native.Nat.{ℕ, _+_, _-_, _*_, _≤_}
+use Prim.Native.Nat.{ℕ, _-_, _*_, _≤_, _<_}
 use native.Mathlib.Omega.{arith}
 use lib.ListN.{length, getD, replicate}
 use lib.Seq.{sets, ext-getD}
@@ -25,8 +25,8 @@ use Rattle.piecing.specs.Members.{Members, Turnable, Clearable, settledA
 use Rattle.piecing.specs.Placed.{wordsAfter, levelsAfter, PlaceableAll}
 use Rattle.piecing.specs.Seek.{looseAt}
 use Rattle.piecing.specs.Starts.{startsOf, membersOf, Findable, Found}
-use Rattle.piecing.proofs.Begin.{W₁, W₂, W₃, L₃, Z, turnable, members-one, countable-two, three-size}
-use Rattle.piecing.proofs.Clearing.{tidied, rooms, zeroed-length, zeroed-low, zeroed-high}
+use Rattle.piecing.proofs.Begin.{W₁, W₂, W₃, L₃, Z, turnable, members-one, countable-two}
+use Rattle.piecing.proofs.Clearing.{tidied, zeroed-length, zeroed-low, zeroed-high}
 use Rattle.piecing.proofs.Clearing as clearing
 use Rattle.piecing.proofs.Finish.{levelled}
 use Rattle.piecing.proofs.Start.{findable, after}
@@ -70,9 +70,6 @@ module _ {g : Graph} {z : ℕ} {e : Ends} {n from to : ℕ} {W L : List ℕ} (A 
           found = subst (λ (x : List ℕ). Found g n (to - from) (looseAt n x) x (L₃ A) U₄ L₄ m) three-is
               (subst (λ (x : List ℕ). Found g n (to - from) (looseAt n U₃) U₃ x U₄ L₄ m) levels-is F)
 
-          pub place-room : (n ≤ 4096) × (m ≤ n) × (5 * n ≤ length U₄)
-          place-room = (A .few, F .most, omega (arith, found .beside .size, three-size A, A .words))
-
           pub place-ok : PlaceableAll n (n - m) narrow (startsOf n m U₄) U₄ L₄
           place-ok = after A found narrow w .can
 
@@ -92,33 +89,24 @@ module _ {n from to k : ℕ} {W : List ℕ} (A : Clearable n from to k W) {U₁ 
     clear-two : U₂ ≡ clearing.U₂ A
     clear-two = q₂ ∙ ap (λ (x : List ℕ). stored (2 * n) nought x (membersOf n from to x)) q₁
 
-    pub room-two : n + (to - from) ≤ length U₂
-    room-two = omega (arith, ap length clear-two, rooms A .0)
-
     module _ {U₃ : List ℕ} (q₃ : U₃ ≡ sets U₂ n (replicate (to - from) 0)) where
       clear-three : U₃ ≡ clearing.U₃ A
       clear-three = q₃ ∙ ap (λ (x : List ℕ). sets x n (replicate (to - from) 0)) clear-two
-
-      pub room-three : 3 * n + (to - from) ≤ length U₃
-      room-three = omega (arith, ap length clear-three, rooms A .1)
 
       module _ {U₄ : List ℕ} (q₄ : U₄ ≡ sets U₃ (3 * n) (replicate (to - from) 0)) where
         clear-four : U₄ ≡ clearing.U₄ A
         clear-four = q₄ ∙ ap (λ (x : List ℕ). sets x (3 * n) (replicate (to - from) 0)) clear-three
 
-        pub room-four : 4 * n - k + k ≤ length U₄
-        room-four = omega (arith, ap length clear-four, rooms A .2)
-
         pub tidy-done : {U₅ : List ℕ} → U₅ ≡ sets U₄ (4 * n - k) (replicate k 0) → U₅ ≡ zeroed (4 * n) W
         tidy-done q₅ = q₅ ∙ ap (λ (x : List ℕ). sets x (4 * n - k) (replicate k 0)) clear-four ∙ tidied A
 
 -- lists that agree behind the cleared words are the same once these are cleared
-pub zeroed-same : (m : ℕ) (U W : List ℕ) → length U ≡ length W → m ≤ length W → ((i : ℕ) → m ≤ i → getD U i 0 ≡ getD W i 0) → zeroed m U ≡ zeroed m W
+pub zeroed-same : (m : ℕ) (U W : List ℕ) → length U ≡ length W → m ≤ length W → ((i : ℕ) → m ≤ i → i < length W → getD U i 0 ≡ getD W i 0) → zeroed m U ≡ zeroed m W
 zeroed-same m U W s r h =
     ext-getD 0 (zeroed m U) (zeroed m W) (zeroed-length m U (omega arith) ∙ s ∙ sym (zeroed-length m W r))
     (λ i l. ⊎-elim
     (λ a. zeroed-low m U i a ∙ sym (zeroed-low m W i a))
-    (λ a. zeroed-high m U i a ∙ h i a ∙ sym (zeroed-high m W i a))
+    (λ a. zeroed-high m U i a ∙ h i a (omega (arith, zeroed-length m U (omega arith))) ∙ sym (zeroed-high m W i a))
     (lt-or-le i m))
 
 -- the greatest count is at most n

@@ -1,5 +1,5 @@
 -- The loops over the members: a word stored for each, and the settled ones gathered in the queue. Assumes nothing.
-use mathlib.Core.Path.{_≡_, refl, sym, ap, _∙_}
+use mathlib.Core.Path.{_≡_, refl, sym, ap, _∙_, subst}
 use mathlib.Core.Logic.{_≢_, _⊎_, inl, inr, ⊎-elim}
 use mathlib.Core.Bool.{Bool, true, false, cond}
 use mathlib.Core.List.{List, [], _∷_, _++_, append-nil}
@@ -11,9 +11,9 @@ use lib.Seq.{sets, length-sets, getD-set-same, getD-set-other}
 use lib.Dec.{eqb}
 use borrow.Author.Tests.{eqb-true, eqb-false}
 use Rattle.basis.specs.Lists.{filterb, consIf, memb, upFrom}
-use Rattle.basis.specs.Perm.{times}
+use Rattle.basis.specs.Perm.{times, Once}
 use Rattle.basis.proofs.Count.{bit-one, length-filter, count-length, count-append, none-times}
-use Rattle.basis.proofs.Lists.{memb-here, map-memb, memb-map, upFrom-in, upFrom-make, length-upFrom, filter-append}
+use Rattle.basis.proofs.Lists.{map-cong, memb-here, map-memb, memb-map, upFrom-in, upFrom-make, length-upFrom, filter-append}
 use Rattle.basis.proofs.Logic.{by-test, or-right, eqb-self}
 use Rattle.combining.proofs.Counting.{from-cons, from-none}
 use Rattle.piecing.specs.Starts.{membersOf}
@@ -91,6 +91,25 @@ module _ {n from to : ℕ} {W : List ℕ} (A : Members n from to W) where
         let c = count-append (eqb (word i)) (membersOf n from i W) (word i ∷ membersOf n (i + 1) to W) in
         let o = bit-one (eqb (word i) (word i)) (eqb-self (word i)) in
         none-times (word i) (membersOf n from i W) (omega (arith, A .once (word i)))
+
+-- the same words are the same members
+module _ {n from to : ℕ} {W : List ℕ} (A : Members n from to W) (U : List ℕ) (r : 5 * n ≤ length U)
+    (s : (i : ℕ) → i < n → getD U (4 * n + i) 0 ≡ getD W (4 * n + i) 0) where
+  pub members-same : membersOf n from to U ≡ membersOf n from to W
+  members-same =
+      map-cong (λ i. getD U (4 * n + i) 0) (λ i. getD W (4 * n + i) 0) (upFrom from (to - from))
+      (λ i m. s i (omega (arith, A .order, A .most, upFrom-in from (to - from) i m .1)))
+
+  pub members-on : Members n from to U
+  members-on = record {
+    few = A .few;
+    order = A .order;
+    most = A .most;
+    words = r;
+    once = subst Once (sym members-same) (A .once);
+    low = λ i l h. rw (s i (omega (arith, A .most))) (A .low i l h);
+    high = λ i l h. rw (s i (omega (arith, A .most))) (A .high i l h);
+  }
 
 -- a member before the end is a member
 pub member-in : (n from to : ℕ) (W : List ℕ) (i : ℕ) → from ≤ i → i < to → memb (getD W (4 * n + i) 0) (membersOf n from to W) ≡ true

@@ -3,7 +3,7 @@ use mathlib.Core.Path.{_≡_}
 use mathlib.Core.Bool.{true, false, cond}
 use mathlib.Core.List.{List, map}
 use Prim.Native.Nat.{ℕ, _+_, _-_, _*_, _≤_, _<_}
-use lib.ListN.{length, getD, take}
+use lib.ListN.{length, getD, take, replicate}
 use lib.Seq.{slice}
 use Rattle.basis.specs.Lists.{memb}
 use Rattle.spec.specs.Combined.{combined, countAt}
@@ -25,11 +25,10 @@ abbrev pub endsOf : Graph → ℕ → List ℕ → Ends
 endsOf g from W = ends g (firstOf (g .size) from W)
 
 -- What is asked of the words W and the levels L: the members of one part stand from..to in rising order, the levels rooted at its ends v
--- and u stand by old number, the queues behind them hold nothing past as many words as the part has nodes, and the levels of the part's
--- nodes are 0.
+-- and u stand by old number, the queues behind them hold nothing past as many words as the part has nodes, and the levels are
+-- all 0.
 pub record Given (g : Graph) (from to k widthV widthU : ℕ) (W L : List ℕ) : Type 0 where
   pub words : 5 * g .size ≤ length W
-  pub room : length L ≡ g .size
   pub order : from < to
   pub most : to ≤ g .size
   pub members : membersOf (g .size) from to W ≡ part g (firstOf (g .size) from W)
@@ -40,13 +39,13 @@ pub record Given (g : Graph) (from to k widthV widthU : ℕ) (W L : List ℕ) : 
   pub seconds : slice (2 * g .size) (3 * g .size) W ≡ levelList g (levels g (endsOf g from W .u))
   pub queue-v : (i : ℕ) → g .size + (to - from) ≤ i → i < 2 * g .size → getD W i 0 ≡ 0
   pub queue-u : (i : ℕ) → 3 * g .size + (to - from) ≤ i → i < 4 * g .size → getD W i 0 ≡ 0
-  pub clean : (q : ℕ) → memb q (part g (firstOf (g .size) from W)) ≡ true → at L q ≡ 0
+  pub clean : L ≡ replicate (g .size) 0
 
 -- the levels afterwards: the part's nodes have their combined levels, every other node what it had
 abbrev pub merged : Graph → ℕ → Ends → List ℕ → List ℕ
 merged g z e L = map (λ q. cond (memb q (part g z)) (ofNode (combined g e) q) (ofNode L q)) (nodes g)
 
--- what the words and the levels hold once u's queue is cleared: the part of z with its ends e
+-- what is worked on and the levels hold once u's queue is cleared: the part of z with its ends e
 pub record Entry (g : Graph) (z : ℕ) (e : Ends) (n from to : ℕ) (W L : List ℕ) : Type 0 where
   pub graph : LegalGraph g
   pub node : Node g z

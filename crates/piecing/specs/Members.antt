@@ -51,3 +51,10 @@ pub record Clearable (n from to k : ℕ) (W : List ℕ) : Type 0 where
   pub seconds : (q : ℕ) → 1 ≤ q → q ≤ n → memb q (membersOf n from to W) ≡ false → getD W (2 * n + q - 1) 0 ≡ 0
   pub queue : (i : ℕ) → n + (to - from) ≤ i → i < 2 * n → getD W i 0 ≡ 0
   pub starts : (i : ℕ) → 3 * n + (to - from) ≤ i → i + k < 4 * n → getD W i 0 ≡ 0
+
+-- what is asked before the levels of a part are moved from the fourth area to the sixth: outside the members, and in the sixth, all is 0
+pub record Movable (n from to : ℕ) (X : List ℕ) : Type 0 where
+  pub room : 6 * n ≤ length X
+  pub members : Members n from to X
+  pub levels : (q : ℕ) → 1 ≤ q → q ≤ n → memb q (membersOf n from to X) ≡ false → getD X (3 * n + q - 1) 0 ≡ 0
+  pub spare : (i : ℕ) → 5 * n ≤ i → i < 6 * n → getD X i 0 ≡ 0

@@ -1,12 +1,12 @@
-// The words of a part, n each: first numbers, a queue of nodes, second numbers, words that end in the counts of the levels, words that are
-// not used here; behind them the levels by old number. Level i has the count word 4n - i. The callers have seen to the room and the ranges.
+// The words of a part, n each: first numbers, a queue of nodes, second numbers, levels by old number, words that are not used here, words
+// that end in the counts of the levels. Level i has the count word 6n - i. The callers have seen to the room and the ranges.
 ghost use mathlib.Core.Path.{_≡_};
-ghost use mathlib.Core.Bool.{_&&_, _||_, cond};
-ghost use Prim.Native.Nat.{_*_, _≤_, _<_};
+ghost use mathlib.Core.Bool.{cond};
+ghost use Prim.Native.Nat.{_+_, _*_, _≤_, _<_};
 ghost use lib.ListN.{length};
 ghost use mathlib.Core.List.{map};
 ghost use Rattle.basis.specs.Lists.{upFrom, greatest};
-ghost use Rattle.combining.specs.Areas.{wordsOf, levelsOf};
+ghost use Rattle.combining.specs.Areas.{workOf, heldOf};
 ghost use Rattle.combining.specs.Tally.{tally, untally};
 ghost use Rattle.combining.specs.Model.{slotAt, countOf, queued, slots, peakOf, written, numberAt, goesSecond, chosen, Readable, Countable, Full, Placeable};
 use words::larger;
@@ -14,21 +14,24 @@ use words::wide;
 
 // The count word of the p-th node of the queue, by the numbers that start at base.
 fn slot(scratch: &[u16], n: usize, base: usize, s: usize, t: usize, p: usize) -> usize
-    requires { ⌜ Readable n base s t (now scratch) ⌝ }
+    requires { ⌜ 6 * n ≤ length (now scratch) ⌝ }
+    requires { ⌜ Readable n base s t (workOf n (now scratch)) ⌝ }
     requires { ⌜ (s ≤ p) × (p < t) ⌝ }
-    ensures { λ r. ⌜ r ≡ slotAt n base (now (scratch .entry)) p ⌝ }
+    ensures { λ r. ⌜ r ≡ 2 * n + slotAt n base (workOf n (now (scratch .entry))) p ⌝ }
 {
     let z = wide(scratch[n + p]);
     let i = wide(scratch[base + z - 1]);
-    4 * n - i
+    6 * n - i
 }
 
 // Adds the nodes s..t of the queue to the counts. Returns the greatest count that it writes: counts only grow, so it is the
 // greatest of the levels that the nodes touch.
 fn raise(scratch: &mut [u16], n: usize, base: usize, s: usize, t: usize) -> usize
-    requires { ⌜ Countable n base s t (now scratch) ⌝ }
-    ensures { λ r. ⌜ r ≡ peakOf n base s t (now (scratch .entry)) ⌝ }
-    ensures { λ _. ⌜ now (scratch .exit) ≡ tally (now (scratch .entry)) (slots n base s t (now (scratch .entry))) ⌝ }
+    requires { ⌜ 6 * n ≤ length (now scratch) ⌝ }
+    requires { ⌜ Countable n base s t (workOf n (now scratch)) ⌝ }
+    ensures { λ r. ⌜ r ≡ peakOf n base s t (workOf n (now (scratch .entry))) ⌝ }
+    ensures { λ _. ⌜ workOf n (now (scratch .exit)) ≡ tally (workOf n (now (scratch .entry))) (slots n base s t (workOf n (now (scratch .entry)))) ⌝ }
+    ensures { λ _. ⌜ heldOf n (now (scratch .exit)) ≡ heldOf n (now (scratch .entry)) ⌝ }
 {
     let mut top = 0;
     let mut p = s;
@@ -44,8 +47,10 @@ fn raise(scratch: &mut [u16], n: usize, base: usize, s: usize, t: usize) -> usiz
 
 // Takes the nodes s..t of the queue from the counts, which hold them.
 fn lower(scratch: &mut [u16], n: usize, base: usize, s: usize, t: usize)
-    requires { ⌜ Full n base s t (now scratch) ⌝ }
-    ensures { λ _. ⌜ now (scratch .exit) ≡ untally (now (scratch .entry)) (slots n base s t (now (scratch .entry))) ⌝ }
+    requires { ⌜ 6 * n ≤ length (now scratch) ⌝ }
+    requires { ⌜ Full n base s t (workOf n (now scratch)) ⌝ }
+    ensures { λ _. ⌜ workOf n (now (scratch .exit)) ≡ untally (workOf n (now (scratch .entry))) (slots n base s t (workOf n (now (scratch .entry)))) ⌝ }
+    ensures { λ _. ⌜ heldOf n (now (scratch .exit)) ≡ heldOf n (now (scratch .entry)) ⌝ }
 {
     let mut p = s;
     while p < t {
@@ -58,9 +63,11 @@ fn lower(scratch: &mut [u16], n: usize, base: usize, s: usize, t: usize)
 
 // h, or l: the greatest count among the levels that the piece touches. The counts are as before.
 fn peak(scratch: &mut [u16], n: usize, base: usize, s: usize, t: usize) -> usize
-    requires { ⌜ Countable n base s t (now scratch) ⌝ }
-    ensures { λ r. ⌜ r ≡ peakOf n base s t (now (scratch .entry)) ⌝ }
-    ensures { λ _. ⌜ now (scratch .exit) ≡ now (scratch .entry) ⌝ }
+    requires { ⌜ 6 * n ≤ length (now scratch) ⌝ }
+    requires { ⌜ Countable n base s t (workOf n (now scratch)) ⌝ }
+    ensures { λ r. ⌜ r ≡ peakOf n base s t (workOf n (now (scratch .entry))) ⌝ }
+    ensures { λ _. ⌜ workOf n (now (scratch .exit)) ≡ workOf n (now (scratch .entry)) ⌝ }
+    ensures { λ _. ⌜ heldOf n (now (scratch .exit)) ≡ heldOf n (now (scratch .entry)) ⌝ }
 {
     let h = raise(scratch, n, base, s, t);
     lower(scratch, n, base, s, t);
@@ -69,28 +76,28 @@ fn peak(scratch: &mut [u16], n: usize, base: usize, s: usize, t: usize) -> usize
 
 // Gives the nodes s..t of the queue their numbers as levels.
 fn put(scratch: &mut [u16], n: usize, base: usize, s: usize, t: usize)
-    requires { ⌜ Readable n base s t (wordsOf n (now scratch)) ⌝ }
-    requires { ⌜ n ≤ length (levelsOf n (now scratch)) ⌝ }
-    ensures { λ _. ⌜ wordsOf n (now (scratch .exit)) ≡ wordsOf n (now (scratch .entry)) ⌝ }
-    ensures { λ _. ⌜ levelsOf n (now (scratch .exit)) ≡ written (numberAt base (wordsOf n (now (scratch .entry)))) (levelsOf n (now (scratch .entry))) (queued n s t (wordsOf n (now (scratch .entry)))) ⌝ }
+    requires { ⌜ Readable n base s t (workOf n (now scratch)) ⌝ }
+    requires { ⌜ n ≤ length (heldOf n (now scratch)) ⌝ }
+    ensures { λ _. ⌜ workOf n (now (scratch .exit)) ≡ workOf n (now (scratch .entry)) ⌝ }
+    ensures { λ _. ⌜ heldOf n (now (scratch .exit)) ≡ written (numberAt base (workOf n (now (scratch .entry)))) (heldOf n (now (scratch .entry))) (queued n s t (workOf n (now (scratch .entry)))) ⌝ }
 {
     let mut p = s;
     while p < t {
         let z = wide(scratch[n + p]);
-        scratch[5 * n + z - 1] = scratch[base + z - 1];
+        scratch[3 * n + z - 1] = scratch[base + z - 1];
         p += 1;
     }
 }
 
 // Places the nodes s..t of the queue by the numbers that start at base.
 pub fn settle(scratch: &mut [u16], n: usize, base: usize, s: usize, t: usize)
-    requires { ⌜ Countable n base s t (wordsOf n (now scratch)) ⌝ }
-    requires { ⌜ n ≤ length (levelsOf n (now scratch)) ⌝ }
-    ensures { λ _. ⌜ wordsOf n (now (scratch .exit)) ≡ tally (wordsOf n (now (scratch .entry))) (slots n base s t (wordsOf n (now (scratch .entry)))) ⌝ }
-    ensures { λ _. ⌜ levelsOf n (now (scratch .exit)) ≡ written (numberAt base (wordsOf n (now (scratch .entry)))) (levelsOf n (now (scratch .entry))) (queued n s t (wordsOf n (now (scratch .entry)))) ⌝ }
+    requires { ⌜ Countable n base s t (workOf n (now scratch)) ⌝ }
+    requires { ⌜ n ≤ length (heldOf n (now scratch)) ⌝ }
+    ensures { λ _. ⌜ workOf n (now (scratch .exit)) ≡ tally (workOf n (now (scratch .entry))) (slots n base s t (workOf n (now (scratch .entry)))) ⌝ }
+    ensures { λ _. ⌜ heldOf n (now (scratch .exit)) ≡ written (numberAt base (workOf n (now (scratch .entry)))) (heldOf n (now (scratch .entry))) (queued n s t (workOf n (now (scratch .entry)))) ⌝ }
 {
     put(scratch, n, base, s, t);
-    raise(&mut scratch[..5 * n], n, base, s, t);
+    raise(scratch, n, base, s, t);
 }
 
 // Where the numbers start that a piece goes by: "by first numbers if h < l, by second if l < h. If equal, by first unless u's
@@ -110,26 +117,26 @@ fn choose(n: usize, h: usize, l: usize, narrow: bool) -> usize
 
 // Places the piece s..t of the queue against the counts as they now are.
 pub fn place(scratch: &mut [u16], n: usize, s: usize, t: usize, narrow: bool)
-    requires { ⌜ Placeable n s t (wordsOf n (now scratch)) (levelsOf n (now scratch)) ⌝ }
-    ensures { λ _. ⌜ wordsOf n (now (scratch .exit)) ≡ tally (wordsOf n (now (scratch .entry))) (slots n (chosen n s t narrow (wordsOf n (now (scratch .entry)))) s t (wordsOf n (now (scratch .entry)))) ⌝ }
-    ensures { λ _. ⌜ levelsOf n (now (scratch .exit)) ≡ written (numberAt (chosen n s t narrow (wordsOf n (now (scratch .entry)))) (wordsOf n (now (scratch .entry)))) (levelsOf n (now (scratch .entry))) (queued n s t (wordsOf n (now (scratch .entry)))) ⌝ }
+    requires { ⌜ Placeable n s t (workOf n (now scratch)) (heldOf n (now scratch)) ⌝ }
+    ensures { λ _. ⌜ workOf n (now (scratch .exit)) ≡ tally (workOf n (now (scratch .entry))) (slots n (chosen n s t narrow (workOf n (now (scratch .entry)))) s t (workOf n (now (scratch .entry)))) ⌝ }
+    ensures { λ _. ⌜ heldOf n (now (scratch .exit)) ≡ written (numberAt (chosen n s t narrow (workOf n (now (scratch .entry)))) (workOf n (now (scratch .entry)))) (heldOf n (now (scratch .entry))) (queued n s t (workOf n (now (scratch .entry)))) ⌝ }
 {
-    let h = peak(&mut scratch[..5 * n], n, 0, s, t);
-    let l = peak(&mut scratch[..5 * n], n, 2 * n, s, t);
+    let h = peak(scratch, n, 0, s, t);
+    let l = peak(scratch, n, 2 * n, s, t);
     let base = choose(n, h, l, narrow);
     settle(scratch, n, base, s, t);
 }
 
 // The greatest count of the levels 1..k.
 pub fn widest(scratch: &[u16], n: usize, k: usize) -> usize
-    requires { ⌜ (n ≤ 4096) × (k ≤ n) × (5 * n ≤ length (now scratch)) ⌝ }
-    ensures { λ r. ⌜ r ≡ greatest (map (countOf n (now (scratch .entry))) (upFrom 1 k)) ⌝ }
+    requires { ⌜ (n ≤ 4096) × (k ≤ n) × (6 * n ≤ length (now scratch)) ⌝ }
+    ensures { λ r. ⌜ r ≡ greatest (map (countOf n (workOf n (now (scratch .entry)))) (upFrom 1 k)) ⌝ }
 {
     let mut top = 0;
     let mut i = 0;
     while i < k {
         i += 1;
-        top = larger(top, wide(scratch[4 * n - i]));
+        top = larger(top, wide(scratch[6 * n - i]));
     }
     top
 }

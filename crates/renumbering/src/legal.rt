@@ -84,7 +84,6 @@ pub fn number_part(
 ) -> PartFigures
     requires { ⌜ graphRefusal (now starts) (now neighbours) ≡ 0 ⌝ }
     requires { ⌜ PartGiven (graphOf (now starts) (now neighbours)) from to (wordsOf (sizeOf (now starts)) (now scratch)) (slice (5 * sizeOf (now starts)) (6 * sizeOf (now starts)) (now scratch)) ⌝ }
-    requires { ⌜ slice (5 * sizeOf (now starts)) (6 * sizeOf (now starts)) (now scratch) ≡ replicate (sizeOf (now starts)) 0 ⌝ }
     requires { ⌜ (length (now numbers) ≡ sizeOf (now starts)) × (length (now levels) ≡ sizeOf (now starts)) ⌝ }
     ensures { λ r. ⌜ r ≡ partFiguresOf (partResult (graphOf (now (starts .entry)) (now (neighbours .entry))) (firstOf (sizeOf (now (starts .entry))) from (wordsOf (sizeOf (now (starts .entry))) (now (scratch .entry)))) .report) ⌝ }
     ensures { λ _. ⌜ now (scratch .exit) ≡ now (scratch .entry) ⌝ }

@@ -20,7 +20,7 @@ use Rattle.piecing.specs.Given.{firstOf, endsOf, merged}
 use Rattle.piecing.proofs.Clearing.{zeroed-length}
 use Rattle.levels.specs.Part.{PartGiven, partLevelsOf}
 use Rattle.levels.specs.declared.shape.PartLevels.{PartLevels}
-use Rattle.levels.proofs.Alone.{part-ask, part-figures, part-words, room-again, levels-blank, ends-are}
+use Rattle.levels.proofs.Alone.{part-ask, part-figures, part-words, room-again, ends-are}
 use Rattle.levels.proofs.Scratch.{behind-sets, zeroed-again}
 use Rattle.sequence.specs.Answer.{sequenceOf, Sequenceable}
 use Rattle.sequence.specs.declared.shape.Sequence.{Sequence}
@@ -74,7 +74,7 @@ module _ (S N : List ℕ) (p : ℕ) (W : List ℕ) (ok : graphRefusal S N ≡ 0)
     sequence-ask =
         let b : m - 0 ≡ m = omega arith in
         let Q : Sequenceable g (5 * n) (4 * n + 0) (m - 0) (f .k) (f .v) (f .u) Y =
-        sequence-ok G few U given (levels-blank S N p W ok range room w₀ c u) y
+        sequence-ok G few U given y
         (ap (λ (x : PartLevels). x .k) l) (ap (λ (x : PartLevels). x .v) l) (ap (λ (x : PartLevels). x .u) l) in
         (ok, subst₂ (λ (i j : ℕ). Sequenceable g (5 * n) i j (f .k) (f .v) (f .u) Y) none b Q)
 

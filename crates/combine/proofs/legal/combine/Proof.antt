@@ -3,7 +3,7 @@ use mathlib.Core.Path.{_≡_, sym, ap, _∙_, subst}
 use mathlib.Core.List.{List, _++_, map}
 use Prim.Native.Nat.{ℕ, _*_, _≤_}
 use native.Mathlib.Omega.{arith}
-use lib.ListN.{length, drop}
+use lib.ListN.{drop}
 use lib.Seq.{length-take-le}
 use borrow.Author.Needs.{needs}
 use Rattle.basis.specs.Lists.{upFrom, greatest}
@@ -11,12 +11,11 @@ use Rattle.spec.specs.Combined.{combined, widthOf}
 use Rattle.spec.specs.Graph.{graphOf, sizeOf}
 use Rattle.laws.specs.Legal.{LegalGraph}
 use Rattle.laws.proofs.Refused.{passed, starts-of, not-refused}
-use Rattle.combining.specs.Areas.{wordsOf}
+use Rattle.combining.specs.Areas.{wordsOf, workOf}
 use Rattle.combining.specs.Model.{countOf}
 use Rattle.piecing.specs.Given.{endsOf}
 use Rattle.piecing.specs.Members.{Clearable}
-use Rattle.combining.proofs.Areas.{words-length}
-use Rattle.piecing.proofs.Whole.{blank-in, level-room, level-ok, depth-ok, narrow-ok, tidy-room, widest-ok, width-ok, width-most, tidy-ok, combined-is}
+use Rattle.piecing.proofs.Whole.{blank-in, level-room, level-ok, depth-ok, narrow-ok, tidy-room, widest-ok, width-ok, width-most, tidy-ok, move-ok, combined-is}
 use Rattle.combine.proofs.legal.combine.Statement.{statement}
 use Rattle.combine.proofs.legal.combine.Tie as tie
 
@@ -77,28 +76,11 @@ width : (c : tie.After-widest) → let s = c .before .before .before .before .be
 unfolding back
 width c =
     let s = c .before .before .before .before .before .before .before .before .before .before .before .before .before .before in
+    let b = c .before .before .before .before .before .before .before .before .before .blank in
+    let l = c .before .before .before .before .before .level in
     let n = sizeOf (s .args .starts .now) in
-    let l = c .before .before .before .before .before .level in
-    width-ok (s .args .scratch .now) (G s) (few s) (s .pre .1) (c .before .before .before .before .before .before .before .before .before .blank .ensures) (l .last .1 .1 .0) (l .ensures)
-    (c .widest .ensures ∙ ap (λ (x : ℕ). greatest (map (countOf n (back (c .before .before .before .before .before))) (upFrom 1 x))) (c .before .wide .ensures))
-
-mul-tidy : tie.Need-mul-tidy
-mul-tidy c = let s = c .before .before .before .before .before .before .before .before .before .before .before .before .before .before in omega (arith, few s)
-
-lend : (c : tie.After-widest) → 5 * sizeOf (c .before .before .before .before .before .before .before .before .before .before .before .before .before .before .args .starts .now) ≤ length (back (c .before .before .before .before .before))
-unfolding back
-lend c =
-    let s = c .before .before .before .before .before .before .before .before .before .before .before .before .before .before in
-    let l = c .before .before .before .before .before .level in
-    tidy-room (s .args .scratch .now) (G s) (few s) (s .pre .1) (c .before .before .before .before .before .before .before .before .before .blank .ensures) (l .last .1 .1 .0) (l .ensures)
-
-slice-relend-prefix-tidy : tie.Need-slice-relend-prefix-tidy
-unfolding back
-slice-relend-prefix-tidy c = lend c
-
-slice-aggregate-tidy : tie.Need-slice-aggregate-tidy
-unfolding back
-slice-aggregate-tidy c = sym (words-length (sizeOf (c .before .before .before .before .before .before .before .before .before .before .before .before .before .before .before .args .starts .now)) (back (c .before .before .before .before .before .before)) (lend (c .before)))
+    width-ok (s .args .scratch .now) (G s) (few s) (s .pre .1) (b .ensures) (l .last .1 .1 .0) (l .ensures)
+    (c .widest .ensures ∙ ap (λ (x : ℕ). greatest (map (countOf n (workOf n (back (c .before .before .before .before .before)))) (upFrom 1 x))) (c .before .wide .ensures))
 
 wide-requires-2 : tie.Need-wide-requires-2
 wide-requires-2 c κs = search needs
@@ -107,25 +89,40 @@ tidy-requires : tie.Need-tidy-requires
 unfolding back
 tidy-requires c κs =
     let s = c .before .before .before .before .before .before .before .before .before .before .before .before .before .before .before .before in
-    let n = sizeOf (s .args .starts .now) in
+    let b = c .before .before .before .before .before .before .before .before .before .before .before .blank in
     let l = c .before .before .before .before .before .before .before .level in
-    subst (λ (x : ℕ). Clearable n (s .args .from) (s .args .to) x (wordsOf n (back (c .before .before .before .before .before .before .before)))) (sym (c .wide2 .ensures))
-    (tidy-ok (s .args .scratch .now) (G s) (few s) (s .pre .1) (c .before .before .before .before .before .before .before .before .before .before .before .blank .ensures) (l .last .1 .1 .0) (l .ensures))
+    let n = sizeOf (s .args .starts .now) in (
+      tidy-room (s .args .scratch .now) (G s) (few s) (s .pre .1) (b .ensures) (l .last .1 .1 .0) (l .ensures),
+      subst (λ (x : ℕ). Clearable n (s .args .from) (s .args .to) x (workOf n (back (c .before .before .before .before .before .before .before)))) (sym (c .wide2 .ensures)) (tidy-ok (s .args .scratch .now) (G s) (few s) (s .pre .1) (b .ensures) (l .last .1 .1 .0) (l .ensures)),
+    )
+
+move-levels-requires : tie.Need-move-levels-requires
+unfolding back
+move-levels-requires c κs =
+    let s = c .before .before .before .before .before .before .before .before .before .before .before .before .before .before .before .before .before .before .before .before in
+    let b = c .before .before .before .before .before .before .before .before .before .before .before .before .before .before .before .blank in
+    let l = c .before .before .before .before .before .before .before .before .before .before .before .level in
+    let t = c .before .before .before .tidy in
+    move-ok (s .args .scratch .now) (G s) (few s) (s .pre .1) (b .ensures) (l .last .1 .1 .0) (l .ensures) (t .last .0) (t .kept .0) (t .ensures)
 
 cast-result : tie.Need-cast-result
 cast-result c =
-    let s = c .before .before .before .before .before .before .before .before .before .before .before .before .before .before .before .before .before .before .before in
-    let l = c .before .before .before .before .before .before .before .before .before .before .level in
-    omega (arith, width (c .before .before .before .before .before), width-most (s .args .scratch .now) (G s) (few s) (s .pre .1) (c .before .before .before .before .before .before .before .before .before .before .before .before .before .before .blank .ensures) (l .last .1 .1 .0) (l .ensures))
+    let s = c .before .before .before .before .before .before .before .before .before .before .before .before .before .before .before .before .before .before .before .before .before .before .before in
+    let b = c .before .before .before .before .before .before .before .before .before .before .before .before .before .before .before .before .before .before .blank in
+    let l = c .before .before .before .before .before .before .before .before .before .before .before .before .before .before .level in
+    omega (arith, width (c .before .before .before .before .before .before .before .before .before), width-most (s .args .scratch .now) (G s) (few s) (s .pre .1) (b .ensures) (l .last .1 .1 .0) (l .ensures))
 
 same-length : tie.Need-same-length
 same-length c = search needs
 
 returns : tie.Need-returns
+unfolding back
 returns c =
-    let s = c .before .before .before .before .before .before .before .before .before .before .before .before .before .before .before .before .before .before .before in
-    let l = c .before .before .before .before .before .before .before .before .before .before .level in
-    (width (c .before .before .before .before .before), combined-is (s .args .scratch .now) (G s) (few s) (s .pre .1) (c .before .before .before .before .before .before .before .before .before .before .before .before .before .before .blank .ensures) (l .last .1 .1 .0) (l .ensures) (c .before .before .tidy .ensures))
+    let s = c .before .before .before .before .before .before .before .before .before .before .before .before .before .before .before .before .before .before .before .before .before .before .before in
+    let b = c .before .before .before .before .before .before .before .before .before .before .before .before .before .before .before .before .before .before .blank in
+    let l = c .before .before .before .before .before .before .before .before .before .before .before .before .before .before .level in
+    let t = c .before .before .before .before .before .before .tidy in
+    (width (c .before .before .before .before .before .before .before .before .before), combined-is (s .args .scratch .now) (G s) (few s) (s .pre .1) (b .ensures) (l .last .1 .1 .0) (l .ensures) (t .last .0) (t .kept .0) (t .ensures) (c .before .before .move-levels .ensures))
 
 pub combine-spec : {M : Type 1} → statement M
 combine-spec =
@@ -141,11 +138,9 @@ combine-spec =
     level-requires
     wide-requires
     widest-requires
-    mul-tidy
-    slice-relend-prefix-tidy
-    slice-aggregate-tidy
     wide-requires-2
     tidy-requires
+    move-levels-requires
     cast-result
     same-length
     returns)

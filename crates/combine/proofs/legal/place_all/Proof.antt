@@ -1,23 +1,30 @@
 -- `combine::legal::place_all` meets its contract. Assumes nothing.
 use mathlib.Core.Path.{_≡_, _∙_}
-use Prim.Native.Nat.{_+_, _-_, _*_}
+use Prim.Native.Nat.{_+_, _-_, _*_, _≤_}
 use native.Mathlib.Omega.{arith}
-use lib.ListN.{getD}
+use lib.ListN.{length, getD}
 use borrow.Author.Needs.{needs}
-use Rattle.combining.specs.Areas.{wordsOf, levelsOf}
-use Rattle.combining.proofs.Areas.{word-read, words-room, same-size}
+use Rattle.combining.specs.Areas.{workOf, heldOf}
+use Rattle.combining.proofs.Areas.{list-read, work-room, view-size}
 use Rattle.piecing.proofs.PlaceLoop.{PlacingAll, place-begin, now-stands, now-placeable, end-fits, place-step, place-done}
 use Rattle.combine.proofs.legal.place_all.Statement.{statement}
 use Rattle.combine.proofs.legal.place_all.Tie as tie
 
 abbrev Inv-loop : tie.InvT-loop
-Inv-loop scratch₀ n m narrow i₀ scratch i = PlacingAll n m narrow (wordsOf n scratch₀) (levelsOf n scratch₀) (wordsOf n scratch) (levelsOf n scratch) i
+Inv-loop scratch₀ n m narrow i₀ scratch i = PlacingAll n m narrow (workOf n scratch₀) (heldOf n scratch₀) (workOf n scratch) (heldOf n scratch) i
 
 abbrev μ-loop : tie.MeasureT-loop
 μ-loop scratch₀ n m narrow i₀ scratch i = m - i
 
 loop-holds : tie.Need-loop-holds Inv-loop μ-loop
-loop-holds c = let p = c .before .pre in place-begin (p .0 .0) (p .0 .1) (p .0 .2) (p .1)
+loop-holds c = let p = c .before .pre in place-begin (p .0 .0) (p .0 .1) (work-room (c .before .args .n) (c .before .args .scratch .now) (p .0 .2)) (p .1)
+
+-- the slice is as long as it was
+size : (c : tie.At-loop Inv-loop μ-loop) → length (c .loop .scratch) ≡ length (c .before .before .args .scratch .now)
+size c = let s = c .before .before .args in view-size (s .n) (s .scratch .now) (c .loop .scratch) (c .loop .inv .counts .size) (c .loop .inv .size)
+
+room : (c : tie.At-loop Inv-loop μ-loop) → 6 * c .before .before .args .n ≤ length (c .loop .scratch)
+room c = omega (arith, size c, c .before .before .pre .0 .2)
 
 mul-wide : tie.Need-mul-wide Inv-loop μ-loop
 mul-wide c = let I = c .before .loop .inv in omega (arith, I .few)
@@ -29,20 +36,17 @@ mul-wide-2 : tie.Need-mul-wide-2 Inv-loop μ-loop
 mul-wide-2 c = let I = c .before .loop .inv in omega (arith, I .few, I .last)
 
 slice-read-wide : tie.Need-slice-read-wide Inv-loop μ-loop
-slice-read-wide c =
-    let I = c .before .before .loop .inv in
-    let h = c .before .loop-test .taken in
-    omega (arith, words-room (c .before .before .before .before .args .n) (c .before .before .loop .scratch) (I .room), I .last)
+slice-read-wide c = omega (arith, room (c .before .before), c .before .loop-test .taken, c .before .before .loop .inv .last)
 
 wide-requires : tie.Need-wide-requires Inv-loop μ-loop
 wide-requires c κs = search needs
 
 -- the start that is read, in the words
-start-is : (c : tie.After-wide Inv-loop μ-loop) → let l = c .before .before .before .loop in let n = c .before .before .before .before .before .args .n in c .wide .result ≡ getD (wordsOf n (l .scratch)) (3 * n + l .i) 0
+start-is : (c : tie.After-wide Inv-loop μ-loop) → let l = c .before .before .before .loop in let n = c .before .before .before .before .before .args .n in c .wide .result ≡ getD (workOf n (l .scratch)) (3 * n + l .i) 0
 start-is c =
     let l = c .before .before .before .loop in
     let n = c .before .before .before .before .before .args .n in
-    c .wide .ensures ∙ word-read n (l .scratch) (3 * n + l .i) (omega (arith, c .before .before .loop-test .taken, l .inv .last))
+    c .wide .ensures ∙ list-read n (l .scratch) (room (c .before .before .before)) (l .i) (omega (arith, c .before .before .loop-test .taken, l .inv .last))
 
 size-at-requires : tie.Need-size-at-requires Inv-loop μ-loop
 size-at-requires c κs = now-stands (c .before .before .before .before .loop .inv) (c .before .before .before .loop-test .taken) (start-is (c .before))
@@ -65,10 +69,7 @@ loop-again c =
     place-step (c .before .before .before .before .before .before .before .before .before .loop .inv) (c .before .before .before .before .before .before .before .before .loop-test .taken) (start-is (c .before .before .before .before .before .before)) (c .before .before .before .before .size-at .ensures) (p .0) (p .1)
 
 same-length : tie.Need-same-length Inv-loop μ-loop
-same-length c =
-    let l = c .before .loop in
-    let s = c .before .before .before .args in
-    same-size (s .n) (s .scratch .now) (l .scratch) (l .inv .counts .size) (l .inv .size)
+same-length c = size (c .before)
 
 returns : tie.Need-returns Inv-loop μ-loop
 returns c = place-done (c .before .loop .inv) (c .loop-test .left)

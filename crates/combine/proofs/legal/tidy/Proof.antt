@@ -1,58 +1,73 @@
 -- `combine::legal::tidy` meets its contract. Assumes nothing.
-use mathlib.Core.Path.{_≡_, ap, _∙_}
-use Prim.Native.Nat.{_*_}
 use native.Mathlib.Omega.{arith}
-use lib.ListN.{length}
-use Rattle.spec.specs.Lent.{zeroed}
-use Rattle.piecing.proofs.Clearing.{zeroed-length}
-use Rattle.piecing.proofs.Steps.{erase-ok, room-two, room-three, room-four, tidy-done}
+use borrow.Author.Needs.{needs}
+use Rattle.piecing.proofs.Tidying.{erase-first, erase-second, blank-first, blank-second, blank-third, tidied-in}
 use Rattle.combine.proofs.legal.tidy.Statement.{statement}
 use Rattle.combine.proofs.legal.tidy.Tie as tie
 
 erase-requires : tie.Need-erase-requires
-erase-requires c κs = let s = c .before .before in (s .pre .members, omega arith)
+erase-requires c κs = let s = c .before .before in (erase-first (s .args .scratch .now) (s .pre .0) (s .pre .1), omega arith)
 
 mul-erase : tie.Need-mul-erase
-mul-erase c = omega (arith, c .before .before .before .before .before .before .pre .members .few)
+mul-erase c = omega (arith, c .before .before .before .before .before .before .pre .1 .members .few)
 
 erase-requires-2 : tie.Need-erase-requires-2
-erase-requires-2 c κs = let s = c .before .before .before .before .before .before in (erase-ok (s .pre) (c .before .before .before .erase .ensures), omega arith)
+erase-requires-2 c κs =
+    let s = c .before .before .before .before .before .before in
+    let a = c .before .before .before .erase in
+    (erase-second (s .args .scratch .now) (s .pre .0) (s .pre .1) (a .last .0) (a .ensures), omega arith)
 
 sub-blank : tie.Need-sub-blank
-sub-blank c = c .before .before .before .before .before .before .before .before .before .before .pre .members .order
+sub-blank c = c .before .before .before .before .before .before .before .before .before .before .pre .1 .members .order
 
 blank-requires : tie.Need-blank-requires
-blank-requires c κs = room-two (c .before .before .before .before .before .before .before .before .before .before .pre) (c .before .before .before .before .before .before .before .erase .ensures) (c .before .before .before .erase2 .ensures)
+blank-requires c κs =
+    let s = c .before .before .before .before .before .before .before .before .before .before in
+    let a = c .before .before .before .before .before .before .before .erase in
+    let b = c .before .before .before .erase2 in
+    blank-first (s .args .scratch .now) (s .pre .0) (s .pre .1) (a .last .0) (a .ensures) (b .last .0) (b .ensures)
 
 mul-blank : tie.Need-mul-blank
-mul-blank c = omega (arith, c .before .before .before .before .before .before .before .before .before .before .before .before .before .before .pre .members .few)
+mul-blank c = omega (arith, c .before .before .before .before .before .before .before .before .before .before .before .before .before .before .pre .1 .members .few)
 
 sub-blank-2 : tie.Need-sub-blank-2
-sub-blank-2 c = c .before .before .before .before .before .before .before .before .before .before .before .before .before .before .pre .members .order
+sub-blank-2 c = c .before .before .before .before .before .before .before .before .before .before .before .before .before .before .pre .1 .members .order
 
 blank-requires-2 : tie.Need-blank-requires-2
-blank-requires-2 c κs = room-three (c .before .before .before .before .before .before .before .before .before .before .before .before .before .before .pre) (c .before .before .before .before .before .before .before .before .before .before .before .erase .ensures) (c .before .before .before .before .before .before .before .erase2 .ensures) (c .before .before .before .blank .ensures)
+blank-requires-2 c κs =
+    let s = c .before .before .before .before .before .before .before .before .before .before .before .before .before .before in
+    let a = c .before .before .before .before .before .before .before .before .before .before .before .erase in
+    let b = c .before .before .before .before .before .before .before .erase2 in
+    let d = c .before .before .before .blank in
+    blank-second (s .args .scratch .now) (s .pre .0) (s .pre .1) (a .last .0) (a .ensures) (b .last .0) (b .ensures) (d .last .0) (d .ensures)
 
 mul-blank-2 : tie.Need-mul-blank-2
-mul-blank-2 c = omega (arith, c .before .before .before .before .before .before .before .before .before .before .before .before .before .before .before .before .before .before .pre .members .few)
+mul-blank-2 c = omega (arith, c .before .before .before .before .before .before .before .before .before .before .before .before .before .before .before .before .before .before .pre .1 .members .few)
 
 sub-blank-3 : tie.Need-sub-blank-3
-sub-blank-3 c = let A = c .before .before .before .before .before .before .before .before .before .before .before .before .before .before .before .before .before .before .pre in omega (arith, A .deep)
+sub-blank-3 c = omega (arith, c .before .before .before .before .before .before .before .before .before .before .before .before .before .before .before .before .before .before .pre .1 .deep)
 
 blank-requires-3 : tie.Need-blank-requires-3
-blank-requires-3 c κs = room-four (c .before .before .before .before .before .before .before .before .before .before .before .before .before .before .before .before .before .before .pre) (c .before .before .before .before .before .before .before .before .before .before .before .before .before .before .before .erase .ensures) (c .before .before .before .before .before .before .before .before .before .before .before .erase2 .ensures) (c .before .before .before .before .before .before .before .blank .ensures) (c .before .before .before .blank2 .ensures)
-
-done : (c : tie.After-blank3) → let s = c .before .before .before .before .before .before .before .before .before .before .before .before .before .before .before .before .before .before .before in c .blank3 .last .0 ≡ zeroed (4 * s .args .n) (s .args .scratch .now)
-done c =
-    tidy-done (c .before .before .before .before .before .before .before .before .before .before .before .before .before .before .before .before .before .before .before .pre) (c .before .before .before .before .before .before .before .before .before .before .before .before .before .before .before .before .erase .ensures) (c .before .before .before .before .before .before .before .before .before .before .before .before .erase2 .ensures) (c .before .before .before .before .before .before .before .before .blank .ensures) (c .before .before .before .before .blank2 .ensures) (c .blank3 .ensures)
+blank-requires-3 c κs =
+    let s = c .before .before .before .before .before .before .before .before .before .before .before .before .before .before .before .before .before .before in
+    let a = c .before .before .before .before .before .before .before .before .before .before .before .before .before .before .before .erase in
+    let b = c .before .before .before .before .before .before .before .before .before .before .before .erase2 in
+    let d = c .before .before .before .before .before .before .before .blank in
+    let e = c .before .before .before .blank2 in
+    blank-third (s .args .scratch .now) (s .pre .0) (s .pre .1) (a .last .0) (a .ensures) (b .last .0) (b .ensures) (d .last .0) (d .ensures) (e .last .0) (e .ensures)
 
 same-length : tie.Need-same-length
-same-length c =
-    let s = c .before .before .before .before .before .before .before .before .before .before .before .before .before .before .before .before .before .before .before .before .before in
-    ap length (done (c .before .before)) ∙ zeroed-length (4 * s .args .n) (s .args .scratch .now) (omega (arith, s .pre .members .words))
+same-length c = search needs
 
 returns : tie.Need-returns
-returns c = done (c .before .before)
+returns c =
+    let s = c .before .before .before .before .before .before .before .before .before .before .before .before .before .before .before .before .before .before .before .before .before in
+    let a = c .before .before .before .before .before .before .before .before .before .before .before .before .before .before .before .before .before .before .erase in
+    let b = c .before .before .before .before .before .before .before .before .before .before .before .before .before .before .erase2 in
+    let d = c .before .before .before .before .before .before .before .before .before .before .blank in
+    let e = c .before .before .before .before .before .before .blank2 in
+    let f = c .before .before .blank3 in
+    tidied-in (s .args .scratch .now) (s .pre .0) (s .pre .1) (a .last .0) (a .ensures) (b .last .0) (b .ensures) (d .last .0) (d .ensures) (e .last .0) (e .ensures) (f .last .0) (f .ensures)
 
 pub tidy-spec : {M : Type 1} → statement M
 tidy-spec =

@@ -37,8 +37,8 @@ shared-slice-read-if1-2 c = search needs
 returns : tie.Need-returns
 returns c =
     let s = c .before .before .before in
-    sym (ap (λ (b : Bool). not b && eqb (getD (s .args .scratch .now) (5 * s .args .n + s .args .v - 1) 0) 0) (eq-eqb _ _ (c .if1 .taken)))
-    ∙ fresh-is (s .args .n) (s .args .scratch .now) (s .args .v) (s .pre .2) (s .pre .3)
+    sym (ap (λ (b : Bool). not b && eqb (getD (s .args .scratch .now) (3 * s .args .n + s .args .v - 1) 0) 0) (eq-eqb _ _ (c .if1 .taken)))
+    ∙ fresh-is (s .args .n) (s .args .scratch .now) (s .args .v) (s .pre .1) (s .pre .2) (s .pre .3)
 
 mul-result : tie.Need-mul-result
 mul-result c = search needs
@@ -58,8 +58,8 @@ shared-slice-read-result c = search needs
 returns-2 : tie.Need-returns-2
 returns-2 c =
     let s = c .before .before .before .before in
-    sym (ap (λ (b : Bool). not b && eqb (getD (s .args .scratch .now) (5 * s .args .n + s .args .v - 1) 0) 0) (ne-eqb _ _ (c .before .if1 .left)))
-    ∙ fresh-is (s .args .n) (s .args .scratch .now) (s .args .v) (s .pre .2) (s .pre .3)
+    sym (ap (λ (b : Bool). not b && eqb (getD (s .args .scratch .now) (3 * s .args .n + s .args .v - 1) 0) 0) (ne-eqb _ _ (c .before .if1 .left)))
+    ∙ fresh-is (s .args .n) (s .args .scratch .now) (s .args .v) (s .pre .1) (s .pre .2) (s .pre .3)
 
 pub fresh-spec : {M : Type 1} → statement M
 fresh-spec =

@@ -8,8 +8,8 @@ use borrow.Author.Needs.{needs}
 use Rattle.spec.specs.Graph.{graphOf, sizeOf, rowOf}
 use Rattle.laws.specs.Legal.{Node, Starts}
 use Rattle.laws.proofs.Refused.{passed, starts-of, not-refused}
-use Rattle.combining.specs.Areas.{wordsOf, levelsOf}
-use Rattle.combining.proofs.Areas.{level-room}
+use Rattle.combining.specs.Areas.{workOf, heldOf}
+use Rattle.combining.proofs.Areas.{view-room}
 use Rattle.piecing.specs.Seek.{Nodes}
 use Rattle.piecing.proofs.Growing.{Growable, Spreading, row-nodes, seed-fits, t-most, next-node, spread-step}
 use Rattle.piecing.proofs.Slices.{spread-begin-in, spread-same, spread-room, spread-read, spread-done-in}
@@ -18,15 +18,15 @@ use Rattle.combine.proofs.pieces.grow.Tie as tie
 
 abbrev Inv-loop : tie.InvT-loop
 Inv-loop starts neighbours scratch₀ s z n first h₀ t₀ scratch h t =
-    (first ≡ 5 * n + z - 1) × Starts starts neighbours
-    × ((A B : List ℕ) → Spreading (graphOf starts neighbours) n A B s z (wordsOf n scratch₀) (levelsOf n scratch₀) h₀ t₀ → Spreading (graphOf starts neighbours) n A B s z (wordsOf n scratch) (levelsOf n scratch) h t)
+    (first ≡ 3 * n + z - 1) × Starts starts neighbours
+    × ((A B : List ℕ) → Spreading (graphOf starts neighbours) n A B s z (workOf n scratch₀) (heldOf n scratch₀) h₀ t₀ → Spreading (graphOf starts neighbours) n A B s z (workOf n scratch) (heldOf n scratch) h t)
     × (n ≤ 4096) × (t ≤ n)
 
 abbrev μ-loop : tie.MeasureT-loop
 μ-loop starts neighbours scratch₀ s z n first h₀ t₀ scratch h t = n - h
 
 growable : (c : tie.After-wide Inv-loop μ-loop) → let s = c .before .before .before .before in
-    Growable (graphOf (s .args .starts .now) (s .args .neighbours .now)) (sizeOf (s .args .starts .now)) (wordsOf (sizeOf (s .args .starts .now)) (s .args .scratch .now)) (levelsOf (sizeOf (s .args .starts .now)) (s .args .scratch .now)) (s .args .s) (s .args .z)
+    Growable (graphOf (s .args .starts .now) (s .args .neighbours .now)) (sizeOf (s .args .starts .now)) (workOf (sizeOf (s .args .starts .now)) (s .args .scratch .now)) (heldOf (sizeOf (s .args .starts .now)) (s .args .scratch .now)) (s .args .s) (s .args .z)
 growable c =
     let s = c .before .before .before .before in
     record {
@@ -52,7 +52,7 @@ first c =
     let s = c .before .before .before .before in
     record {
       few = A .seek .few;
-      words = level-room (sizeOf (s .args .starts .now)) (s .args .scratch .now) (A .seek .words) (A .seek .levels);
+      words = view-room (sizeOf (s .args .starts .now)) (s .args .scratch .now) (A .seek .words) (A .seek .levels);
       low = omega (arith, c .wide .ensures, A .node .low);
       high = omega (arith, c .wide .ensures, A .node .high);
       room = seed-fits A;
@@ -89,7 +89,7 @@ slice-write-scratch-2 : tie.Need-slice-write-scratch-2 Inv-loop μ-loop
 slice-write-scratch-2 c =
     let F = first c in
     let s = c .before .before .before .before in
-    omega (arith, length-set (s .args .scratch .now) (5 * (length (s .args .starts .now) - 1) + c .wide .result - 1) 1)
+    omega (arith, length-set (s .args .scratch .now) (3 * (length (s .args .starts .now) - 1) + c .wide .result - 1) 1)
 
 add-t : tie.Need-add-t Inv-loop μ-loop
 add-t c = let F = first c in omega arith
@@ -97,31 +97,31 @@ add-t c = let F = first c in omega arith
 loop-holds : tie.Need-loop-holds Inv-loop μ-loop
 loop-holds c =
     let s = c .before .before .before .before in
-    (ap (λ (x : ℕ). 5 * (length (s .args .starts .now) - 1) + x - 1) (c .wide .ensures), starts-of (passed (s .args .starts .now) (s .args .neighbours .now) (s .pre .0)), λ A B S. S, first c .few, first c .room)
+    (ap (λ (x : ℕ). 3 * (length (s .args .starts .now) - 1) + x - 1) (c .wide .ensures), starts-of (passed (s .args .starts .now) (s .args .neighbours .now) (s .pre .0)), λ A B S. S, first c .few, first c .room)
 
 -- the slice at the loop's first head
 begins : (c : tie.After-wide Inv-loop μ-loop) → List ℕ
 begins c =
     let s = c .before .before .before .before in
     let n = sizeOf (s .args .starts .now) in
-    set (set (s .args .scratch .now) (5 * n + c .wide .result - 1) 1) (n + s .args .s) (s .args .z)
+    set (set (s .args .scratch .now) (3 * n + c .wide .result - 1) 1) (n + s .args .s) (s .args .z)
 
 begun : (c : tie.After-wide Inv-loop μ-loop) → let s = c .before .before .before .before in let n = sizeOf (s .args .starts .now) in
-    Spreading (graphOf (s .args .starts .now) (s .args .neighbours .now)) n (wordsOf n (s .args .scratch .now)) (levelsOf n (s .args .scratch .now)) (s .args .s) (s .args .z) (wordsOf n (begins c)) (levelsOf n (begins c)) (s .args .s) (s .args .s + 1)
+    Spreading (graphOf (s .args .starts .now) (s .args .neighbours .now)) n (workOf n (s .args .scratch .now)) (heldOf n (s .args .scratch .now)) (s .args .s) (s .args .z) (workOf n (begins c)) (heldOf n (begins c)) (s .args .s) (s .args .s + 1)
 unfolding begins
 begun c =
     let s = c .before .before .before .before in
     let n = sizeOf (s .args .starts .now) in
     spread-begin-in (s .args .scratch .now) (growable c) (begins c)
-    (ap (λ (x : ℕ). set (set (s .args .scratch .now) (5 * n + x - 1) 1) (n + s .args .s) (s .args .z)) (c .wide .ensures))
+    (ap (λ (x : ℕ). set (set (s .args .scratch .now) (3 * n + x - 1) 1) (n + s .args .s) (s .args .z)) (c .wide .ensures))
 
 on : (c : tie.At-loop Inv-loop μ-loop) → let s = c .before .before .before .before .before in let n = sizeOf (s .args .starts .now) in
-    Spreading (graphOf (s .args .starts .now) (s .args .neighbours .now)) n (wordsOf n (s .args .scratch .now)) (levelsOf n (s .args .scratch .now)) (s .args .s) (s .args .z) (wordsOf n (c .loop .scratch)) (levelsOf n (c .loop .scratch)) (c .loop .h) (c .loop .t)
+    Spreading (graphOf (s .args .starts .now) (s .args .neighbours .now)) n (workOf n (s .args .scratch .now)) (heldOf n (s .args .scratch .now)) (s .args .s) (s .args .z) (workOf n (c .loop .scratch)) (heldOf n (c .loop .scratch)) (c .loop .h) (c .loop .t)
 unfolding begins
 on c =
     let s = c .before .before .before .before .before in
     let n = sizeOf (s .args .starts .now) in
-    c .loop .inv .2 (wordsOf n (s .args .scratch .now)) (levelsOf n (s .args .scratch .now)) (begun (c .before))
+    c .loop .inv .2 (workOf n (s .args .scratch .now)) (heldOf n (s .args .scratch .now)) (begun (c .before))
 
 room : (c : tie.At-loop Inv-loop μ-loop) → 6 * (length (c .before .before .before .before .before .args .starts .now) - 1) ≤ length (c .loop .scratch)
 room c = spread-room (c .before .before .before .before .before .args .scratch .now) (c .loop .scratch) (on c)
@@ -139,7 +139,7 @@ wide-requires-2 : tie.Need-wide-requires-2 Inv-loop μ-loop
 wide-requires-2 c κs = search needs
 
 -- the node that is read, in the words
-node-is : (c : tie.After-wide2 Inv-loop μ-loop) → let l = c .before .before .before .loop in let n = sizeOf (c .before .before .before .before .before .before .before .before .args .starts .now) in c .wide2 .result ≡ getD (wordsOf n (l .scratch)) (n + l .h) 0
+node-is : (c : tie.After-wide2 Inv-loop μ-loop) → let l = c .before .before .before .loop in let n = sizeOf (c .before .before .before .before .before .before .before .before .args .starts .now) in c .wide2 .result ≡ getD (workOf n (l .scratch)) (n + l .h) 0
 node-is c = c .wide2 .ensures ∙ spread-read (c .before .before .before .before .before .before .before .before .args .scratch .now) (c .before .before .before .loop .scratch) (on (c .before .before .before)) (c .before .before .loop-test .taken)
 
 row-requires : tie.Need-row-requires Inv-loop μ-loop
@@ -149,14 +149,14 @@ row-requires c κs =
 
 -- what `row` returns is the row of that node
 row-is : (c : tie.After-row Inv-loop μ-loop) → let s = c .before .before .before .before .before .before .before .before .before in let l = c .before .before .before .before .loop in let n = sizeOf (s .args .starts .now) in
-    c .row .result .now ≡ rowOf (s .args .starts .now) (s .args .neighbours .now) (getD (wordsOf n (l .scratch)) (n + l .h) 0)
+    c .row .result .now ≡ rowOf (s .args .starts .now) (s .args .neighbours .now) (getD (workOf n (l .scratch)) (n + l .h) 0)
 row-is c = let s = c .before .before .before .before .before .before .before .before .before in c .row .ensures ∙ ap (rowOf (s .args .starts .now) (s .args .neighbours .now)) (node-is (c .before))
 
 visit-requires : tie.Need-visit-requires Inv-loop μ-loop
 visit-requires c κs =
     let I = on (c .before .before .before .before .before) in
     let n = sizeOf (c .before .before .before .before .before .before .before .before .before .before .args .starts .now) in
-    (I .seek, subst (Nodes n) (sym (row-is (c .before))) (row-nodes (I .ask .graph) (I .ask .is) (getD (wordsOf n (c .before .before .before .before .before .loop .scratch)) (n + c .before .before .before .before .before .loop .h) 0)))
+    (I .seek, subst (Nodes n) (sym (row-is (c .before))) (row-nodes (I .ask .graph) (I .ask .is) (getD (workOf n (c .before .before .before .before .before .loop .scratch)) (n + c .before .before .before .before .before .loop .h) 0)))
 
 add-h : tie.Need-add-h Inv-loop μ-loop
 add-h c = omega (arith, t-most (on (c .before .before .before .before .before .before .before .before)), c .before .before .before .before .before .before .before .loop-test .taken, c .before .before .before .before .before .before .before .before .loop .inv .3)
@@ -187,14 +187,14 @@ same-length : tie.Need-same-length Inv-loop μ-loop
 same-length c =
     let l = c .before .loop in
     let s = c .before .before .before .before .before .before .args in
-    length-set (l .scratch) (5 * (length (s .starts .now) - 1) + c .before .before .wide .result - 1) (l .t - s .s) ∙ spread-same (s .scratch .now) (l .scratch) (on (c .before))
+    length-set (l .scratch) (3 * (length (s .starts .now) - 1) + c .before .before .wide .result - 1) (l .t - s .s) ∙ spread-same (s .scratch .now) (l .scratch) (on (c .before))
 
 returns : tie.Need-returns Inv-loop μ-loop
 returns c =
     let l = c .before .loop in
     let s = c .before .before .before .before .before .before .args in
     spread-done-in (s .scratch .now) (l .scratch) (on (c .before)) (c .loop-test .left)
-    (set (l .scratch) (5 * sizeOf (s .starts .now) + c .before .before .wide .result - 1) (l .t - s .s)) (ap (λ (x : ℕ). set (l .scratch) x (l .t - s .s)) (l .inv .0))
+    (set (l .scratch) (3 * sizeOf (s .starts .now) + c .before .before .wide .result - 1) (l .t - s .s)) (ap (λ (x : ℕ). set (l .scratch) x (l .t - s .s)) (l .inv .0))
 
 pub grow-spec : {M : Type 1} → statement M
 grow-spec =

@@ -7,7 +7,7 @@ use Prim.Native.Nat.{ℕ, _+_, _-_, _*_, _≤_}
 use native.Mathlib.Omega.{arith}
 use lib.ListN.{length, getD, set, length-set}
 use borrow.Author.Needs.{needs}
-use Rattle.combining.specs.Areas.{wordsOf, levelsOf}
+use Rattle.combining.specs.Areas.{workOf, heldOf}
 use Rattle.piecing.specs.Seek.{freshAt}
 use Rattle.piecing.proofs.Seeking.{Visiting, visit-begin, v-low, v-high, visit-old, t-in, visit-done}
 use Rattle.piecing.proofs.Slices.{visit-room, visit-same, visit-new-in}
@@ -15,7 +15,7 @@ use Rattle.combine.proofs.pieces.visit.Statement.{statement}
 use Rattle.combine.proofs.pieces.visit.Tie as tie
 
 abbrev Inv-loop : tie.InvT-loop
-Inv-loop row scratch₀ n tail t₀ k₀ scratch t k = Visiting n row (wordsOf n scratch₀) (levelsOf n scratch₀) tail (wordsOf n scratch) (levelsOf n scratch) t k
+Inv-loop row scratch₀ n tail t₀ k₀ scratch t k = Visiting n row (workOf n scratch₀) (heldOf n scratch₀) tail (workOf n scratch) (heldOf n scratch) t k
 
 abbrev μ-loop : tie.MeasureT-loop
 μ-loop row scratch₀ n tail t₀ k₀ scratch t k = length row - k
@@ -26,7 +26,7 @@ record Read (n : ℕ) (X : List ℕ) (t v : ℕ) : Type 0 where
   words : 6 * n ≤ length X
   low : 1 ≤ v
   high : v ≤ n
-  room : freshAt n (wordsOf n X) (levelsOf n X) v ≡ true → t + 1 ≤ n
+  room : freshAt n (workOf n X) (heldOf n X) v ≡ true → t + 1 ≤ n
 
 read : (c : tie.After-wide Inv-loop μ-loop) → let l = c .before .before .before in let s = c .before .before .before .before .before .before in Read (s .args .n) (l .loop .scratch) (l .loop .t) (c .wide .result)
 read c =
@@ -91,7 +91,7 @@ slice-write-scratch-2 : tie.Need-slice-write-scratch-2 Inv-loop μ-loop
 slice-write-scratch-2 c =
     let R = read (c .before .before .before .before) in
     let q = room (c .before) in
-    omega (arith, length-set (c .before .before .before .before .before .before .before .loop .scratch) (5 * c .before .before .before .before .before .before .before .before .before .before .args .n + c .before .before .before .before .wide .result - 1) 1)
+    omega (arith, length-set (c .before .before .before .before .before .before .before .loop .scratch) (3 * c .before .before .before .before .before .before .before .before .before .before .args .n + c .before .before .before .before .wide .result - 1) 1)
 
 add-t : tie.Need-add-t Inv-loop μ-loop
 add-t c = let R = read (c .before .before .before .before) in let q = room (c .before) in omega arith
@@ -110,7 +110,7 @@ loop-again c =
     let h = c .before .before .before .before .before .loop-test .taken in
     let e = c .before .before .before .wide .ensures in
     let v = c .before .before .before .wide .result in
-    let marked : List ℕ = set (l .scratch) (5 * s .n + v - 1) 1 in
+    let marked : List ℕ = set (l .scratch) (3 * s .n + v - 1) 1 in
     ⊎-elim
     (λ w. rw (w .2, w .3) (visit-new-in (s .scratch .now) (l .scratch) I h e (sym (c .before .fresh .ensures) ∙ w .0 .taken)
     (set marked (s .n + l .t) (getD (s .row .now) (l .k) 0)) (ap (set marked (s .n + l .t)) (sym e))))

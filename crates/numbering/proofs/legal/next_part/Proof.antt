@@ -5,7 +5,7 @@ use native.Mathlib.Omega.{arith}
 use borrow.Author.Needs.{needs}
 use denote.Ref.{now}
 use Rattle.numbering.specs.Ran.{Ran}
-use Rattle.numbering.proofs.Ran.{starts, ran-at, words-size, fits, some, lowest-node, size-is, half-blank, part-given, levels-blank, levels-size, few, parts-few, k-few, passes-low, ran-step}
+use Rattle.numbering.proofs.Ran.{starts, ran-at, words-size, fits, some, lowest-node, size-is, half-blank, part-given, levels-size, few, parts-few, k-few, passes-low, ran-step}
 use Rattle.numbering.proofs.legal.next_part.Statement.{statement}
 use Rattle.numbering.proofs.legal.next_part.Tie as tie
 
@@ -45,7 +45,7 @@ add-number-part c = omega (arith, few (at (c .before .before .before .before .be
 number-part-requires : tie.Need-number-part-requires
 number-part-requires c κs =
     let m = c .wide2 .ensures ∙ size-is (at (c .before .before .before .before .before .before .before .before .before)) (c .before .before .before .before .before .before .before .before .before .before .before .before .before .before .before .pre .0) refl (c .before .before .before .before .before .before .part-size .ensures .0) in
-    (c .before .before .before .before .before .before .before .before .before .before .before .before .before .before .before .pre .1 .legal, (part-given (at (c .before .before .before .before .before .before .before .before .before)) (c .before .before .before .before .before .before .before .before .before .before .before .before .before .before .before .pre .0) m (c .before .before .before .before .before .before .part-size .ensures .1), (levels-blank (at (c .before .before .before .before .before .before .before .before .before)) (c .before .before .before .before .before .before .before .before .before .before .before .before .before .before .before .pre .0) (c .before .before .before .before .before .before .part-size .ensures .1), (c .before .before .before .before .before .before .before .before .before .before .before .before .before .before .before .pre .1 .room, levels-size (c .before .before .before .before .before .before .before .before .before .before .before .before .before .before .before .pre .1)))))
+    (c .before .before .before .before .before .before .before .before .before .before .before .before .before .before .before .pre .1 .legal, (part-given (at (c .before .before .before .before .before .before .before .before .before)) (c .before .before .before .before .before .before .before .before .before .before .before .before .before .before .before .pre .0) m (c .before .before .before .before .before .before .part-size .ensures .1), (c .before .before .before .before .before .before .before .before .before .before .before .before .before .before .before .pre .1 .room, levels-size (c .before .before .before .before .before .before .before .before .before .before .before .before .before .before .before .pre .1))))
 
 add-t16 : tie.Need-add-t16
 add-t16 c = omega (arith, parts-few (at (c .before .before .before .before .before .before .before .before .before .before .before .before .before .before .before .before .before)) (c .before .before .before .before .before .before .before .before .before .before .before .before .before .before .before .before .before .before .before .before .before .before .before .pre .0))

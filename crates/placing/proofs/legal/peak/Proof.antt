@@ -1,11 +1,8 @@
 -- `placing::legal::peak` meets its contract: what was added is taken away again. Assumes nothing.
-use mathlib.Core.Path.{sym, ap, _∙_, subst}
-use mathlib.Core.List.{List}
-use Prim.Native.Nat.{ℕ}
+use mathlib.Core.Path.{_∙_}
+use native.Mathlib.Omega.{arith}
 use borrow.Author.Needs.{needs}
-use Rattle.combining.specs.Tally.{untally}
-use Rattle.combining.specs.Model.{slots, Full}
-use Rattle.combining.proofs.Counting.{raised-full, lowered}
+use Rattle.combining.proofs.Loops.{lower-ask, lower-back}
 use Rattle.placing.proofs.legal.peak.Statement.{statement}
 use Rattle.placing.proofs.legal.peak.Tie as tie
 
@@ -15,7 +12,8 @@ raise-requires c κs = search needs
 lower-requires : tie.Need-lower-requires
 lower-requires c κs =
     let s = c .before .before .before .before .before .before in
-    subst (λ (U : List ℕ). Full (s .args .n) (s .args .base) (s .args .s) (s .args .t) U) (sym (c .before .before .before .raise .ensures .1)) (raised-full (s .pre .read))
+    let r = c .before .before .before .raise in
+    (omega (arith, r .kept .0, s .pre .0), lower-ask (s .args .scratch .now) (s .pre .1) (r .last .0) (r .ensures .1 .0))
 
 same-length : tie.Need-same-length
 same-length c = search needs
@@ -24,7 +22,8 @@ returns : tie.Need-returns
 returns c =
     let s = c .before .before .before .before .before .before .before .before .before in
     let r = c .before .before .before .before .before .before .raise in
-    (r .ensures .0, c .before .before .lower .ensures ∙ ap (λ (U : List ℕ). untally U (slots (s .args .n) (s .args .base) (s .args .s) (s .args .t) U)) (r .ensures .1) ∙ lowered (s .pre .read))
+    let l = c .before .before .lower in
+    (r .ensures .0, (lower-back (s .args .scratch .now) (s .pre .1) (r .last .0) (r .ensures .1 .0) (l .last .0) (l .ensures .0), l .ensures .1 ∙ r .ensures .1 .1))
 
 pub peak-spec : {M : Type 1} → statement M
 peak-spec = tie.close (tie.spec raise-requires lower-requires same-length returns)

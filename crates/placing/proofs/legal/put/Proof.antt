@@ -2,9 +2,9 @@
 use Prim.Native.Nat.{_-_}
 use native.Mathlib.Omega.{arith}
 use borrow.Author.Needs.{needs}
-use Rattle.combining.specs.Areas.{wordsOf}
-use Rattle.combining.proofs.Areas.{Putting, put-begin, put-room, put-at, put-step, put-done}
+use Rattle.combining.specs.Areas.{workOf}
 use Rattle.combining.proofs.Counting.{Located}
+use Rattle.combining.proofs.Loops.{Putting, put-begin, put-at, put-step, put-done}
 use Rattle.placing.proofs.legal.put.Statement.{statement}
 use Rattle.placing.proofs.legal.put.Tie as tie
 
@@ -14,7 +14,7 @@ Inv-loop scratch₀ n base s t p₀ scratch p = Putting n base s t scratch₀ sc
 abbrev μ-loop : tie.MeasureT-loop
 μ-loop scratch₀ n base s t p₀ scratch p = t - p
 
-at-node : (c : tie.After-wide Inv-loop μ-loop) → let s = c .before .before .before .before .before in Located (s .args .n) (s .args .base) (wordsOf (s .args .n) (s .args .scratch .now)) (c .wide .result)
+at-node : (c : tie.After-wide Inv-loop μ-loop) → let s = c .before .before .before .before .before in Located (s .args .n) (s .args .base) (workOf (s .args .n) (c .before .before .before .loop .scratch)) (c .wide .result)
 at-node c = put-at (c .before .before .before .loop .inv) (c .before .before .loop-test .taken) (c .wide .ensures)
 
 loop-holds : tie.Need-loop-holds Inv-loop μ-loop
@@ -27,7 +27,7 @@ mul-wide : tie.Need-mul-wide Inv-loop μ-loop
 mul-wide c = let I = c .before .loop .inv in omega (arith, I .read .most, I .read .few)
 
 slice-read-wide : tie.Need-slice-read-wide Inv-loop μ-loop
-slice-read-wide c = let I = c .before .before .loop .inv in let h = c .before .loop-test .taken in omega (arith, I .read .most, put-room I)
+slice-read-wide c = let I = c .before .before .loop .inv in let h = c .before .loop-test .taken in omega (arith, I .read .most, I .room)
 
 wide-requires : tie.Need-wide-requires Inv-loop μ-loop
 wide-requires c κs = search needs
@@ -42,7 +42,7 @@ mul-scratch : tie.Need-mul-scratch Inv-loop μ-loop
 mul-scratch c = let F = at-node c in omega arith
 
 slice-read-scratch : tie.Need-slice-read-scratch Inv-loop μ-loop
-slice-read-scratch c = let F = at-node (c .before) in omega (arith, put-room (c .before .before .before .before .loop .inv))
+slice-read-scratch c = let F = at-node (c .before) in omega (arith, c .before .before .before .before .loop .inv .room)
 
 mul-scratch-2 : tie.Need-mul-scratch-2 Inv-loop μ-loop
 mul-scratch-2 c = let F = at-node (c .before) in omega arith
@@ -57,7 +57,7 @@ mul-scratch-3 : tie.Need-mul-scratch-3 Inv-loop μ-loop
 mul-scratch-3 c = let F = at-node (c .before) in omega arith
 
 slice-write-scratch : tie.Need-slice-write-scratch Inv-loop μ-loop
-slice-write-scratch c = let F = at-node (c .before) in omega (arith, put-room (c .before .before .before .before .loop .inv))
+slice-write-scratch c = let F = at-node (c .before) in omega (arith, c .before .before .before .before .loop .inv .room)
 
 add-p : tie.Need-add-p Inv-loop μ-loop
 add-p c = omega arith

@@ -4,24 +4,24 @@ use Prim.Native.Nat.{_-_, _<_, max}
 use native.Mathlib.Omega.{arith}
 use lib.ListN.{length}
 use borrow.Author.Needs.{needs}
-use Rattle.combining.proofs.Counting.{Raising, readable-on, raise-begin, at-in, at-fits, raise-step, raise-done}
+use Rattle.combining.proofs.Loops.{RaisingIn, raise-begin-in, raise-size, raise-room, raise-read, raise-in, raise-fits, raise-step-in, raise-done-in}
 use Rattle.placing.proofs.legal.raise.Statement.{statement}
 use Rattle.placing.proofs.legal.raise.Tie as tie
 
 abbrev Inv-loop : tie.InvT-loop
-Inv-loop scratch₀ n base s t top₀ p₀ scratch top p = Raising n base s t scratch₀ scratch top p
+Inv-loop scratch₀ n base s t top₀ p₀ scratch top p = RaisingIn n base s t scratch₀ scratch top p
 
 abbrev μ-loop : tie.MeasureT-loop
 μ-loop scratch₀ n base s t top₀ p₀ scratch top p = t - p
 
 in-words : (c : tie.After-slot Inv-loop μ-loop) → c .slot .result < length (c .before .before .before .loop .scratch)
-in-words c = at-in (c .before .before .before .loop .inv) (c .before .before .loop-test .taken) (c .slot .ensures)
+in-words c = raise-in (c .before .before .before .loop .inv) (c .before .before .loop-test .taken) (c .slot .ensures)
 
 loop-holds : tie.Need-loop-holds Inv-loop μ-loop
-loop-holds c = raise-begin (c .before .pre)
+loop-holds c = let p = c .before .pre in raise-begin-in (p .0) (p .1)
 
 slot-requires : tie.Need-slot-requires Inv-loop μ-loop
-slot-requires c κs = let I = c .before .before .loop .inv in (readable-on (I .read) (I .counts), (I .low, c .before .loop-test .taken))
+slot-requires c κs = let I = c .before .before .loop .inv in (raise-room I, (raise-read I, (I .on .low, c .before .loop-test .taken)))
 
 mul-c : tie.Need-mul-c Inv-loop μ-loop
 mul-c c = omega (arith, in-words c)
@@ -30,7 +30,7 @@ slice-read-c : tie.Need-slice-read-c Inv-loop μ-loop
 slice-read-c c = in-words (c .before)
 
 add-c : tie.Need-add-c Inv-loop μ-loop
-add-c c = omega (arith, at-fits (c .before .before .before .before .loop .inv) (c .before .before .before .loop-test .taken) (c .before .slot .ensures))
+add-c c = omega (arith, raise-fits (c .before .before .before .before .loop .inv) (c .before .before .before .loop-test .taken) (c .before .slot .ensures))
 
 mul-scratch : tie.Need-mul-scratch Inv-loop μ-loop
 mul-scratch c = omega (arith, in-words (c .before))
@@ -54,13 +54,13 @@ loop-again : tie.Need-loop-again Inv-loop μ-loop
 loop-again c =
     let w = c .before in
     let a = w .before .before in
-    raise-step (a .before .before .before .loop .inv) (a .before .before .loop-test .taken) (a .slot .ensures) (c .larger .ensures ∙ ap (max (a .before .before .before .loop .top)) (w .wide .ensures))
+    raise-step-in (a .before .before .before .loop .inv) (a .before .before .loop-test .taken) (a .slot .ensures) (c .larger .ensures ∙ ap (max (a .before .before .before .loop .top)) (w .wide .ensures))
 
 same-length : tie.Need-same-length Inv-loop μ-loop
-same-length c = c .before .loop .inv .counts .size
+same-length c = raise-size (c .before .loop .inv)
 
 returns : tie.Need-returns Inv-loop μ-loop
-returns c = raise-done (c .before .loop .inv) (c .loop-test .left)
+returns c = raise-done-in (c .before .loop .inv) (c .loop-test .left)
 
 pub raise-spec : {M : Type 1} → statement M
 raise-spec =

@@ -1,15 +1,17 @@
 -- `placing::legal::slot` meets its contract. Assumes nothing.
-use mathlib.Core.Path.{ap, _∙_}
-use Prim.Native.Nat.{ℕ, _-_, _*_}
+use mathlib.Core.Path.{_≡_}
+use Prim.Native.Nat.{_+_, _-_, _*_, _≤_}
 use native.Mathlib.Omega.{arith}
 use borrow.Author.Needs.{needs}
-use Rattle.combining.specs.Model.{numberAt}
-use Rattle.combining.proofs.Counting.{Located, located}
+use Rattle.combining.specs.Areas.{workOf}
+use Rattle.combining.specs.Model.{slotAt}
+use Rattle.combining.proofs.Counting.{Located}
+use Rattle.combining.proofs.Loops.{node-located, slot-is}
 use Rattle.placing.proofs.legal.slot.Statement.{statement}
 use Rattle.placing.proofs.legal.slot.Tie as tie
 
-at-node : (c : tie.After-wide) → let s = c .before .before .before in Located (s .args .n) (s .args .base) (s .args .scratch .now) (c .wide .result)
-at-node c = let s = c .before .before .before in located (s .pre .0) (s .pre .1 .0) (s .pre .1 .1) (c .wide .ensures)
+at-node : (c : tie.After-wide) → let s = c .before .before .before in Located (s .args .n) (s .args .base) (workOf (s .args .n) (s .args .scratch .now)) (c .wide .result)
+at-node c = let s = c .before .before .before in node-located (s .args .scratch .now) (s .pre .0) (s .pre .1 .0) (s .pre .1 .1 .0) (s .pre .1 .1 .1) (c .wide .ensures)
 
 add-wide : tie.Need-add-wide
 add-wide c = search needs
@@ -33,21 +35,26 @@ mul-wide-2 : tie.Need-mul-wide-2
 mul-wide-2 c = let F = at-node c in omega arith
 
 shared-slice-read-wide-2 : tie.Need-shared-slice-read-wide-2
-shared-slice-read-wide-2 c = at-node (c .before) .fits
+shared-slice-read-wide-2 c = let F = at-node (c .before) in omega (arith, c .before .before .before .before .pre .0)
 
 wide-requires-2 : tie.Need-wide-requires-2
 wide-requires-2 c κs = search needs
+
+-- the count word
+count : (c : tie.After-wide2) → let s = c .before .before .before .before .before in let n = s .args .n in let i = c .wide2 .result in
+    (i ≤ n) × (6 * n - i ≡ 2 * n + slotAt n (s .args .base) (workOf n (s .args .scratch .now)) (s .args .p))
+count c =
+    let s = c .before .before .before .before .before in
+    slot-is (s .args .scratch .now) (s .pre .0) (s .pre .1 .0) (s .pre .1 .1 .0) (s .pre .1 .1 .1) (c .before .before .wide .ensures) (c .wide2 .ensures)
 
 mul-result : tie.Need-mul-result
 mul-result c = let F = at-node (c .before .before) in omega arith
 
 sub-result : tie.Need-sub-result
-sub-result c = let F = at-node (c .before .before) in omega (arith, c .wide2 .ensures)
+sub-result c = omega (arith, count c .0)
 
 returns : tie.Need-returns
-returns c =
-    let s = c .before .before .before .before .before in
-    ap (λ (i : ℕ). 4 * s .args .n - i) (c .wide2 .ensures ∙ ap (λ (z : ℕ). numberAt (s .args .base) (s .args .scratch .now) z) (c .before .before .wide .ensures))
+returns c = count c .1
 
 pub slot-spec : {M : Type 1} → statement M
 slot-spec =

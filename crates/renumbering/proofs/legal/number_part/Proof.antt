@@ -46,18 +46,18 @@ sequence-requires : tie.Need-sequence-requires
 sequence-requires c κs =
     let s = c .before .before .before .before .before .before .before .before .before .before in
     let f = c .before .before .before .combine-part .ensures in
-    (s .pre .0, sequence-ok (graph s) (few s) (now (s .args .scratch)) (given s) (s .pre .1 .1 .0) (f .1) (ap (λ r. r .k) (f .0)) (ap (λ r. r .v) (f .0)) (ap (λ r. r .u) (f .0)))
+    (s .pre .0, sequence-ok (graph s) (few s) (now (s .args .scratch)) (given s) (f .1) (ap (λ r. r .k) (f .0)) (ap (λ r. r .v) (f .0)) (ap (λ r. r .u) (f .0)))
 
 give-numbers-requires : tie.Need-give-numbers-requires
 give-numbers-requires c κs =
     let s = c .before .before .before .before .before .before .before .before .before .before .before .before .before .before .before in
-    number-ok (graph s) (few s) (now (s .args .scratch)) (given s) (s .pre .1 .1 .0) (c .before .before .before .before .before .before .before .before .combine-part .ensures .1) (c .before .before .before .before .sequence .ensures .1) (s .pre .1 .1 .1 .0)
+    number-ok (graph s) (few s) (now (s .args .scratch)) (given s) (c .before .before .before .before .before .before .before .before .combine-part .ensures .1) (c .before .before .before .before .sequence .ensures .1) (s .pre .1 .1 .0)
 
 give-levels-requires : tie.Need-give-levels-requires
 give-levels-requires c κs =
     let s = c .before .before .before .before .before .before .before .before .before .before .before .before .before .before .before .before .before .before .before .before .before .before in
-    let k = give-ok (graph s) (few s) (now (s .args .scratch)) (given s) (s .pre .1 .1 .0) (c .before .before .before .before .before .before .before .before .before .before .before .before .before .before .before .combine-part .ensures .1) (c .before .before .before .before .before .before .before .before .before .before .before .sequence .ensures .1) (c .before .before .before .before .before .before .give-numbers .ensures .0) in
-    (k .0, (k .1, s .pre .1 .1 .1 .1))
+    let k = give-ok (graph s) (few s) (now (s .args .scratch)) (given s) (c .before .before .before .before .before .before .before .before .before .before .before .before .before .before .before .combine-part .ensures .1) (c .before .before .before .before .before .before .before .before .before .before .before .sequence .ensures .1) (c .before .before .before .before .before .before .give-numbers .ensures .0) in
+    (k .0, (k .1, s .pre .1 .1 .1))
 
 same-length : tie.Need-same-length
 same-length c = search needs
@@ -77,10 +77,10 @@ returns c =
     let q = c .before .before .before .before .give-levels .ensures in (
       figures-done (graph s) (few s) (now (s .args .scratch)) (given s) (f .0),
       (
-        scratch-done (graph s) (few s) (now (s .args .scratch)) (given s) (s .pre .1 .1 .0) (f .1) o (p .0) (q .0),
+        scratch-done (graph s) (few s) (now (s .args .scratch)) (given s) (f .1) o (p .0) (q .0),
         (
-          numbers-done (graph s) (few s) (now (s .args .scratch)) (given s) (s .pre .1 .1 .0) (f .1) o (now (s .args .numbers)) (s .pre .1 .1 .1 .0) (p .1),
-          levels-done (graph s) (few s) (now (s .args .scratch)) (given s) (s .pre .1 .1 .0) (f .1) o (p .0) (now (s .args .levels)) (s .pre .1 .1 .1 .1) (q .1),
+          numbers-done (graph s) (few s) (now (s .args .scratch)) (given s) (f .1) o (now (s .args .numbers)) (s .pre .1 .1 .0) (p .1),
+          levels-done (graph s) (few s) (now (s .args .scratch)) (given s) (f .1) o (p .0) (now (s .args .levels)) (s .pre .1 .1 .1) (q .1),
         ),
       ),
     )

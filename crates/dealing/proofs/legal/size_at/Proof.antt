@@ -1,9 +1,9 @@
--- `combine::pieces::size_at` meets its contract. Assumes nothing.
+-- `dealing::legal::size_at` meets its contract. Assumes nothing.
 use native.Mathlib.Omega.{arith}
 use borrow.Author.Needs.{needs}
 use Rattle.piecing.proofs.Slices.{size-room, w-low, w-high, size-is}
-use Rattle.combine.proofs.pieces.size_at.Statement.{statement}
-use Rattle.combine.proofs.pieces.size_at.Tie as tie
+use Rattle.dealing.proofs.legal.size_at.Statement.{statement}
+use Rattle.dealing.proofs.legal.size_at.Tie as tie
 
 add-wide : tie.Need-add-wide
 add-wide c = search needs
