@@ -2,6 +2,7 @@
 
 import cases
 import files
+import paper
 import shapes
 from cases import CALLS, Case, fields
 from graph import MOST_ENTRIES, from_edges
@@ -33,6 +34,13 @@ def every_call(kind, lists, node, numbering, n):
     need = cases.byte_count(lists, numbering) if len(lists[0]) == n + 1 else 2
     yield Case(kind, 'elimination', *lists, numbering, 0, n, 0, 0, need)
     yield Case(kind, 'run and eliminate', *lists, [], 0, n, n, 8 * n, 40000)
+
+
+def of_paper(draw, count):
+    """The worked example of the 1976 paper, under so many old numbers."""
+    for _ in range(count):
+        lists, _ = paper.example(draw.source)
+        yield from every_call('paper', lists, 1 + draw.below(24), list(range(1, 25)), 24)
 
 
 def wide():
@@ -108,7 +116,7 @@ def at_random(draw, count):
 
 def some(draw, count):
     """What is run in some minutes."""
-    for made in (cases.small(draw, 1, 5), cases.of_table(draw), at_random(draw, count), cases.limits(draw), wide(),
+    for made in (cases.small(draw, 1, 5), cases.of_table(draw), of_paper(draw, 20), at_random(draw, count), cases.limits(draw), wide(),
                  cases.of_many_parts(), cases.full_meshes(), cases.long_meshes(), full_size(draw)):
         for c in made:
             yield of_case(draw, c)

@@ -72,7 +72,7 @@ def seen(library, altered, trial):
 
 def fault_seen():
     with tempfile.TemporaryDirectory() as folder, contextlib.redirect_stdout(io.StringIO()) as printed:
-        status = compare.watched(Faulting(), compare.options(['--only', 'mesh']), folder)
+        status = compare.watched(Faulting(), compare.options(['--only', 'test_adjacency']), folder)
         return status and len(saved_in(folder)) == 1 and 'ended by signal' in printed.getvalue()
 
 

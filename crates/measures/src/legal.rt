@@ -1,16 +1,55 @@
-// The three measures of a legal graph under a numbering: for the call, and for the crates above.
+// The three measures of a legal graph under a numbering: for the call, and for the crates above. One walk over the rows finds f_q for
+// each number q: the profile is the sum of q − f_q; the bandwidth is the greatest, as each edge is seen from its higher end; and the
+// front follows from how often each f occurs.
 ghost use mathlib.Core.Path.{_≡_};
 ghost use mathlib.Core.Bool.{true};
 ghost use lib.ListN.{length, replicate};
 ghost use Rattle.spec.specs.CallsNumbering.{measureFigures};
 ghost use Rattle.spec.specs.Graph.{sizeOf, graphOf};
-ghost use Rattle.spec.specs.Measures.{isNumbering, renumbered};
+ghost use Rattle.spec.specs.Measures.{isNumbering, renumbered, bandwidth, profile};
 ghost use Rattle.graph.specs.Facts.{LegalLists};
 ghost use Rattle.measures.specs.Answer.{three};
+ghost use Rattle.measures.specs.Fronts.{opened};
 use crate::answer::Measures;
-use crate::band::bandwidth;
-use crate::fronts::front;
-use envelope::legal::profile;
+use crate::fronts::sweep;
+use envelope::legal::first;
+use envelope::legal::number;
+use words::larger;
+use words::legal::clear;
+
+// What the spans q − f_q give: the greatest and the sum.
+struct Spans {
+    bandwidth: u32,
+    profile: u32,
+}
+
+// Bandwidth and profile, and for each number i the count of the numbers j with f_j = i.
+fn walk(starts: &[u16], neighbours: &[u16], numbering: &[u16], counts: &mut [u16]) -> Spans
+    requires { ⌜ LegalLists (now starts) (now neighbours) ⌝ }
+    requires { ⌜ isNumbering (sizeOf (now starts)) (now numbering) ≡ true ⌝ }
+    requires { ⌜ now counts ≡ replicate (sizeOf (now starts)) 0 ⌝ }
+    ensures { λ r. ⌜ r .bandwidth ≡ bandwidth (renumbered (graphOf (now (starts .entry)) (now (neighbours .entry))) (now (numbering .entry))) ⌝ }
+    ensures { λ r. ⌜ r .profile ≡ profile (renumbered (graphOf (now (starts .entry)) (now (neighbours .entry))) (now (numbering .entry))) ⌝ }
+    ensures { λ _. ⌜ now (counts .exit) ≡ opened (graphOf (now (starts .entry)) (now (neighbours .entry))) (now (numbering .entry)) (sizeOf (now (starts .entry))) ⌝ }
+{
+    let n = numbering.len();
+    let mut widest = 0;
+    let mut sum: u32 = 0;
+    let mut p = 0;
+    while p < n {
+        p += 1;
+        let f = first(starts, neighbours, numbering, p);
+        let span = number(numbering, p) - f;
+        widest = larger(widest, span);
+        sum += span as u32;
+        let i = f - 1;
+        counts[i] = counts[i] + 1;
+    }
+    Spans {
+        bandwidth: widest as u32,
+        profile: sum,
+    }
+}
 
 // Bandwidth, profile and front. The n words lent end as 0.
 pub fn figures(
@@ -25,12 +64,12 @@ pub fn figures(
     ensures { λ r. ⌜ three r ≡ measureFigures (renumbered (graphOf (now (starts .entry)) (now (neighbours .entry))) (now (numbering .entry))) ⌝ }
     ensures { λ _. ⌜ now (counts .exit) ≡ replicate (sizeOf (now (starts .entry))) 0 ⌝ }
 {
-    let widest = bandwidth(starts, neighbours, numbering);
-    let sum = profile(starts, neighbours, numbering);
-    let most = front(starts, neighbours, numbering, counts);
+    clear(counts, numbering.len());
+    let spans = walk(starts, neighbours, numbering, counts);
+    let most = sweep(counts);
     Measures {
-        bandwidth: widest,
-        profile: sum,
-        front: most,
+        bandwidth: spans.bandwidth,
+        profile: spans.profile,
+        front: most as u32,
     }
 }

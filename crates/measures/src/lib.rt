@@ -4,7 +4,6 @@ ghost use Rattle.spec.specs.CallsNumbering.{measuresAnswer, measuresScratch};
 ghost use Rattle.measures.specs.Answer.{meaning};
 
 mod answer;
-mod band;
 mod fronts;
 pub mod legal;
 
