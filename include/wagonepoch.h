@@ -30,7 +30,7 @@
 
    WHAT IS LEFT. Where a call answers 0 its figures stand in the front of `figures`, its results in the front of their lists, and the scratch
    words that it asks for are 0. A longer list keeps its excess. A refusal leaves every lent list as it was, but for the first n scratch words,
-   which are 0 after 7, 8 and 11; wagonepoch_listing also writes the line of its refusal. Lent lists need not be cleared before a call. */
+   which are 0 after 7, 8 and 11; wagonepoch_listing also writes the line of its refusal and may fill `words`. Lent lists need not be cleared. */
 
 #ifndef WAGONEPOCH_H
 #define WAGONEPOCH_H

@@ -43,14 +43,10 @@ module _ (n m : ℕ) (o R W : List ℕ) (len : length o ≡ m) (e : W ≡ laid n
       let z : length (replicate {A = ℕ} n 0) ≡ n = length-replicate n 0 in
       omega (arith, ap length e, length-append (replicate n 0) (o ++ R), length-append o R)
 
-  -- so the profile can be had of them
+  -- so the profiles can be had of them
   pub laid-ready : {S N : List ℕ} → n ≡ sizeOf S → Part S N o
       → ((n ≡ sizeOf S) × (n + m ≤ length W)) × (Part S N (segment n m W) × Clean n (segment n m W) W)
   laid-ready {S} {N} size P = ((size, laid-fits), (subst (λ (p : List ℕ). Part S N p) (sym laid-order) P, laid-clean (segment n m W)))
-
-  -- and they are the same afterwards
-  pub laid-after : (v : List ℕ) → v ≡ replicate n 0 ++ drop n W → v ≡ laid n o R
-  laid-after v q = q ∙ ap (λ (l : List ℕ). replicate n 0 ++ l) behind
 
   -- the order turned round in its place
   pub laid-turned : (t : List ℕ) → t ≡ reverse (midOf n (n + m - n) W) → putMid n (n + m - n) W t ≡ laid n (reverse o) R

@@ -2,15 +2,31 @@
 // and entries: nothing here is n.
 ghost use mathlib.Core.Path.{_≡_};
 ghost use mathlib.Core.Bool.{cond};
-ghost use mathlib.Core.List.{_++_, reverse};
-ghost use Prim.Native.Nat.{_+_, _≤_, _<_, suc};
+ghost use mathlib.Core.List.{_++_, map, reverse};
+ghost use Prim.Native.Nat.{_+_, _-_, _≤_, _<_, max, suc};
 ghost use lib.ListN.{length, drop, replicate};
-ghost use Rattle.spec.specs.Graph.{sizeOf, graphOf};
+ghost use Rattle.basis.specs.Lists.{greatest, least};
+ghost use Rattle.spec.specs.Graph.{sizeOf, graphOf, ofNode};
 ghost use Rattle.spec.specs.Measures.{inOrder, rowSpan, profile};
 ghost use Rattle.spec.specs.Numbering.{turns};
+ghost use Rattle.envelope.specs.Numbers.{Words};
 ghost use Rattle.turning.specs.Places.{segment, Listed, Part, Clean, Placed, Put};
-use envelope::legal::row_first;
+use envelope::legal::number;
+use words::larger;
+use words::smaller;
 use words::wide;
+
+// The least and the greatest place of a node and its row.
+struct Range {
+    first: usize,
+    last: usize,
+}
+
+// How far one row reaches below the diagonal, or all rows together: in the order, and in the order reversed.
+struct Both {
+    forward: u32,
+    backward: u32,
+}
 
 // Puts the place of each node of the order, counted from 1, at its old number.
 fn put_places(work: &mut [u16], n: usize, m: usize)
@@ -41,48 +57,84 @@ fn wipe(work: &mut [u16], n: usize, m: usize)
     }
 }
 
-// How far the row of the node at place a + 1 reaches below the diagonal.
-fn span(starts: &[u16], neighbours: &[u16], work: &[u16], n: usize, m: usize, a: usize) -> u32
+// The places of a row, with that of its own node.
+fn ends(row: &[u16], places: &[u16], own: usize) -> Range
+    requires { ⌜ Words (length (now places)) (now row) ⌝ }
+    ensures { λ r. ⌜ r .first ≡ least own (map (ofNode (now (places .entry))) (now (row .entry))) ⌝ }
+    ensures { λ r. ⌜ r .last ≡ max own (greatest (map (ofNode (now (places .entry))) (now (row .entry)))) ⌝ }
+{
+    let mut first = own;
+    let mut last = own;
+    let mut j = 0;
+    while j < row.len() {
+        let q = wide(row[j]);
+        let a = number(places, q);
+        first = smaller(first, a);
+        last = larger(last, a);
+        j += 1;
+    }
+    Range {
+        first: first,
+        last: last,
+    }
+}
+
+// The spans of the node at place a + 1, which is place m − a of the order reversed: what lies above the diagonal lies below it then.
+fn span(starts: &[u16], neighbours: &[u16], work: &[u16], n: usize, m: usize, a: usize) -> Both
     requires { ⌜ (n ≡ sizeOf (now starts)) × (n + m ≤ length (now work)) × (a < m) ⌝ }
     requires { ⌜ Part (now starts) (now neighbours) (segment n m (now work)) ⌝ }
     requires { ⌜ Placed (segment n m (now work)) (now work) ⌝ }
-    ensures { λ r. ⌜ r ≡ rowSpan (inOrder (graphOf (now (starts .entry)) (now (neighbours .entry))) (segment n m (now (work .entry)))) (suc a) ⌝ }
+    ensures { λ r. ⌜ r .forward ≡ rowSpan (inOrder (graphOf (now (starts .entry)) (now (neighbours .entry))) (segment n m (now (work .entry)))) (suc a) ⌝ }
+    ensures { λ r. ⌜ r .backward ≡ rowSpan (inOrder (graphOf (now (starts .entry)) (now (neighbours .entry))) (reverse (segment n m (now (work .entry))))) (m - a) ⌝ }
 {
     let z = wide(work[n + a]);
     let row = graph::legal::row(starts, neighbours, z);
     let own = a + 1;
-    let reach = own - row_first(row, &work[..n], own);
-    reach as u32
+    let e = ends(row, &work[..n], own);
+    let below = own - e.first;
+    let above = e.last - own;
+    Both {
+        forward: below as u32,
+        backward: above as u32,
+    }
 }
 
-// The sum of the spans.
-fn spans(starts: &[u16], neighbours: &[u16], work: &[u16], n: usize, m: usize) -> u32
+// The sums of the spans.
+fn spans(starts: &[u16], neighbours: &[u16], work: &[u16], n: usize, m: usize) -> Both
     requires { ⌜ (n ≡ sizeOf (now starts)) × (n + m ≤ length (now work)) ⌝ }
     requires { ⌜ Part (now starts) (now neighbours) (segment n m (now work)) ⌝ }
     requires { ⌜ Placed (segment n m (now work)) (now work) ⌝ }
-    ensures { λ r. ⌜ r ≡ profile (inOrder (graphOf (now (starts .entry)) (now (neighbours .entry))) (segment n m (now (work .entry)))) ⌝ }
+    ensures { λ r. ⌜ r .forward ≡ profile (inOrder (graphOf (now (starts .entry)) (now (neighbours .entry))) (segment n m (now (work .entry)))) ⌝ }
+    ensures { λ r. ⌜ r .backward ≡ profile (inOrder (graphOf (now (starts .entry)) (now (neighbours .entry))) (reverse (segment n m (now (work .entry))))) ⌝ }
 {
-    let mut sum: u32 = 0;
+    let mut forward: u32 = 0;
+    let mut backward: u32 = 0;
     let mut a = 0;
     while a < m {
-        sum += span(starts, neighbours, work, n, m, a);
+        let s = span(starts, neighbours, work, n, m, a);
+        forward += s.forward;
+        backward += s.backward;
         a += 1;
     }
-    sum
+    Both {
+        forward: forward,
+        backward: backward,
+    }
 }
 
-// The profile of a part in its order. The first n words end as 0.
-pub fn profile(starts: &[u16], neighbours: &[u16], work: &mut [u16], n: usize, m: usize) -> u32
+// The profiles of a part in its order and in that reversed. The first n words end as 0.
+fn profiles(starts: &[u16], neighbours: &[u16], work: &mut [u16], n: usize, m: usize) -> Both
     requires { ⌜ (n ≡ sizeOf (now starts)) × (n + m ≤ length (now work)) ⌝ }
     requires { ⌜ Part (now starts) (now neighbours) (segment n m (now work)) ⌝ }
     requires { ⌜ Clean n (segment n m (now work)) (now work) ⌝ }
-    ensures { λ r. ⌜ r ≡ profile (inOrder (graphOf (now (starts .entry)) (now (neighbours .entry))) (segment n m (now (work .entry)))) ⌝ }
+    ensures { λ r. ⌜ r .forward ≡ profile (inOrder (graphOf (now (starts .entry)) (now (neighbours .entry))) (segment n m (now (work .entry)))) ⌝ }
+    ensures { λ r. ⌜ r .backward ≡ profile (inOrder (graphOf (now (starts .entry)) (now (neighbours .entry))) (reverse (segment n m (now (work .entry))))) ⌝ }
     ensures { λ _. ⌜ now (work .exit) ≡ replicate n 0 ++ drop n (now (work .entry)) ⌝ }
 {
     put_places(work, n, m);
-    let sum = spans(starts, neighbours, work, n, m);
+    let sums = spans(starts, neighbours, work, n, m);
     wipe(work, n, m);
-    sum
+    sums
 }
 
 // The words in the reverse order.
@@ -108,12 +160,10 @@ pub fn turn(starts: &[u16], neighbours: &[u16], work: &mut [u16], n: usize, m: u
     ensures { λ r. ⌜ r ≡ turns (graphOf (now (starts .entry)) (now (neighbours .entry))) (segment n m (now (work .entry))) ⌝ }
     ensures { λ r. ⌜ now (work .exit) ≡ replicate n 0 ++ (cond r (reverse (segment n m (now (work .entry)))) (segment n m (now (work .entry))) ++ drop (n + m) (now (work .entry))) ⌝ }
 {
-    let forward = profile(starts, neighbours, work, n, m);
-    turn_round(&mut work[n..n + m]);
-    let backward = profile(starts, neighbours, work, n, m);
-    if backward < forward {
+    let both = profiles(starts, neighbours, work, n, m);
+    if both.backward < both.forward {
+        turn_round(&mut work[n..n + m]);
         return true;
     }
-    turn_round(&mut work[n..n + m]);
     false
 }

@@ -1,7 +1,7 @@
--- `turning::legal::profile` meets its contract. Assumes nothing.
+-- `turning::legal::profiles` meets its contract. Assumes nothing.
 use Prim.Native.Nat.{ℕ}
 use mathlib.Core.Path.{ap, _∙_}
-use mathlib.Core.List.{List, _++_}
+use mathlib.Core.List.{List, _++_, reverse}
 use borrow.Author.Needs.{needs}
 use denote.Ref.{now}
 use lib.ListN.{replicate}
@@ -9,8 +9,8 @@ use Rattle.spec.specs.Graph.{graphOf}
 use Rattle.turning.specs.Places.{segment}
 use Rattle.turning.proofs.Spans.{profile-same}
 use Rattle.turning.proofs.Ready.{ready-small, ready-listed, order-kept, fit-after, part-after, listed-after, placed-after, clean-after}
-use Rattle.turning.proofs.legal.profile.Statement.{statement}
-use Rattle.turning.proofs.legal.profile.Tie as tie
+use Rattle.turning.proofs.legal.profiles.Statement.{statement}
+use Rattle.turning.proofs.legal.profiles.Tie as tie
 
 put-places-requires : tie.Need-put-places-requires
 put-places-requires c κs =
@@ -37,11 +37,14 @@ wipe-requires c κs =
 returns : tie.Need-returns
 returns c =
     let s = c .before .before .before .before .before .before .before .before .before .before .before .before .before in
-    let p = c .before .before .before .before .before .before .before .before .put-places in (
-      profile-same (graphOf (now (s .args .starts)) (now (s .args .neighbours))) (segment (s .args .n) (s .args .m) (now (s .args .work)))
-          (order-kept (s .args .n) (s .args .m) (now (s .args .work)) (s .pre .0 .0) (s .pre .0 .1) (s .pre .1 .0) (p .last .0) (p .ensures)) (c .before .before .before .before .spans .ensures),
-      c .before .before .wipe .ensures ∙ ap (λ (l : List ℕ). replicate (s .args .n) 0 ++ l) (p .ensures .behind),
+    let p = c .before .before .before .before .before .before .before .before .put-places in
+    let g = graphOf (now (s .args .starts)) (now (s .args .neighbours)) in
+    let o = segment (s .args .n) (s .args .m) (now (s .args .work)) in
+    let e = order-kept (s .args .n) (s .args .m) (now (s .args .work)) (s .pre .0 .0) (s .pre .0 .1) (s .pre .1 .0) (p .last .0) (p .ensures) in
+    let r = c .before .before .before .before .spans .ensures in (
+      profile-same g o e (r .0),
+      (profile-same g (reverse o) (ap reverse e) (r .1), c .before .before .wipe .ensures ∙ ap (λ (l : List ℕ). replicate (s .args .n) 0 ++ l) (p .ensures .behind)),
     )
 
-pub profile-spec : {M : Type 1} → statement M
-profile-spec = tie.close (tie.spec put-places-requires spans-requires wipe-requires (λ c. search needs) returns)
+pub profiles-spec : {M : Type 1} → statement M
+profiles-spec = tie.close (tie.spec put-places-requires spans-requires wipe-requires (λ c. search needs) returns)
