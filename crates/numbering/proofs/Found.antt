@@ -8,14 +8,15 @@ use native.Mathlib.Numerals.{add-one}
 use native.Mathlib.Omega.{arith}
 use lib.ListN.{length, take, drop, length-append, length-map, take-append-drop}
 use lib.Seq.{take-all, take-suc, drop-cons}
-use lib.Dec.{eqb}
-use Rattle.basis.specs.Lists.{filterb, joinAll, memb, greatest, sum, position}
+use lib.Dec.{eqb, ltb}
+use Rattle.basis.specs.Lists.{filterb, joinAll, memb, greatest, sum, position, chainb}
 use Rattle.basis.specs.Perm.{times}
 use Rattle.basis.proofs.Count.{length-filter, count-append, count-length, memb-times, none-times}
 use Rattle.basis.proofs.Index.{greatest-le, position-left, position-right}
 use Rattle.basis.proofs.Lists.{map-map, map-append, map-cong, memb-append, join-make, join-last, join-append, sum-append}
 use Rattle.basis.proofs.Logic.{by-test, clash, fails, or-left, or-right, or-split, eqb-self}
 use Rattle.basis.proofs.Perm.{perm-length, perm-memb}
+use Rattle.basis.proofs.Sort.{chain-tail}
 use Rattle.spec.specs.Ends.{depthAt, ends}
 use Rattle.spec.specs.Graph.{Graph, nodes, ofNode}
 use Rattle.spec.specs.Levels.{levels, part, leads, leaders, parts}
@@ -46,6 +47,14 @@ take-map f (suc j) (x ∷ l) = ap (λ (t : List _). f x ∷ t) (take-map f j l)
 
 take-memb : (x j : ℕ) (l : List ℕ) → memb x (take j l) ≡ true → memb x l ≡ true
 take-memb x j l m = sym (ap (memb x) (take-append-drop j l)) ∙ memb-append x (take j l) (drop j l) ∙ or-left _ m
+
+pub drop-memb : (x j : ℕ) (l : List ℕ) → memb x (drop j l) ≡ true → memb x l ≡ true
+drop-memb x j l m = sym (ap (memb x) (take-append-drop j l)) ∙ memb-append x (take j l) (drop j l) ∙ or-right (memb x (take j l)) m
+
+pub rise-drop : (j : ℕ) (l : List ℕ) → chainb ltb l ≡ true → chainb ltb (drop j l) ≡ true
+rise-drop zero l e = e
+rise-drop (suc j) [] e = refl
+rise-drop (suc j) (x ∷ l) e = rise-drop j l (chain-tail ltb x l e)
 
 -- ---- one part more
 

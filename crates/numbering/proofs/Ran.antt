@@ -1,21 +1,25 @@
 -- The run part by part: what holds before the first part, what the next part asks and leaves, and what holds after the last. Assumes nothing.
 use mathlib.Core.Path.{_≡_, refl, sym, ap, _∙_, subst}
-use mathlib.Core.Bool.{true, cond}
-use mathlib.Core.List.{List, _++_, map, append-assoc}
+use mathlib.Core.Bool.{Bool, true, false, cond}
+use mathlib.Core.List.{List, _∷_, _++_, map, append-assoc}
 use Prim.Native.Nat.{ℕ, suc, _+_, _-_, _*_, _≤_, _<_, max}
+use native.Mathlib.Numerals.{add-one}
 use native.Mathlib.Omega.{arith}
 use lib.ListN.{length, getD, take, drop, replicate, length-append, length-map, length-replicate, getD-replicate}
-use lib.Seq.{slice, take-at, take-take, drop-at, getD-take, length-take-le}
-use Rattle.basis.specs.Lists.{joinAll, memb, greatest, sum, position, upFrom}
-use Rattle.basis.proofs.Lists.{map-cong, upFrom-in}
-use Rattle.basis.proofs.Logic.{clash}
+use lib.Seq.{slice, take-at, take-take, drop-at, drop-cons, getD-take, length-take-le}
+use lib.Dec.{eqb, ltb}
+use Rattle.basis.specs.Lists.{joinAll, memb, greatest, sum, position, upFrom, chainb}
+use Rattle.basis.proofs.Lists.{map-cong, upFrom-in, filter-in}
+use Rattle.basis.proofs.Logic.{clash, fails, or-left, or-right, eqb-self}
+use Rattle.basis.proofs.Rise.{rise-head}
 use Rattle.spec.specs.Graph.{Graph, graphOf, sizeOf, graphRefusal, nodes, ofNode}
-use Rattle.spec.specs.Levels.{part, parts}
+use Rattle.spec.specs.Levels.{part, leads, leaders, parts}
 use Rattle.spec.specs.Measures.{numbersOf}
 use Rattle.spec.specs.Numbering.{PartResult, partResult, partResults, wholeOrder, wholeLevels, figuresOf, runOf, run}
 use Rattle.laws.specs.Legal.{Node, LegalGraph, Starts}
 use Rattle.laws.proofs.Legal.{ofNode-at, ofNode-map, by-node, length-nodes}
-use Rattle.laws.proofs.Levels.{part-node}
+use Rattle.laws.proofs.Levels.{part-node, part-self}
+use Rattle.laws.proofs.Parts.{leaders-in, leaders-rise, parts-apart}
 use Rattle.laws.proofs.Numberings.{number-of, numbers-length, order-memb}
 use Rattle.laws.proofs.Refused.{passed, starts-of, not-refused}
 use Rattle.laws.proofs.Whole.{whole-perm}
@@ -25,13 +29,14 @@ use Rattle.piecing.specs.Starts.{membersOf}
 use Rattle.search.proofs.Stores.{take-replicate}
 use Rattle.levels.specs.Part.{PartGiven}
 use Rattle.levels.proofs.OnePart.{members-lent}
+use Rattle.parts.specs.Found.{Sized}
 use Rattle.parts.specs.Walked.{Walked, leaderAt}
 use Rattle.parts.proofs.Leads.{parts-length}
-use Rattle.parts.proofs.Walk.{walk-begin, walk-end, walk-next, next-node, next-some, next-fits, scratch-first, scratch-part}
+use Rattle.parts.proofs.Walk.{walk-begin, walk-end, walk-next, next-leads, next-node, next-some, next-fits, scratch-first, scratch-part}
 use Rattle.renumbering.specs.Part.{numberFrom, renewed, partFiguresOf}
 use Rattle.renumbering.specs.declared.shape.PartFigures.{PartFigures}
 use Rattle.numbering.specs.Ran.{foundTo, Ran, Summed}
-use Rattle.numbering.proofs.Found.{parts-most, sum-next, greatest-next, depth-few, passes-few, numbers-next, levels-new, levels-next, found-all, found-count}
+use Rattle.numbering.proofs.Found.{drop-memb, rise-drop, parts-most, sum-next, greatest-next, depth-few, passes-few, numbers-next, levels-new, levels-next, found-all, found-count}
 
 module _ (S N : List ℕ) (legal : graphRefusal S N ≡ 0) where
   pub graph : LegalGraph (graphOf S N)
@@ -62,17 +67,18 @@ zero-level : (g : Graph) (q : ℕ) → Node g q → ofNode (replicate (g .size) 
 zero-level g q N =
     ofNode-at (replicate (g .size) 0) q (N .low) ∙ getD-replicate (g .size) (q - 1) 0 0 (omega (arith, N .low, N .high))
 
-pub ran-begin : {S N X L W : List ℕ} (E : List ℕ) → graphRefusal S N ≡ 0 → length X ≡ sizeOf S → L ≡ replicate (sizeOf S) 0
+pub ran-begin : {S N X L W : List ℕ} (E : List ℕ) → graphRefusal S N ≡ 0 → Sized (graphOf S N) (sizeOf S) X → L ≡ replicate (sizeOf S) 0
     → W ≡ replicate (4 * sizeOf S) 0 ++ (joinAll (parts (graphOf S N)) ++ E) → 6 * sizeOf S ≤ length W
     → slice (5 * sizeOf S) (6 * sizeOf S) W ≡ replicate (sizeOf S) 0 → Ran S N 0 0 0 0 0 X L W
-unfolding wholeOrder wholeLevels
+unfolding wholeOrder wholeLevels leaders
 ran-begin {S} {N} {X} {L} {W} E legal x l w full blank =
     let g : Graph = graphOf S N in
     record {
       legal = legal;
       walked = walk-begin g;
-      room = x;
+      room = x .room;
       numbers = λ q A m. clash m refl;
+      sizes = λ z m. let A = leaders-in g z m .0 in x .each z (A .low) (A .high) (filter-in (leads g) (nodes g) z m .1);
       levels = l
           ∙ by-node g (replicate (sizeOf S) 0) (map (λ z. 0) (nodes g)) (length-replicate (sizeOf S) 0) (length-map (nodes g) (λ z. 0) ∙ length-nodes g)
           (λ q A. zero-level g q A ∙ sym (ofNode-map g (λ z. 0) q A));
@@ -147,8 +153,32 @@ module _ {S N : List ℕ} {j a k w p : ℕ} {X L W : List ℕ} (R : Ran S N j a 
   pub lowest-node : {q : ℕ} → q ≡ getD W (4 * n + a) 0 → (1 ≤ q) × (q ≤ n)
   lowest-node e = let A = Z in let s = e ∙ lowest-is in (omega (arith, A .low), omega (arith, A .high))
 
-  pub size-is : {q t : ℕ} → q ≡ getD W (4 * n + a) 0 → t ≡ length (part (graphOf S N) q) → t ≡ m
-  size-is e t = t ∙ ap (λ (x : ℕ). length (part (graphOf S N) x)) (e ∙ lowest-is)
+  -- the leaders from here on
+  left : drop j (leaders (graphOf S N)) ≡ z ∷ drop (j + 1) (leaders (graphOf S N))
+  unfolding parts
+  left =
+      drop-cons (leaders (graphOf S N)) j 0 (omega (arith, h, length-map (leaders (graphOf S N)) (part (graphOf S N))))
+      ∙ ap (λ (i : ℕ). z ∷ drop i (leaders (graphOf S N))) (sym (add-one j))
+
+  -- its lowest node has its size
+  pub size-is : {q : ℕ} → q ≡ getD W (4 * n + a) 0 → getD X (q - 1) 0 ≡ m
+  size-is {q} e =
+      let A = Z in
+      ap (λ (x : ℕ). getD X (x - 1) 0) (e ∙ lowest-is) ∙ sym (ofNode-at X z (A .low))
+      ∙ R .sizes z (ap (memb z) left ∙ or-left _ (eqb-self z))
+
+  -- and the lowest node of a later part stands in another one
+  pub apart : (y : ℕ) → memb y (drop (j + 1) (leaders (graphOf S N))) ≡ true → memb y (part (graphOf S N) z) ≡ false
+  apart y i =
+      fails (memb y (part (graphOf S N) z)) (λ b.
+      let e : z ≡ y = parts-apart G z y y (next-leads G (R .walked) h) later b (part-self G (leaders-in (graphOf S N) y later .0)) in
+      omega (arith, rise-head z (drop (j + 1) (leaders (graphOf S N))) rises y i))
+    where
+      later : memb y (leaders (graphOf S N)) ≡ true
+      later = drop-memb y (j + 1) (leaders (graphOf S N)) i
+
+      rises : chainb ltb (z ∷ drop (j + 1) (leaders (graphOf S N))) ≡ true
+      rises = ap (chainb ltb) (sym left) ∙ rise-drop j (leaders (graphOf S N)) (leaders-rise (graphOf S N))
 
   -- the words that a search works in are 0
   front-blank : take (4 * n) W ≡ zeros
@@ -236,6 +266,12 @@ module _ {S N : List ℕ} {j a k w p : ℕ} {X L W : List ℕ} (R : Ran S N j a 
           walked = subst (λ (y : ℕ). Walked (graphOf S N) (j + 1) (a + y)) (sym t-is) (walk-next G (R .walked) h);
           room = ap length x′ ∙ length-map (nodes (graphOf S N)) (λ q. cond (memb q (part (graphOf S N) z)) (numberFrom a (partResult (graphOf S N) z .order) q) (ofNode X q)) ∙ length-nodes (graphOf S N);
           numbers = λ q A i. ap (λ (y : List ℕ). ofNode y q) x′ ∙ numbers-next G (R .walked) h X (R .numbers) q A i;
+          sizes = λ y i.
+              ap (λ (l : List ℕ). ofNode l y) x′
+              ∙ ofNode-map (graphOf S N) (λ q. cond (memb q (part (graphOf S N) z)) (numberFrom a (partResult (graphOf S N) z .order) q) (ofNode X q)) y
+              (leaders-in (graphOf S N) y (drop-memb y (j + 1) (leaders (graphOf S N)) i) .0)
+              ∙ ap (λ (b : Bool). cond b (numberFrom a (partResult (graphOf S N) z .order) y) (ofNode X y)) (apart y i)
+              ∙ R .sizes y (ap (memb y) left ∙ or-right (eqb y z) i);
           levels = l ∙ ap (λ (y : ℕ). renewed (graphOf S N) y (ofNode (partResult (graphOf S N) y .levels)) L) first-is
               ∙ ap (renewed (graphOf S N) z (ofNode (partResult (graphOf S N) z .levels))) (R .levels)
               ∙ levels-next G (R .walked) h;

@@ -7,7 +7,7 @@ use lib.ListN.{length, take, drop, replicate}
 use lib.Seq.{slice}
 use Rattle.basis.specs.Lists.{joinAll, memb, greatest, sum, position}
 use Rattle.spec.specs.Graph.{Graph, graphOf, sizeOf, graphRefusal, ofNode}
-use Rattle.spec.specs.Levels.{leaders, parts}
+use Rattle.spec.specs.Levels.{part, leaders, parts}
 use Rattle.spec.specs.Numbering.{PartResult, Figures, partResult, wholeOrder, wholeLevels}
 use Rattle.laws.specs.Legal.{Node}
 use Rattle.parts.specs.Walked.{Walked}
@@ -17,13 +17,15 @@ abbrev pub foundTo : Graph → ℕ → List PartResult
 foundTo g j = map (partResult g) (take j (leaders g))
 
 -- After j parts with a nodes: X and L are the numbers and the levels by old number, W the scratch with the members of all parts in its fifth
--- area of n words and zeros before and behind, and k, w and p what is summed up. The nodes of later parts have level 0; their numbers are not looked at.
+-- area of n words and zeros before and behind, and k, w and p what is summed up. The nodes of later parts have level 0; in place of their numbers
+-- the lowest node of each has the part's size.
 pub record Ran (S N : List ℕ) (j a k w p : ℕ) (X L W : List ℕ) : Type 0 where
   pub legal : graphRefusal S N ≡ 0
   pub walked : Walked (graphOf S N) j a
   pub room : length X ≡ sizeOf S
   pub numbers : (q : ℕ) → Node (graphOf S N) q → memb q (wholeOrder (foundTo (graphOf S N) j)) ≡ true
       → ofNode X q ≡ suc (position q (wholeOrder (foundTo (graphOf S N) j)))
+  pub sizes : (z : ℕ) → memb z (drop j (leaders (graphOf S N))) ≡ true → ofNode X z ≡ length (part (graphOf S N) z)
   pub levels : L ≡ wholeLevels (graphOf S N) (foundTo (graphOf S N) j)
   pub depths : k ≡ sum (map (λ r. r .report .k) (foundTo (graphOf S N) j))
   pub widest : w ≡ greatest (map (λ r. r .report .width) (foundTo (graphOf S N) j))

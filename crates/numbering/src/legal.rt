@@ -13,7 +13,6 @@ use levels::legal::WORDS_PER_NODE;
 use measures::legal::figures;
 use parts::legal::members;
 use renumbering::legal::number_part;
-use renumbering::legal::part_size;
 use words::legal::clear;
 use words::wide;
 
@@ -33,7 +32,7 @@ fn wider(a: u16, b: u16) -> u16
     if a < b { b } else { a }
 }
 
-// "take the next free numbers": one part more. The scratch is as before.
+// "take the next free numbers": one part more, whose size stands where its lowest node gets its number. The scratch is as before.
 fn next_part(
     starts: &[u16],
     neighbours: &[u16],
@@ -51,7 +50,7 @@ fn next_part(
     let n = starts.len() - 1;
     let from = wide(t.nodes);
     let lowest = scratch[4 * n + from];
-    let m = part_size(starts, neighbours, scratch, lowest);
+    let m = numbers[wide(lowest) - 1];
     let f = number_part(
         starts,
         neighbours,
@@ -118,7 +117,7 @@ pub fn number_all(
     let n = starts.len() - 1;
     clear(scratch, WORDS_PER_NODE * n);
     clear(levels, n);
-    let count = members(starts, neighbours, scratch);
+    let count = members(starts, neighbours, scratch, numbers);
     let t = number_parts(starts, neighbours, numbers, levels, scratch, count);
     let m = figures(starts, neighbours, numbers, &mut scratch[..n]);
     clear(scratch, WORDS_PER_NODE * n);

@@ -7,5 +7,6 @@ pub mod Classes
 pub mod Place
 pub mod Leads
 pub mod Words
+pub mod Sizes
 pub mod Members
 pub mod Walk

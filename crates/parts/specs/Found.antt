@@ -1,10 +1,11 @@
 -- The parts found so far, as a walk over the nodes meets their lowest nodes. Assumes nothing.
 use mathlib.Core.Path.{_≡_}
+use mathlib.Core.Bool.{true}
 use mathlib.Core.List.{List, _++_, map}
-use Prim.Native.Nat.{ℕ, _+_, _-_}
+use Prim.Native.Nat.{ℕ, _+_, _-_, _≤_}
 use lib.ListN.{length, replicate}
 use Rattle.basis.specs.Lists.{filterb, joinAll, upFrom}
-use Rattle.spec.specs.Graph.{Graph, sizeOf, graphOf, graphRefusal}
+use Rattle.spec.specs.Graph.{Graph, ofNode, sizeOf, graphOf, graphRefusal}
 use Rattle.spec.specs.Levels.{levelList, part, leads}
 use Rattle.parts.specs.Labels.{begins}
 
@@ -21,3 +22,8 @@ pub record Led (S N : List ℕ) (p m a : ℕ) (W : List ℕ) : Type 0 where
   pub words : W
       ≡ replicate (sizeOf S + sizeOf S) 0
       ++ (levelList (graphOf S N) (partsTo (graphOf S N) p) ++ (begins 0 (partsTo (graphOf S N) p) ++ replicate (sizeOf S - m) 0))
+
+-- the lowest node of each part, as far as p, has the part's size in X
+pub record Sized (g : Graph) (p : ℕ) (X : List ℕ) : Type 0 where
+  pub room : length X ≡ g .size
+  pub each : (z : ℕ) → 1 ≤ z → z ≤ p → leads g z ≡ true → ofNode X z ≡ length (part g z)

@@ -1,4 +1,4 @@
 pub mod Numbers
 pub mod Levels
-pub mod Sizes
 pub mod Steps
+pub mod Single

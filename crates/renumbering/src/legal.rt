@@ -2,7 +2,7 @@
 // the part's order, the members of the parts, and one for the part's levels by old number. Linear in the part's nodes and entries: nothing here is n.
 ghost use mathlib.Core.Path.{_≡_};
 ghost use Prim.Native.Nat.{_+_, _*_, _≤_};
-ghost use lib.ListN.{length, take, replicate};
+ghost use lib.ListN.{length, replicate};
 ghost use lib.Seq.{sets, slice};
 ghost use Rattle.spec.specs.Graph.{graphOf, sizeOf, graphRefusal, ofNode};
 ghost use Rattle.spec.specs.Levels.{part};
@@ -16,27 +16,8 @@ ghost use Rattle.levels.specs.Part.{PartGiven};
 ghost use Rattle.renumbering.specs.Part.{orderAt, renewed, numbered, numberFrom, partFiguresOf, Numberable};
 use crate::shape::PartFigures;
 use levels::legal::combine_part;
-use search::legal::search;
-use search::legal::wipe;
 use sequence::legal::sequence;
 use words::wide;
-
-// How many nodes the part of p has. The scratch is as before.
-pub fn part_size(starts: &[u16], neighbours: &[u16], scratch: &mut [u16], p: u16) -> u16
-    requires { ⌜ graphRefusal (now starts) (now neighbours) ≡ 0 ⌝ }
-    requires { ⌜ (1 ≤ p) × (p ≤ sizeOf (now starts)) ⌝ }
-    requires { ⌜ sizeOf (now starts) + sizeOf (now starts) ≤ length (now scratch) ⌝ }
-    requires { ⌜ take (sizeOf (now starts) + sizeOf (now starts)) (now scratch) ≡ replicate (sizeOf (now starts) + sizeOf (now starts)) 0 ⌝ }
-    ensures { λ r. ⌜ r ≡ length (part (graphOf (now (starts .entry)) (now (neighbours .entry))) p) ⌝ }
-    ensures { λ _. ⌜ now (scratch .exit) ≡ now (scratch .entry) ⌝ }
-{
-    let n = starts.len() - 1;
-    let half = n + n;
-    let s = search(starts, neighbours, p, &mut scratch[..half]);
-    let count = wide(s.reached);
-    wipe(&mut scratch[..half], n, count);
-    s.reached
-}
 
 // "take the next free numbers": those after a, in the part's order, whose words it clears.
 fn give_numbers(scratch: &mut [u16], numbers: &mut [u16], n: usize, m: usize, a: usize)
@@ -71,9 +52,8 @@ fn give_levels(scratch: &mut [u16], levels: &mut [u16], n: usize, from: usize, t
     }
 }
 
-// The part whose members stand from..to: its nodes get the numbers after `from` in `numbers`, and their levels in `levels`, n words each by
-// old number. The scratch is as before.
-pub fn number_part(
+// The same by way of its ends, its combined levels and its order, whatever its size.
+fn number_large(
     starts: &[u16],
     neighbours: &[u16],
     scratch: &mut [u16],
@@ -111,4 +91,38 @@ pub fn number_part(
         width: f.width,
         passes: f.passes,
     }
+}
+
+// The part whose members stand from..to: its nodes get the numbers after `from` in `numbers`, and their levels in `levels`, n words each by
+// old number. The scratch is as before. A part of one node has one level, and takes one pass.
+pub fn number_part(
+    starts: &[u16],
+    neighbours: &[u16],
+    scratch: &mut [u16],
+    numbers: &mut [u16],
+    levels: &mut [u16],
+    from: usize,
+    to: usize,
+) -> PartFigures
+    requires { ⌜ graphRefusal (now starts) (now neighbours) ≡ 0 ⌝ }
+    requires { ⌜ PartGiven (graphOf (now starts) (now neighbours)) from to (wordsOf (sizeOf (now starts)) (now scratch)) (slice (5 * sizeOf (now starts)) (6 * sizeOf (now starts)) (now scratch)) ⌝ }
+    requires { ⌜ (length (now numbers) ≡ sizeOf (now starts)) × (length (now levels) ≡ sizeOf (now starts)) ⌝ }
+    ensures { λ r. ⌜ r ≡ partFiguresOf (partResult (graphOf (now (starts .entry)) (now (neighbours .entry))) (firstOf (sizeOf (now (starts .entry))) from (wordsOf (sizeOf (now (starts .entry))) (now (scratch .entry)))) .report) ⌝ }
+    ensures { λ _. ⌜ now (scratch .exit) ≡ now (scratch .entry) ⌝ }
+    ensures { λ _. ⌜ now (numbers .exit) ≡ renewed (graphOf (now (starts .entry)) (now (neighbours .entry))) (firstOf (sizeOf (now (starts .entry))) from (wordsOf (sizeOf (now (starts .entry))) (now (scratch .entry)))) (numberFrom from (partResult (graphOf (now (starts .entry)) (now (neighbours .entry))) (firstOf (sizeOf (now (starts .entry))) from (wordsOf (sizeOf (now (starts .entry))) (now (scratch .entry)))) .order)) (now (numbers .entry)) ⌝ }
+    ensures { λ _. ⌜ now (levels .exit) ≡ renewed (graphOf (now (starts .entry)) (now (neighbours .entry))) (firstOf (sizeOf (now (starts .entry))) from (wordsOf (sizeOf (now (starts .entry))) (now (scratch .entry)))) (ofNode (partResult (graphOf (now (starts .entry)) (now (neighbours .entry))) (firstOf (sizeOf (now (starts .entry))) from (wordsOf (sizeOf (now (starts .entry))) (now (scratch .entry)))) .levels)) (now (levels .entry)) ⌝ }
+{
+    if to - from == 1 {
+        let n = starts.len() - 1;
+        let z = wide(scratch[4 * n + from]) - 1;
+        let number = from + 1;
+        numbers[z] = number as u16;
+        levels[z] = 1;
+        return PartFigures {
+            k: 1,
+            width: 1,
+            passes: 1,
+        };
+    }
+    number_large(starts, neighbours, scratch, numbers, levels, from, to)
 }
