@@ -26,7 +26,6 @@ use Rattle.laws.proofs.Whole.{whole-perm}
 use Rattle.combining.specs.Areas.{wordsOf}
 use Rattle.piecing.specs.Given.{firstOf}
 use Rattle.piecing.specs.Starts.{membersOf}
-use Rattle.search.proofs.Stores.{take-replicate}
 use Rattle.levels.specs.Part.{PartGiven}
 use Rattle.levels.proofs.OnePart.{members-lent}
 use Rattle.parts.specs.Found.{Sized}
@@ -183,11 +182,6 @@ module _ {S N : List ℕ} {j a k w p : ℕ} {X L W : List ℕ} (R : Ran S N j a 
   -- the words that a search works in are 0
   front-blank : take (4 * n) W ≡ zeros
   front-blank = ap (take (4 * n)) (R .words) ∙ take-at zeros (joinAll (parts (graphOf S N)) ++ E) (4 * n) long
-
-  pub half-blank : take (n + n) W ≡ replicate (n + n) 0
-  half-blank =
-      let o : 4 * n ≡ n + n + 2 * n = omega arith in
-      sym (take-take (n + n) (4 * n) W (omega arith)) ∙ ap (take (n + n)) front-blank ∙ ap (λ (i : ℕ). take (n + n) (replicate i 0)) o ∙ take-replicate (n + n) (2 * n) 0
 
   members-are : membersOf n a (a + m) W ≡ part (graphOf S N) z
   members-are =
