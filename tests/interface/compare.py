@@ -112,8 +112,9 @@ def rounds(library, asked, at, folder):
 
 def watched(library, asked, folder):
     """The rounds in a process of their own, so that a call that ends it is reported too; the exit status."""
-    at = multiprocessing.Array('Q', 2, lock=False)
-    worker = multiprocessing.Process(target=rounds, args=(library, asked, at, folder))
+    fork = multiprocessing.get_context('fork')
+    at = fork.Array('Q', 2, lock=False)
+    worker = fork.Process(target=rounds, args=(library, asked, at, folder))
     worker.start()
     worker.join()
     if worker.exitcode < 0:

@@ -5,7 +5,7 @@ import files
 import paper
 import shapes
 from cases import CALLS, Case, fields
-from graph import MOST_ENTRIES, from_edges
+from graph import MOST_ENTRIES, MOST_NODES, from_edges
 from library import FIGURES
 from listing import HEADER_BYTES, MOST_FILE_WORDS, most_output_bytes, nodes_of_file
 from trials import FILLS, FUNCTIONS, Trial
@@ -81,7 +81,8 @@ def needs(n):
 
 def lent_to_listing(draw, file):
     """Lengths of all seven: exact, longer, one of them short; or any, with an output that has room for a line or hardly."""
-    need, way = needs(nodes_of_file(file) if len(file) >= HEADER_BYTES else 3), draw.below(10)
+    n = min(nodes_of_file(file), MOST_NODES + 1) if len(file) >= HEADER_BYTES else 3
+    need, way = needs(n), draw.below(10)
     if way < 4:
         return need
     if way < 7:
@@ -89,7 +90,7 @@ def lent_to_listing(draw, file):
     if way < 8:
         return [draw.below(40) for _ in need[:-1]] + [draw.below(13)]
     at = draw.below(len(need))
-    return need[:at] + [draw.one([need[at] - 1, draw.below(need[at])])] + need[at + 1:]
+    return need[:at] + [draw.one([max(0, need[at] - 1), draw.below(need[at])])] + need[at + 1:]
 
 
 def listings(draw, made):

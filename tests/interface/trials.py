@@ -22,11 +22,11 @@ REFERENCE = dict({call: CASE_CALLS[call].reference for call in CASE_CALLS}, list
 # What a lent list holds before the call, by place, below the modulus of its elements: falling from the top, zeros, ones, small numbers.
 FILLS = (lambda i: -1 - i % 5000, lambda i: 0, lambda i: -1, lambda i: 1 + i % 7)
 MODULUS = {'B': 256, 'H': 65536, 'Q': 2 ** 64}
-made = {}
+patterns = {}
 
 
 def filled(fill, code, count):
-    known = made.setdefault((fill, code), [])
+    known = patterns.setdefault((fill, code), [])
     known += [FILLS[fill](i) % MODULUS[code] for i in range(len(known), count)]
     return known[:count]
 
