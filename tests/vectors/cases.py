@@ -130,7 +130,7 @@ def enough(draw, need):
 
 def at_node(draw, kind, lists, node):
     """The calls that are given a node."""
-    n = len(lists[0]) - 1
+    n = max(0, len(lists[0]) - 1)
     yield Case(kind, 'rooted levels', *lists, [], node, lent(draw, n), 3, 0, 0)
     yield Case(kind, 'ends', *lists, [], node, lent(draw, 8 * n), 3, 0, 0)
     yield Case(kind, 'combined levels', *lists, [], node, lent(draw, n), lent(draw, 8 * n), 3, 0)

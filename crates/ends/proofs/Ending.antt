@@ -199,8 +199,14 @@ module _ {S N : List ℕ} {z v : ℕ} {r : Rooted} {t : Tried} {passes : ℕ} {d
         go zero = refl
         go (suc f) = roots-done f (graphOf S N) v (over .none)
 
+    u-part : memb (t .node) (part (graphOf S N) v) ≡ true
+    u-part = far-part G M (t .node) (subst (λ (u : ℕ). memb u (farthest (graphOf S N) v) ≡ true) (over .is) (other-far G M))
+
     pub u-node : (1 ≤ t .node) × (t .node ≤ sizeOf S)
-    u-node = let B = part-node G M (t .node) (far-part G M (t .node) (subst (λ (u : ℕ). memb u (farthest (graphOf S N) v) ≡ true) (over .is) (other-far G M))) in (B .low, B .high)
+    u-node = let B = part-node G M (t .node) u-part in (B .low, B .high)
+
+    pub u-few : {c : ℕ} → c ≡ r .reached → length (part (graphOf S N) (t .node)) ≤ c
+    u-few e = omega (arith, e, ap (λ x. x .reached) (I .found), reached-part G M, ap length (part-same G (t .node) M u-part))
 
     ends-are : ends (graphOf S N) z ≡ endsAt (graphOf S N) v passes
     unfolding ends

@@ -14,9 +14,11 @@ use Rattle.basis.proofs.Lists.{memb-length}
 use Rattle.basis.proofs.Sort.{sorted-chain}
 use Rattle.spec.specs.Ends.{depthAt, farthest, deeper, otherEnd}
 use Rattle.spec.specs.Graph.{graphOf, sizeOf, beforeE}
+use Rattle.spec.specs.Levels.{part}
 use Rattle.laws.specs.Legal.{Node, LegalGraph}
 use Rattle.laws.proofs.Ends.{far-part, other-far}
-use Rattle.laws.proofs.Levels.{part-node}
+use Rattle.laws.proofs.Figures.{reached-part}
+use Rattle.laws.proofs.Levels.{part-node, part-same}
 use Rattle.laws.proofs.Orders.{E-order, sortE-sorted, other-is}
 use Rattle.laws.proofs.Refused.{not-refused}
 use Rattle.search.specs.declared.shape.Rooted.{Rooted}
@@ -77,9 +79,13 @@ module _ {S N : List ℕ} {v : ℕ} {r : Rooted} {W : List ℕ} (A : At S N v r 
   pub pass-given : Candidates S N (sizeOf S + m) (sizeOf S + c) Y
   pass-given = record {
     full = Y-size;
+    from = omega arith;
     some = omega (arith, T-some);
     most = omega (arith, c-high);
     nodes = λ q k. let B = part-node G M q (far-part G M q (ap (memb q) (sym T-is) ∙ k)) in (B .low, B .high);
+    few = λ q k.
+        let p : part (graphOf S N) q ≡ part (graphOf S N) v = part-same G q M (far-part G M q (ap (memb q) (sym T-is) ∙ k)) in
+        omega (arith, ap length p, reached-part G M, ec, ap (λ x. x .reached) (A .area .found));
     sorted = ap (chainb (beforeE (graphOf S N))) T-is ∙ chain;
     blank = ap (drop (half S)) Y-is ∙ second-half (half S) X (drop (half S) W) X-size ∙ A .blank;
   }

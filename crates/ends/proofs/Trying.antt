@@ -16,7 +16,7 @@ use Rattle.basis.proofs.Lists.{memb-here, memb-append}
 use Rattle.basis.proofs.Logic.{by-test, or-right}
 use Rattle.spec.specs.Ends.{depthAt, widthAt, narrower}
 use Rattle.spec.specs.Graph.{graphOf, sizeOf, graphRefusal, beforeE}
-use Rattle.spec.specs.Levels.{levels, levelList, depth as deepness}
+use Rattle.spec.specs.Levels.{levels, levelList, part, depth as deepness}
 use Rattle.laws.specs.Legal.{Node, LegalGraph}
 use Rattle.laws.proofs.Figures.{width-counts, length-levelList}
 use Rattle.laws.proofs.Orders.{E-order, narrower-order}
@@ -84,11 +84,16 @@ module _ {S N W₀ : List ℕ} {a b depth : ℕ} {W : List ℕ} {node : ℕ} {be
     snoc =
         slice-snoc a i W₀ (I .from) (omega (arith, fits, size₀)) ∙ ap (λ (l : List ℕ). slice a i W₀ ++ (getD l i 0 ∷ [])) (sym (I .same))
 
+    given-it : memb (getD W i 0) (slice a b W₀) ≡ true
+    given-it =
+        ap (memb (getD W i 0)) split ∙ memb-append (getD W i 0) (slice a i W₀) (getD W i 0 ∷ slice (i + 1) b W₀)
+        ∙ or-right (memb (getD W i 0) (slice a i W₀)) (memb-here (getD W i 0) (slice (i + 1) b W₀))
+
     pub node-in : (1 ≤ getD W i 0) × (getD W i 0 ≤ sizeOf S)
-    node-in =
-        I .given .nodes (getD W i 0)
-        (ap (memb (getD W i 0)) split ∙ memb-append (getD W i 0) (slice a i W₀) (getD W i 0 ∷ slice (i + 1) b W₀)
-        ∙ or-right (memb (getD W i 0) (slice a i W₀)) (memb-here (getD W i 0) (slice (i + 1) b W₀)))
+    node-in = I .given .nodes (getD W i 0) given-it
+
+    pub part-few : length (part (graphOf S N) (getD W i 0)) ≤ b - sizeOf S
+    part-few = I .given .few (getD W i 0) given-it
 
     pub blank : take (length W - half S) (drop (half S) W) ≡ replicate (half S) 0
     blank = second-lent (half S) W size ∙ ap (drop (half S)) (I .same) ∙ I .given .blank

@@ -3,14 +3,14 @@
 use mathlib.Core.Path.{_≡_}
 use mathlib.Core.Bool.{Bool, true, false}
 use mathlib.Core.List.{List, [], _∷_}
-use Prim.Native.Nat.{ℕ, _+_, _≤_, _<_}
+use Prim.Native.Nat.{ℕ, _+_, _-_, _≤_, _<_}
 use lib.ListN.{length, take, drop, replicate}
 use lib.Seq.{slice}
 use lib.Dec.{ltb}
 use Rattle.basis.specs.Lists.{chainb, filterb, memb}
 use Rattle.spec.specs.Ends.{depthAt, farthest, deeper, narrower, otherEnd}
 use Rattle.spec.specs.Graph.{graphOf, sizeOf, graphRefusal, beforeE, ofNode}
-use Rattle.spec.specs.Levels.{levels}
+use Rattle.spec.specs.Levels.{levels, part}
 use Rattle.laws.specs.Legal.{Node}
 use Rattle.search.specs.Answer.{rootedOf, Searched}
 use Rattle.search.specs.Queue.{Queued}
@@ -32,12 +32,15 @@ pub record Probed (S N : List ℕ) (s depth : ℕ) (W : List ℕ) : Type 0 where
   pub kept : depth < depthAt (graphOf S N) s → Searched S N s W
   pub wiped : depthAt (graphOf S N) s ≤ depth → W ≡ replicate (half S) 0
 
--- the words from a up to b of the first 2n are nodes in E, and the second 2n words are 0
+-- the words from a up to b of the first 2n are nodes in E, of a part that has no more nodes than stand in the queue up to b, and the second
+-- 2n words are 0
 pub record Candidates (S N : List ℕ) (a b : ℕ) (W : List ℕ) : Type 0 where
   pub full : length W ≡ half S + half S
+  pub from : sizeOf S ≤ a
   pub some : a < b
   pub most : b ≤ half S
   pub nodes : Nodes (sizeOf S) (slice a b W)
+  pub few : (q : ℕ) → memb q (slice a b W) ≡ true → length (part (graphOf S N) q) ≤ b - sizeOf S
   pub sorted : chainb (beforeE (graphOf S N)) (slice a b W) ≡ true
   pub blank : drop (half S) W ≡ replicate (half S) 0
 

@@ -50,23 +50,31 @@ pub fn first_of_part(starts: &[u16], neighbours: &[u16], node: u16, work: &mut [
     ensures { λ _. ⌜ now (work .exit) ≡ now (work .entry) ⌝ }
 {
     let n = starts.len() - 1;
-    let r = search(starts, neighbours, node, work);
+    let r = search(starts, neighbours, node, n, work);
     let count = wide(r.reached);
     let v = first_in_e(starts, &work[n..n + count]);
     wipe(work, n, count);
     v
 }
 
-// The search from s; its words are kept if s is deeper than `depth`, and are 0 again if not.
-fn probe(starts: &[u16], neighbours: &[u16], s: u16, depth: u16, work: &mut [u16]) -> Rooted
+// The search from s, whose part has at most `most` nodes; its words are kept if s is deeper than `depth`, and are 0 again if not.
+fn probe(
+    starts: &[u16],
+    neighbours: &[u16],
+    s: u16,
+    most: usize,
+    depth: u16,
+    work: &mut [u16],
+) -> Rooted
     requires { ⌜ graphRefusal (now starts) (now neighbours) ≡ 0 ⌝ }
     requires { ⌜ (1 ≤ s) × (s ≤ sizeOf (now starts)) ⌝ }
+    requires { ⌜ length (part (graphOf (now starts) (now neighbours)) s) ≤ most ⌝ }
     requires { ⌜ now work ≡ replicate (sizeOf (now starts) + sizeOf (now starts)) 0 ⌝ }
     ensures { λ r. ⌜ r ≡ rootedOf (levels (graphOf (now (starts .entry)) (now (neighbours .entry))) s) ⌝ }
     ensures { λ _. ⌜ Probed (now (starts .entry)) (now (neighbours .entry)) s depth (now (work .exit)) ⌝ }
 {
     let n = starts.len() - 1;
-    let r = search(starts, neighbours, s, work);
+    let r = search(starts, neighbours, s, most, work);
     if depth < r.depth {
         return r;
     }
@@ -74,8 +82,8 @@ fn probe(starts: &[u16], neighbours: &[u16], s: u16, depth: u16, work: &mut [u16
     r
 }
 
-// Steps 3 and 4 for the nodes S that stand in the words from a up to b, in E: stops at the first s deeper than `depth`, whose search then
-// stands in the second 2n words. If there is none, it is the s of least width, "ties by E": a later s must be narrower.
+// Steps 3 and 4 for the nodes S that stand in the words from a up to b, the queue's end, in E: stops at the first s deeper than `depth`,
+// whose search then stands in the second 2n words. If there is none, it is the s of least width, "ties by E": a later s must be narrower.
 fn try_each(
     starts: &[u16],
     neighbours: &[u16],
@@ -88,7 +96,9 @@ fn try_each(
     requires { ⌜ Candidates (now starts) (now neighbours) a b (now work) ⌝ }
     ensures { λ r. ⌜ Tries (now (starts .entry)) (now (neighbours .entry)) (slice a b (now (work .entry))) depth (now (work .entry)) (now (work .exit)) r ⌝ }
 {
-    let half = starts.len() - 1 + (starts.len() - 1);
+    let n = starts.len() - 1;
+    let half = n + n;
+    let most = b - n;
     let mut node = 0;
     let mut best = Rooted {
         depth: 0,
@@ -99,7 +109,7 @@ fn try_each(
     let mut i = a;
     while i < b {
         let s = work[i];
-        let r = probe(starts, neighbours, s, depth, &mut work[half..]);
+        let r = probe(starts, neighbours, s, most, depth, &mut work[half..]);
         if depth < r.depth {
             return Tried {
                 deeper: true,
@@ -185,7 +195,7 @@ pub fn ends_from(starts: &[u16], neighbours: &[u16], first: u16, work: &mut [u16
     let n = starts.len() - 1;
     let half = n + n;
     let mut v = first;
-    let mut r = search(starts, neighbours, first, &mut work[0..half]);
+    let mut r = search(starts, neighbours, first, n, &mut work[0..half]);
     let mut t = pass(starts, neighbours, r, work);
     let mut passes: u16 = 1;
     let mut deeper = t.deeper;
@@ -198,7 +208,7 @@ pub fn ends_from(starts: &[u16], neighbours: &[u16], first: u16, work: &mut [u16
         deeper = t.deeper;
     }
     let u = t.node;
-    let w = search(starts, neighbours, u, &mut work[half..]);
+    let w = search(starts, neighbours, u, wide(r.reached), &mut work[half..]);
     Found {
         v,
         u,

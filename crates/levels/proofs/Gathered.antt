@@ -15,6 +15,7 @@ use Rattle.spec.specs.Levels.{levels, levelOf, levelList, reached, part}
 use Rattle.laws.specs.Legal.{Node}
 use Rattle.laws.proofs.Legal.{node-in, ofNode-at}
 use Rattle.laws.proofs.Levels.{levelList-at}
+use Rattle.laws.proofs.Parts.{part-most}
 use Rattle.laws.proofs.Refused.{passed, starts-of}
 use Rattle.search.specs.Answer.{Searched}
 use Rattle.search.specs.Queue.{Queued}
@@ -38,8 +39,8 @@ module _ (S N : List ℕ) (p : ℕ) (W : List ℕ) (ok : graphRefusal S N ≡ 0)
   twice : 2 * n ≡ n + n
   twice = omega arith
 
-  pub search-ask : (graphRefusal S N ≡ 0) × (((1 ≤ p) × (p ≤ sizeOf S)) × (take (2 * n - 0) W ≡ replicate (n + n) 0))
-  search-ask = (ok, (range, front-lent (2 * n) W ∙ blank ∙ ap (λ (k : ℕ). replicate k 0) twice))
+  pub search-ask : (graphRefusal S N ≡ 0) × (((1 ≤ p) × (p ≤ sizeOf S)) × ((length P ≤ n) × (take (2 * n - 0) W ≡ replicate (n + n) 0)))
+  search-ask = (ok, (range, (part-most g p, front-lent (2 * n) W ∙ blank ∙ ap (λ (k : ℕ). replicate k 0) twice)))
 
   module _ {X : List ℕ} (K : Searched S N p X) where
     abbrev W₁ : List ℕ

@@ -61,7 +61,7 @@ pub fn gather_part(starts: &[u16], neighbours: &[u16], node: u16, scratch: &mut 
     ensures { λ _. ⌜ now (scratch .exit) ≡ sets (now (scratch .entry)) (4 * sizeOf (now (starts .entry))) (part (graphOf (now (starts .entry)) (now (neighbours .entry))) node) ⌝ }
 {
     let n = starts.len() - 1;
-    let s = search(starts, neighbours, node, &mut scratch[0..2 * n]);
+    let s = search(starts, neighbours, node, n, &mut scratch[0..2 * n]);
     let count = collect(scratch, n);
     wipe(&mut scratch[0..2 * n], n, wide(s.reached));
     count

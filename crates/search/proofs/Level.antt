@@ -15,14 +15,14 @@ use Rattle.basis.specs.Perm.{times}
 use Rattle.basis.proofs.Logic.{by-test}
 use Rattle.spec.specs.Combined.{widthOf}
 use Rattle.spec.specs.Graph.{graphOf, sizeOf, graphRefusal, ofNode}
-use Rattle.spec.specs.Levels.{levels, levelList, depth, width, reached}
+use Rattle.spec.specs.Levels.{levels, levelList, depth, width, reached, part}
 use Rattle.laws.specs.Legal.{Node, LegalGraph}
 use Rattle.laws.proofs.Figures.{depth-greatest, width-counts, reached-count}
 use Rattle.laws.proofs.Levels.{depth-some}
 use Rattle.laws.proofs.Refused.{passed, legal-graph}
 use Rattle.search.specs.Marks.{within, marked, found, rows}
 use Rattle.search.proofs.Marks.{times-none, times-gain, times-keep, greatest-marked, times-mark}
-use Rattle.search.proofs.Round.{readable, within-rows, placed, length-placed, first-placed, round, placed-last}
+use Rattle.search.proofs.Round.{readable, within-rows, placed, length-placed, placed-few, first-placed, round, placed-last}
 use Rattle.search.proofs.Tallies.{ofNode-set, times-set, times-zeros, times-rest, greatest-set, greatest-at, greatest-zeros, greatest-times, times-above, greatest-less, width-more, width-same, width-most}
 use Rattle.laws.proofs.Legal.{ofNode-at}
 
@@ -67,6 +67,10 @@ module _ {S N : List ℕ} {root : ℕ} {L : List ℕ} {before count d w : ℕ} (
 
   pub most : before + count ≤ sizeOf S
   most = omega (arith, I .total)
+
+  -- the nodes placed are of the part
+  pub few : before + count ≤ length (part (graphOf S N) root)
+  few = omega (arith, I .total, times-rest L, size, ap (countb (ltb 0)) (I .is), placed-few S N (I .legal) (I .node) (d + 1))
 
   pub w-most : w ≤ sizeOf S
   w-most = omega (arith, I .wide, width-most L d, size)

@@ -2,6 +2,7 @@ pub mod Tallies
 pub mod Marks
 pub mod Stores
 pub mod Moves
+pub mod Visits
 pub mod Round
 pub mod Level
 pub mod Turns

@@ -6,6 +6,7 @@ use Prim.Native.Nat.{ℕ, _+_, _-_, _≤_, _<_, max}
 use native.Mathlib.Nat.{add-zero, le-max-right}
 use native.Mathlib.Omega.{arith}
 use lib.ListN.{length, set, length-set}
+use lib.Seq.{set-getD}
 use lib.Dec.{eqb}
 use borrow.Author.Tests.{eq-eqb, ne-eqb, eqb-true, eqb-false}
 use Rattle.basis.specs.Lists.{bit, consIf, memb, greatest}
@@ -25,6 +26,14 @@ module _ (j : ℕ) (pos : 0 < j) where
   unfolding mark
   mark-taken L v e = ap (λ (b : Bool). setIf b L v j) (ne-eqb (ofNode L v) 0 e)
 
+  -- in one: the level that stands there is written again
+  pub mark-is : (L : List ℕ) (v : ℕ) → 1 ≤ v → mark j L v ≡ set L (v - 1) (cond (free L v) j (ofNode L v))
+  mark-is L v lo =
+      by-test (free L v)
+      (λ e. rw e (mark-free L v (eqb-true (ofNode L v) 0 e)))
+      (λ e.
+      rw e (mark-taken L v (eqb-false (ofNode L v) 0 e) ∙ sym (ap (set L (v - 1)) (ofNode-at L v lo) ∙ set-getD L (v - 1) 0)))
+
   pub found-free : (L : List ℕ) (v : ℕ) (vs : List ℕ) → ofNode L v ≡ 0 → found j L (v ∷ vs) ≡ v ∷ found j (set L (v - 1) j) vs
   unfolding found
   found-free L v vs e =
@@ -42,6 +51,17 @@ module _ (j : ℕ) (pos : 0 < j) where
   pub marked-taken : (L : List ℕ) (v : ℕ) (vs : List ℕ) → (ofNode L v ≡ 0 → ⊥) → marked j L (v ∷ vs) ≡ marked j L vs
   unfolding marked
   marked-taken L v vs e = ap (λ (M : List ℕ). marked j M vs) (mark-taken L v e)
+
+  -- where none is found, none is marked
+  pub marked-none : (L vs : List ℕ) → length (found j L vs) ≡ 0 → marked j L vs ≡ L
+  unfolding marked found
+  marked-none L [] h = refl
+  marked-none L (v ∷ vs) h =
+      by-test (free L v)
+      (λ e. absurd (omega (arith, rw (found-free L v vs (eqb-true (ofNode L v) 0 e)) at h)))
+      (λ e.
+      let f = eqb-false (ofNode L v) 0 e in
+      marked-taken L v vs f ∙ marked-none L vs (ap length (sym (found-taken L v vs f)) ∙ h))
 
   length-mark : (L : List ℕ) (v : ℕ) → length (mark j L v) ≡ length L
   unfolding mark

@@ -6,19 +6,20 @@ use Prim.Native.Nat.{ℕ, suc, _+_, _-_, _≤_}
 use native.Mathlib.Numerals.{add-one}
 use native.Mathlib.Omega.{arith}
 use lib.ListN.{length, set, replicate, length-set, length-replicate, getD-replicate, length-map}
-use lib.Dec.{eqb, ltb}
+use lib.Dec.{eqb, leb, ltb}
 use borrow.Author.Tests.{eqb-true, ltb-true, ltb-false}
-use Rattle.basis.specs.Lists.{bit, memb, anyb, greatest}
+use Rattle.basis.specs.Lists.{bit, memb, anyb, countb, greatest}
 use Rattle.basis.specs.Perm.{times}
+use Rattle.basis.proofs.Count.{count-map, count-mono}
 use Rattle.basis.proofs.Lists.{memb-here, memb-append, any-find, any-make}
-use Rattle.basis.proofs.Logic.{by-test, same, or-right}
+use Rattle.basis.proofs.Logic.{by-test, clash, same, or-right}
 use Rattle.spec.specs.Graph.{Graph, graphOf, sizeOf, rowOf, nodes, adjoins, graphRefusal, ofNode}
-use Rattle.spec.specs.Levels.{levels, levelOf, levelList, depth}
+use Rattle.spec.specs.Levels.{levels, levelOf, levelList, depth, part}
 use Rattle.laws.specs.Legal.{Node, LegalGraph}
 use Rattle.laws.specs.Rooted.{upTo, beside}
 use Rattle.laws.proofs.Legal.{length-nodes, by-node, ofNode-map, ofNode-at}
 use Rattle.laws.proofs.Levels.{rooted, placed-node, levelList-at}
-use Rattle.laws.proofs.Figures.{length-levelList}
+use Rattle.laws.proofs.Figures.{length-levelList, reached-part, reached-count}
 use Rattle.laws.proofs.Refused.{passed, starts-of, legal-graph}
 use Rattle.laws.proofs.Rounds.{upTo-in, round-first, round-next, round-last, round-all}
 use Rattle.search.specs.Marks.{within, marked, rows}
@@ -38,6 +39,7 @@ readable S N z =
       is = refl;
       starts = starts-of P;
       inside = λ p. within-make (sizeOf S) (rowOf S N p) (λ q m. let M = G .inside p q m in (M .low, M .high));
+      rises = G .rises;
     }
 
 pub within-rows : {n : ℕ} {S N : List ℕ} → Readable n S N → (W : List ℕ) → within n (rows S N W)
@@ -97,6 +99,22 @@ module _ (S N : List ℕ) (z : graphRefusal S N ≡ 0) {r : ℕ} (R : Node (grap
       ∙ any-cong (λ q. memb v (rowOf S N q)) (λ q. memb q (rowOf S N v)) W (λ q m. same (memb v (rowOf S N q)) (memb q (rowOf S N v)) (G .both q v) (G .both v q))
       ∙ meets W (rowOf S N v)
       ∙ any-cong (λ q. memb q W) (λ q. eqb (ofNode L q) i) (rowOf S N v) (λ q m. h q)
+
+  -- what is placed is of the part
+  pub placed-few : (m : ℕ) → countb (ltb 0) (placed g r m) ≤ length (part g r)
+  unfolding placed levelList
+  placed-few m =
+      let f : ℕ → ℕ = levelOf (levels g r) in
+      omega (
+        arith,
+        count-map (ltb 0) (λ q. upTo m (f q)) (nodes g),
+        count-map (ltb 0) f (nodes g),
+        reached-count G R,
+        reached-part G R,
+        count-mono (λ q. ltb 0 (upTo m (f q))) (λ q. ltb 0 (f q)) (nodes g) (λ q t. by-test (leb (f q) m)
+            (λ u. rw u at t)
+            (λ u. clash (rw u at t) refl)),
+      )
 
   -- the first round
   pub first-placed : set (replicate (sizeOf S) 0) (r - 1) 1 ≡ placed g r 1

@@ -1,10 +1,10 @@
 -- Lists after several stores, parts of a list, and two halves of one list. Assumes nothing.
 use mathlib.Core.Path.{_≡_, refl, sym, ap, _∙_}
-use mathlib.Core.List.{List, [], _∷_, _++_}
+use mathlib.Core.List.{List, [], _∷_}
 use Prim.Native.Nat.{ℕ, zero, suc, _+_, _-_, _≤_, _<_}
 use native.Mathlib.Omega.{arith}
-use lib.ListN.{length, take, drop, set, replicate, length-append, length-drop, length-replicate, replicate-append-replicate}
-use lib.Seq.{sets, sets-eq, slice, take-at, drop-at, drop-nil, length-take-le, take-set-le, take-set-lt, drop-set-add, drop-set-lt}
+use lib.ListN.{length, take, drop, set, replicate, length-drop, length-replicate, replicate-append-replicate}
+use lib.Seq.{sets, take-at, drop-nil, drop-drop, length-take-le, take-set-le, take-set-lt, drop-set-add, drop-set-lt}
 
 -- ---- stores one after the other
 
@@ -12,23 +12,12 @@ pub take-sets : (b : ℕ) (Q : List ℕ) (t : ℕ) (xs : List ℕ) → b ≤ t �
 take-sets b Q t [] h = refl
 take-sets b Q t (x ∷ xs) h = take-sets b (set Q t x) (suc t) xs (omega arith) ∙ take-set-le b Q t x h
 
-module _ (Q : List ℕ) (t : ℕ) (xs : List ℕ) (h : t + length xs ≤ length Q) where
-  front : length (take t Q) ≡ t
-  front = length-take-le t Q (omega arith)
+-- ---- lists that are equal from some place on, and equal words
 
-  until : length (take t Q ++ xs) ≡ t + length xs
-  until = length-append (take t Q) xs ∙ ap (λ (n : ℕ). n + length xs) front
-
-  pub take-sets-all : take (t + length xs) (sets Q t xs) ≡ take t Q ++ xs
-  take-sets-all = ap (take (t + length xs)) (sets-eq xs Q t h) ∙ take-at (take t Q ++ xs) (drop (t + length xs) Q) (t + length xs) until
-
-  pub drop-sets : drop (t + length xs) (sets Q t xs) ≡ drop (t + length xs) Q
-  drop-sets = ap (drop (t + length xs)) (sets-eq xs Q t h) ∙ drop-at (take t Q ++ xs) (drop (t + length xs) Q) (t + length xs) until
-
-  pub slice-sets : slice t (t + length xs) (sets Q t xs) ≡ xs
-  slice-sets = ap (drop t) take-sets-all ∙ drop-at (take t Q) xs t front
-
--- ---- parts of equal words
+pub drop-later : (s t : ℕ) (l m : List ℕ) → s ≤ t → drop s l ≡ drop s m → drop t l ≡ drop t m
+drop-later s t l m h e =
+    let k : s + (t - s) ≡ t = omega arith in
+    ap (λ (i : ℕ). drop i l) (sym k) ∙ sym (drop-drop (t - s) s l) ∙ ap (drop (t - s)) e ∙ drop-drop (t - s) s m ∙ ap (λ (i : ℕ). drop i m) k
 
 pub drop-replicate : (k n x : ℕ) → drop k (replicate n x) ≡ replicate (n - k) x
 drop-replicate zero n x = let e : n ≡ n - 0 = omega arith in ap (λ (m : ℕ). replicate m x) e

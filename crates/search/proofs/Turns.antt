@@ -3,13 +3,14 @@
 use mathlib.Core.Path.{_≡_, sym, ap, _∙_, subst}
 use mathlib.Core.Bool.{cond, _&&_}
 use mathlib.Core.List.{List, [], _∷_, _++_}
-use Prim.Native.Nat.{ℕ, _+_, _-_, _≤_, _<_, max}
+use Prim.Native.Nat.{ℕ, suc, _+_, _-_, _≤_, _<_, max}
 use native.Mathlib.Nat.{le-refl}
+use native.Mathlib.Numerals.{add-one}
 use native.Mathlib.Omega.{arith}
-use lib.ListN.{length, take, drop, set, replicate, length-set, length-replicate}
-use lib.Seq.{sets, slice, slice-cons, slice-empty, length-sets, getD-set-same, drop-drop, drop-set-lt}
+use lib.ListN.{length, take, drop, set, replicate, drop-of-length-le, length-set, length-replicate, getD-replicate}
+use lib.Seq.{slice, slice-cons, slice-empty, getD-set-same, take-set-le, drop-cons, drop-set-lt}
 use lib.Dec.{eqb, ltb}
-use borrow.Author.Tests.{eqb-true}
+use borrow.Author.Tests.{eqb-true, ltb-true, ltb-false}
 use Rattle.basis.specs.Lists.{bit, memb, lastOr}
 use Rattle.basis.specs.Perm.{times, Perm}
 use Rattle.basis.proofs.Count.{count-append, length-filter, count-map, count-cong, filter-once}
@@ -23,23 +24,25 @@ use Rattle.laws.proofs.Levels.{last-level, depth-some, placed-node, part-test}
 use Rattle.laws.proofs.Parts.{part-once}
 use Rattle.laws.proofs.Refused.{passed, legal-graph}
 use Rattle.search.specs.Marks.{within, marked, found, rows}
-use Rattle.search.specs.Queue.{Pushed}
+use Rattle.search.specs.Queue.{Ready, Pushed}
 use Rattle.search.specs.Answer.{rootedOf, Searched}
 use Rattle.search.specs.declared.shape.Rooted.{Rooted}
-use Rattle.search.proofs.Level.{Level, new-level, old-level, has-level, size, most, pos, vs-in, counted, kept, next, all, depth-is, depth-one, width-is, reached-is, first-level, first}
+use Rattle.search.proofs.Level.{Level, new-level, old-level, has-level, size, most, few, pos, vs-in, kept, next, all, depth-is, depth-one, width-is, reached-is, first-level, first}
 use Rattle.search.proofs.Marks.{level-after, times-found}
+use Rattle.search.proofs.Moves.{pushed-past, pushed-window, pushed-found}
 use Rattle.search.proofs.Round.{window-in, level-of}
-use Rattle.search.proofs.Stores.{take-sets, take-sets-all, drop-sets, slice-sets, drop-replicate}
+use Rattle.search.proofs.Stores.{drop-later, drop-replicate}
 use Rattle.search.proofs.Tallies.{times-bit, once-bit, greatest-at}
 
--- At the loop's head: the queue is the nodes placed, those of the last level from a up to b, and those of the level before from `last` up to a.
+-- At the loop's head: the queue is the nodes placed, those of the last level from a up to b, and those of the level before from `last` up to a. The
+-- word where the queue ends may be any.
 pub record Rounds (S N : List ℕ) (root : ℕ) (L Q : List ℕ) (last a b depth width : ℕ) : Type 0 where
   pub level : Level S N root L a (b - a) depth width
   pub queue-size : length Q ≡ sizeOf S
   pub order : a ≤ b
   pub window : (q : ℕ) → times q (slice a b Q) ≡ bit (eqb (ofNode L q) (depth + 1))
   pub front : (q : ℕ) → times q (take b Q) ≡ bit (ltb 0 (ofNode L q))
-  pub zeros : drop b Q ≡ replicate (sizeOf S - b) 0
+  pub zeros : drop (b + 1) Q ≡ drop (b + 1) (replicate (sizeOf S) 0)
   pub tail-before : last ≤ a
   pub tail-count : 1 ≤ depth → last + times depth L ≡ a
   pub tail : 1 ≤ depth → (q : ℕ) → times q (slice last a Q) ≡ bit (eqb (ofNode L q) depth)
@@ -65,9 +68,6 @@ module _ {S N : List ℕ} {root : ℕ} {L Q : List ℕ} {last a b d w : ℕ} (I 
   pub room : b + times 0 L ≤ length Q
   room = omega (arith, I .level .total, I .order, I .queue-size)
 
-  fit : b + length (found j L vs) ≤ length Q
-  fit = omega (arith, counted (I .level) W, room)
-
   after : (q : ℕ) → ofNode (marked j L vs) q ≡ cond (eqb (ofNode L q) 0) (cond (memb q vs) j 0) (ofNode L q)
   after q = level-after j (pos (I .level) W) q (sizeOf S) L vs (size (I .level)) (vs-in (I .level) W)
 
@@ -79,13 +79,6 @@ module _ {S N : List ℕ} {root : ℕ} {L Q : List ℕ} {last a b d w : ℕ} (I 
       let h = has-level (ofNode L q) j (memb q vs) (pos (I .level) W) in
       rw (after q) (omega (arith, count-append (eqb q) (take b Q) (found j L vs), I .front q, got q))
 
-  zeros-next : drop (b + length (found j L vs)) (sets Q b (found j L vs)) ≡ replicate (sizeOf S - (b + length (found j L vs))) 0
-  zeros-next =
-      let k : ℕ = length (found j L vs) in
-      let e : sizeOf S - b - k ≡ sizeOf S - (b + k) = omega arith in
-      drop-sets Q b (found j L vs) fit ∙ sym (drop-drop k b Q) ∙ ap (drop k) (I .zeros) ∙ drop-replicate k (sizeOf S - b) 0
-      ∙ ap (λ (m : ℕ). replicate m 0) e
-
   level-next : a < b → Level S N root (marked j L vs) b (b + length (found j L vs) - b) (d + 1) (max w (b - a))
   level-next h =
       let e : a + (b - a) ≡ b = omega arith in
@@ -93,23 +86,29 @@ module _ {S N : List ℕ} {root : ℕ} {L Q : List ℕ} {last a b d w : ℕ} (I 
       let x = next (I .level) W (λ q. times-bit q W (eqb (ofNode L q) (d + 1)) (I .window q)) (omega arith) in
       subst (λ (m : ℕ). Level S N root (marked j L vs) b m (d + 1) (max w (b - a))) f (rw e at x)
 
+  -- the queue never has more than the part
+  pub bound : a < b → b + length (found j L vs) ≤ length (part (graphOf S N) root)
+  bound h = omega (arith, few (level-next h))
+
+  ready : Ready L Q b j
+  ready = record { pos = pos (I .level) W; room = room }
+
   pub step : {L′ Q′ : List ℕ} {b′ w′ : ℕ} → a < b → Pushed vs j L Q b L′ Q′ b′ → w′ ≡ max w (b - a)
       → Rounds S N root L′ Q′ a b b′ (d + 1) w′
-  step h P ew =
-      rw (P .end, P .levels, P .queue, ew)
+  step {b′ = b′} h P ew =
       record {
-        level = level-next h;
-        queue-size = length-sets Q b (found j L vs) ∙ I .queue-size;
-        order = omega arith;
+        level = rw (P .end, P .levels, ew) (level-next h);
+        queue-size = P .size ∙ I .queue-size;
+        order = pushed-past ready P;
         window = λ q.
-            rw (slice-sets Q b (found j L vs) fit, after q)
+            rw (pushed-found ready P, P .levels, after q)
             (got q ∙ ap bit (new-level (ofNode L q) j (memb q vs) (omega (arith, greatest-at L q, I .level .above))));
-        front = λ q. rw (take-sets-all Q b (found j L vs) fit) (front-next q);
-        zeros = zeros-next;
+        front = λ q. rw (P .queue, P .levels) (front-next q);
+        zeros = P .behind ∙ drop-later (b + 1) (b′ + 1) Q (replicate (sizeOf S) 0) (omega (arith, pushed-past ready P)) (I .zeros);
         tail-before = I .order;
-        tail-count = λ l. omega (arith, kept (I .level) W (d + 1) (omega arith) (le-refl (d + 1)), I .level .now, I .order);
+        tail-count = λ l. rw (P .levels) (omega (arith, kept (I .level) W (d + 1) (omega arith) (le-refl (d + 1)), I .level .now, I .order));
         tail = λ l q.
-            rw (take-sets b Q b (found j L vs) (le-refl b), after q)
+            rw (pushed-window ready P b (le-refl b), P .levels, after q)
             (I .window q ∙ ap bit (old-level (ofNode L q) j (d + 1) (memb q vs) (omega arith) (omega arith)));
       }
 
@@ -187,14 +186,37 @@ module _ {S N : List ℕ} {root : ℕ} {L Q : List ℕ} {last a b d w : ℕ} (I 
         once : (x : ℕ) → times x (lastOr [] ls) ≤ 1
         once x = rw (last-level G (I .level .node)) (filter-once (λ q. eqb (levelOf ls q) (depth ls)) (nodes (graphOf S N)) (nodes-once (graphOf S N)) x)
 
-    pub searched : (X : List ℕ) → length X ≡ sizeOf S + sizeOf S → L ≡ take (sizeOf S) X → Q ≡ drop (sizeOf S) X → Searched S N root X
+    -- with the word where the queue ends set to 0
+    pub searched : (X : List ℕ) → length X ≡ sizeOf S + sizeOf S → L ≡ take (sizeOf S) X → set Q b 0 ≡ drop (sizeOf S) X → Searched S N root X
     searched X f l q =
+        let t : take b (drop (sizeOf S) X) ≡ take b Q = ap (take b) (sym q) ∙ take-set-le b Q b 0 (le-refl b) in
         record {
           listed = sym l ∙ listed;
-          members = rw (reached-b, ← q) members-are;
-          tail = rw (where-last, reached-b, ← q) tail-is;
-          holds = rw reached-b record { full = f; most = b-most; each = λ x. rw (← l, ← q) (I .front x); rest = rw (← q) (I .zeros) };
+          members = rw (reached-b, t) members-are;
+          tail = rw (where-last, reached-b, t) tail-is;
+          holds = rw reached-b record { full = f; most = b-most; each = λ x. rw (← l, t) (I .front x); rest = rw (← q) shut };
         }
+      where
+        zs : List ℕ
+        zs = replicate (sizeOf S) 0
+
+        size-of : length (set Q b 0) ≡ sizeOf S
+        size-of = length-set Q b 0 ∙ I .queue-size
+
+        shut : drop b (set Q b 0) ≡ replicate (sizeOf S - b) 0
+        shut =
+            by-test (ltb b (sizeOf S))
+            (λ t.
+            let h : b < sizeOf S = ltb-true b (sizeOf S) t in
+            drop-cons (set Q b 0) b 0 (omega (arith, size-of))
+            ∙ (λ i. (getD-set-same Q b 0 0 (omega (arith, I .queue-size)) ∙ sym (getD-replicate (sizeOf S) b 0 0 h)) i
+            ∷ (drop-set-lt (suc b) Q b 0 (le-refl (suc b)) ∙ rw add-one at (I .zeros)) i)
+            ∙ sym (drop-cons zs b 0 (omega (arith, length-replicate {A = ℕ} (sizeOf S) 0))))
+            (λ t.
+            let h : sizeOf S ≤ b = ltb-false b (sizeOf S) t in
+            drop-of-length-le (set Q b 0) {i = b} (omega (arith, size-of))
+            ∙ sym (drop-of-length-le zs {i = b} (omega (arith, length-replicate {A = ℕ} (sizeOf S) 0))))
+            ∙ drop-replicate b (sizeOf S) 0
 
 -- ---- where the loop begins
 
@@ -219,7 +241,7 @@ module _ (S N : List ℕ) {root : ℕ} (z : graphRefusal S N ≡ 0) (M : Node (g
         order = omega arith;
         window = λ q. rw (begin-window, first-level S N z M q) (by-test (eqb q root) (λ u. rw u) (λ u. rw u));
         front = λ q. rw (begin-window, first-level S N z M q) (by-test (eqb q root) (λ u. rw u) (λ u. rw u));
-        zeros = drop-set-lt 1 zs 0 root (omega arith) ∙ drop-replicate 1 (sizeOf S) 0;
+        zeros = drop-set-lt 2 zs 0 root (omega arith);
         tail-before = omega arith;
         tail-count = λ l. absurd (omega arith);
         tail = λ l. absurd (omega arith);

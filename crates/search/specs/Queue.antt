@@ -1,32 +1,35 @@
 -- Levels and queue in one list of 2n words, levels in front and queue behind: what the functions of the search ask and do. Assumes nothing.
 use mathlib.Core.Path.{_≡_}
-use mathlib.Core.List.{List}
+use mathlib.Core.Bool.{true}
+use mathlib.Core.List.{List, _++_}
 use Prim.Native.Nat.{ℕ, _+_, _-_, _≤_, _<_}
 use lib.ListN.{length, take, drop, replicate}
-use lib.Seq.{sets}
 use lib.Dec.{ltb}
-use Rattle.basis.specs.Lists.{bit}
+use Rattle.basis.specs.Lists.{bit, chainb}
 use Rattle.basis.specs.Perm.{times}
 use Rattle.spec.specs.Graph.{sizeOf, rowOf, ofNode}
 use Rattle.laws.specs.Legal.{Starts}
 use Rattle.search.specs.Marks.{within, marked, found}
 
--- the two lists have n rows that can be read, of nodes only
+-- the two lists have n rows that can be read, of nodes only, and they rise
 pub record Readable (n : ℕ) (S N : List ℕ) : Type 0 where
   pub is : n ≡ sizeOf S
   pub starts : Starts S N
   pub inside : (p : ℕ) → within n (rowOf S N p)
+  pub rises : (p : ℕ) → chainb ltb (rowOf S N p) ≡ true
 
 -- what a function asks that gives level j to nodes and puts them into the queue Q from `tail` on: room for every node with no level
 pub record Ready (L Q : List ℕ) (tail j : ℕ) : Type 0 where
   pub pos : 0 < j
   pub room : tail + times 0 L ≤ length Q
 
--- what it does for the nodes vs: from L, Q and tail to L′, Q′ and tail′
+-- what it does for the nodes vs: from L, Q and tail to L′, Q′ and tail′. The word where the queue ends may be any.
 pub record Pushed (vs : List ℕ) (j : ℕ) (L Q : List ℕ) (tail : ℕ) (L′ Q′ : List ℕ) (tail′ : ℕ) : Type 0 where
   pub end : tail′ ≡ tail + length (found j L vs)
   pub levels : L′ ≡ marked j L vs
-  pub queue : Q′ ≡ sets Q tail (found j L vs)
+  pub size : length Q′ ≡ length Q
+  pub queue : take tail′ Q′ ≡ take tail Q ++ found j L vs
+  pub behind : drop (tail′ + 1) Q′ ≡ drop (tail′ + 1) Q
 
 -- the same of the 2n words W
 pub record Lent (n : ℕ) (W : List ℕ) (tail j : ℕ) : Type 0 where

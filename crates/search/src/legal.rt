@@ -1,36 +1,91 @@
 // Rooted levels of a legal graph by breadth-first search, level by level, in one lent part of 2n words: n levels by old number, then a
 // queue of n. A search takes the time of its part and its rows, not of the graph: it asks for words that are 0 and `wipe` makes them 0 again.
 ghost use mathlib.Core.Path.{_≡_};
-ghost use Prim.Native.Nat.{_+_, _≤_};
-ghost use lib.ListN.{length, take, drop, replicate};
+ghost use Prim.Native.Nat.{_+_, _≤_, _<_};
+ghost use mathlib.Core.Bool.{true, cond};
+ghost use mathlib.Core.List.{[], _∷_};
+ghost use lib.ListN.{length, take, drop, set, replicate};
 ghost use lib.Seq.{slice};
+ghost use lib.Dec.{eqb, ltb};
+ghost use Rattle.basis.specs.Lists.{bit, chainb};
 ghost use Rattle.spec.specs.Graph.{graphOf, sizeOf, rowOf, graphRefusal};
-ghost use Rattle.spec.specs.Levels.{levels};
-ghost use Rattle.search.specs.Marks.{within, rows};
+ghost use Rattle.spec.specs.Levels.{levels, part};
+ghost use Rattle.search.specs.Marks.{within, found, rows};
 ghost use Rattle.search.specs.Queue.{Readable, Lent, Moved, Queued};
 ghost use Rattle.search.specs.Answer.{rootedOf, Searched};
 use crate::shape::Rooted;
 use graph::legal::row;
 use words::larger;
+use words::legal::clear;
 use words::wide;
 
-// Gives level j to each node of `row` that has none, and puts it into the queue at `tail`. Returns where the queue ends then.
+// 1 where w is 0, else 0.
+fn none(w: u16) -> usize
+    ensures { λ r. ⌜ r ≡ bit (eqb w 0) ⌝ }
+{
+    if w == 0 { 1 } else { 0 }
+}
+
+// The level of a node that had w, which is 0 for none, once level j is given to it.
+fn level(w: u16, j: u16) -> u16
+    ensures { λ r. ⌜ r ≡ cond (eqb w 0) j w ⌝ }
+{
+    if w == 0 { j } else { w }
+}
+
+// Gives level j to the node v where it has none, and puts it into the queue at `tail`. Returns where the queue ends then.
+fn visit_one(work: &mut [u16], n: usize, tail: usize, v: u16, j: u16) -> usize
+    requires { ⌜ Lent n (now work) tail j ⌝ }
+    requires { ⌜ within n (v ∷ []) ⌝ }
+    ensures { λ r. ⌜ Moved n (v ∷ []) j (now (work .entry)) tail (now (work .exit)) r ⌝ }
+{
+    let at = wide(v) - 1;
+    if work[at] != 0 {
+        return tail;
+    }
+    work[at] = j;
+    work[n + tail] = v;
+    tail + 1
+}
+
+// The same of two nodes u < v. Without a branch, as no one can foretell which nodes are new: each is written where the queue ends, and what
+// has its level already is written over.
+fn visit_two(work: &mut [u16], n: usize, tail: usize, u: u16, v: u16, j: u16) -> usize
+    requires { ⌜ Lent n (now work) tail j ⌝ }
+    requires { ⌜ within n (u ∷ v ∷ []) ⌝ }
+    requires { ⌜ u < v ⌝ }
+    requires { ⌜ tail + 1 < n ⌝ }
+    ensures { λ r. ⌜ Moved n (u ∷ v ∷ []) j (now (work .entry)) tail (now (work .exit)) r ⌝ }
+{
+    let a = wide(u) - 1;
+    let b = wide(v) - 1;
+    let x = work[a];
+    let y = work[b];
+    let t = tail + none(x);
+    work[a] = level(x, j);
+    work[n + tail] = u;
+    work[b] = level(y, j);
+    work[n + t] = v;
+    t + none(y)
+}
+
+// Visits the nodes of `row`, which rise.
 fn visit(row: &[u16], work: &mut [u16], n: usize, tail: usize, j: u16) -> usize
     requires { ⌜ Lent n (now work) tail j ⌝ }
     requires { ⌜ within n (now row) ⌝ }
+    requires { ⌜ chainb ltb (now row) ≡ true ⌝ }
     ensures { λ r. ⌜ Moved n (now (row .entry)) j (now (work .entry)) tail (now (work .exit)) r ⌝ }
 {
     let mut t = tail;
     let mut k = 0;
     while k < row.len() {
-        let v = row[k];
-        let at = wide(v) - 1;
-        if work[at] == 0 {
-            work[at] = j;
-            work[n + t] = v;
-            t += 1;
+        if k + 1 < row.len() && t + 1 < n {
+            t = visit_two(work, n, t, row[k], row[k + 1], j);
+            k += 2;
+        } else {
+            t = visit_one(work, n, t, row[k], j);
+            k += 1;
         }
-        k += 1;
     }
     t
 }
@@ -54,11 +109,13 @@ fn visit_node(
 }
 
 // Visits the rows of the nodes that stand in the queue from a up to b, not including b, where the queue ends. Returns where it ends then.
+// The queue never has more than `most` nodes: where it has as many, no row has a new one.
 fn expand(
     starts: &[u16],
     neighbours: &[u16],
     work: &mut [u16],
     n: usize,
+    most: usize,
     a: usize,
     b: usize,
     j: u16,
@@ -67,11 +124,12 @@ fn expand(
     requires { ⌜ Readable n (now starts) (now neighbours) ⌝ }
     requires { ⌜ a ≤ b ⌝ }
     requires { ⌜ within n (slice a b (drop n (now work))) ⌝ }
+    requires { ⌜ b + length (found j (take n (now work)) (rows (now starts) (now neighbours) (slice a b (drop n (now work))))) ≤ most ⌝ }
     ensures { λ r. ⌜ Moved n (rows (now (starts .entry)) (now (neighbours .entry)) (slice a b (drop n (now (work .entry))))) j (now (work .entry)) b (now (work .exit)) r ⌝ }
 {
     let mut tail = b;
     let mut h = a;
-    while h < b {
+    while h < b && tail < most {
         let p = work[n + h];
         tail = visit_node(starts, neighbours, work, n, tail, p, j);
         h += 1;
@@ -79,11 +137,28 @@ fn expand(
     tail
 }
 
+// Sets the word where the queue ends to 0, if there is one.
+fn shut(work: &mut [u16], n: usize, tail: usize)
+    requires { ⌜ length (now work) ≡ n + n ⌝ }
+    ensures { λ _. ⌜ now (work .exit) ≡ set (now (work .entry)) (n + tail) 0 ⌝ }
+{
+    if tail < n {
+        work[n + tail] = 0;
+    }
+}
+
 // The levels rooted at `root`, in the first n of the 2n words, and the nodes of its part in the order found in the last n: the last level
-// stands at the queue's end.
-pub fn search(starts: &[u16], neighbours: &[u16], root: u16, work: &mut [u16]) -> Rooted
+// stands at the queue's end. The part has at most `most` nodes.
+pub fn search(
+    starts: &[u16],
+    neighbours: &[u16],
+    root: u16,
+    most: usize,
+    work: &mut [u16],
+) -> Rooted
     requires { ⌜ graphRefusal (now starts) (now neighbours) ≡ 0 ⌝ }
     requires { ⌜ (1 ≤ root) × (root ≤ sizeOf (now starts)) ⌝ }
+    requires { ⌜ length (part (graphOf (now starts) (now neighbours)) root) ≤ most ⌝ }
     requires { ⌜ now work ≡ replicate (sizeOf (now starts) + sizeOf (now starts)) 0 ⌝ }
     ensures { λ r. ⌜ r ≡ rootedOf (levels (graphOf (now (starts .entry)) (now (neighbours .entry))) root) ⌝ }
     ensures { λ _. ⌜ Searched (now (starts .entry)) (now (neighbours .entry)) root (now (work .exit)) ⌝ }
@@ -100,11 +175,12 @@ pub fn search(starts: &[u16], neighbours: &[u16], root: u16, work: &mut [u16]) -
     while a < b {
         width = larger(width, b - a);
         depth += 1;
-        let t = expand(starts, neighbours, work, n, a, b, depth + 1);
+        let t = expand(starts, neighbours, work, n, most, a, b, depth + 1);
         last = a;
         a = b;
         b = t;
     }
+    shut(work, n, b);
     Rooted {
         depth,
         width: width as u16,
@@ -113,8 +189,8 @@ pub fn search(starts: &[u16], neighbours: &[u16], root: u16, work: &mut [u16]) -
     }
 }
 
-// Sets the words of a search to 0 again, by the `count` nodes that its queue holds.
-pub fn wipe(work: &mut [u16], n: usize, count: usize)
+// Sets the words of a search to 0 again, node by node, by the `count` nodes that its queue holds.
+fn wipe_each(work: &mut [u16], n: usize, count: usize)
     requires { ⌜ Queued n count (now work) ⌝ }
     ensures { λ _. ⌜ now (work .exit) ≡ replicate (n + n) 0 ⌝ }
 {
@@ -126,4 +202,15 @@ pub fn wipe(work: &mut [u16], n: usize, count: usize)
         work[n + i] = 0;
         i += 1;
     }
+}
+
+// The same, and in one go where the part has most of the nodes: that is many times faster a word.
+pub fn wipe(work: &mut [u16], n: usize, count: usize)
+    requires { ⌜ Queued n count (now work) ⌝ }
+    ensures { λ _. ⌜ now (work .exit) ≡ replicate (n + n) 0 ⌝ }
+{
+    if count < n / 8 {
+        return wipe_each(work, n, count);
+    }
+    clear(work, n + n);
 }

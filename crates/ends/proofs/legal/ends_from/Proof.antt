@@ -8,11 +8,12 @@ use borrow.Author.Needs.{needs}
 use borrow.Rule.Slice.PartMut.{postOf, same-len-mid}
 use Rattle.spec.specs.Graph.{graphOf, sizeOf}
 use Rattle.laws.specs.Legal.{Node, Starts}
+use Rattle.laws.proofs.Parts.{part-most}
 use Rattle.laws.proofs.Refused.{passed, starts-of}
 use Rattle.ends.specs.Answer.{Ended}
 use Rattle.ends.specs.Passes.{half, At}
 use Rattle.ends.proofs.Areas.{front-lent, front-back, second-lent, second-back}
-use Rattle.ends.proofs.Ending.{Going, first-blank, first-full, first-at, going-begin, small, one-part, next-at, grows, less, going-next, u-node, figures, ended}
+use Rattle.ends.proofs.Ending.{Going, first-blank, first-full, first-at, going-begin, small, one-part, next-at, grows, less, going-next, u-node, u-few, figures, ended}
 use Rattle.ends.proofs.legal.ends_from.Statement.{statement}
 use Rattle.ends.proofs.legal.ends_from.Tie as tie
 
@@ -34,10 +35,10 @@ node s = record { low = s .pre .1 .0 .0; high = s .pre .1 .0 .1 }
 -- the search from the first v stands in the first area
 begun : (c : tie.After-search Inv-loop μ-loop) → let s = start c in
     At (s .args .starts .now) (s .args .neighbours .now) (s .args .first) (c .search .result)
-    (c .search .last .1 .1 .1 .0 ++ postOf 0 (half (s .args .starts .now) - 0) (s .args .work .now))
+    (c .search .last .1 .1 .1 .1 .0 ++ postOf 0 (half (s .args .starts .now) - 0) (s .args .work .now))
 begun c =
     let s = start c in
-    rw (front-back (half (s .args .starts .now)) (s .args .work .now) (c .search .last .1 .1 .1 .0))
+    rw (front-back (half (s .args .starts .now)) (s .args .work .now) (c .search .last .1 .1 .1 .1 .0))
     (first-at (s .args .starts .now) (s .args .neighbours .now) (s .pre .0) (node s) (s .pre .1 .1 .1) (c .search .ensures .0) (c .search .ensures .1))
 
 sub-n : tie.Need-sub-n Inv-loop μ-loop
@@ -58,7 +59,7 @@ part-search-end c = let s = c .before .before .before in omega (arith, first-ful
 search-requires : tie.Need-search-requires Inv-loop μ-loop
 search-requires c κs =
     let s = c .before .before .before .before in
-    (s .pre .0, (s .pre .1 .0, front-lent (half (s .args .starts .now)) (s .args .work .now) ∙ first-blank (s .args .starts .now) (s .args .neighbours .now) (s .pre .0) (node s) (s .pre .1 .1 .1)))
+    (s .pre .0, (s .pre .1 .0, (part-most (graphOf (s .args .starts .now) (s .args .neighbours .now)) (s .args .first), front-lent (half (s .args .starts .now)) (s .args .work .now) ∙ first-blank (s .args .starts .now) (s .args .neighbours .now) (s .pre .0) (node s) (s .pre .1 .1 .1))))
 
 pass-requires : tie.Need-pass-requires Inv-loop μ-loop
 pass-requires c κs = let s = start (c .before .before .before) in (s .args .first, begun (c .before .before .before))
@@ -95,42 +96,45 @@ loop-again c =
     let d = c .before .before .before .before .before .before .before .before .before .before .loop-test .taken in
     going-next (at .loop .inv) d (c .before .before .pass2 .ensures (at .loop .t .node) (next-at (at .loop .inv) d (c .before .before .before .before .before .before .take-over .ensures)))
 
+wide-requires-2 : tie.Need-wide-requires-2 Inv-loop μ-loop
+wide-requires-2 c κs = search needs
+
 mul-search : tie.Need-mul-search Inv-loop μ-loop
-mul-search c = omega (arith, c .before .loop .inv .gave .full)
+mul-search c = omega (arith, c .before .before .loop .inv .gave .full)
 
 sub-search-2 : tie.Need-sub-search-2 Inv-loop μ-loop
-sub-search-2 c = omega (arith, c .before .loop .inv .gave .full)
+sub-search-2 c = omega (arith, c .before .before .loop .inv .gave .full)
 
 part-search-start-2 : tie.Need-part-search-start-2 Inv-loop μ-loop
-part-search-start-2 c = omega (arith, c .before .loop .inv .gave .full)
+part-search-start-2 c = omega (arith, c .before .before .loop .inv .gave .full)
 
 part-search-end-2 : tie.Need-part-search-end-2 Inv-loop μ-loop
 part-search-end-2 c = omega arith
 
 search-requires-2 : tie.Need-search-requires-2 Inv-loop μ-loop
 search-requires-2 c κs =
-    let at = c .before .before in
+    let at = c .before .before .before in
     let I = at .loop .inv in
-    let d = c .before .loop-test .left in
+    let d = c .before .before .loop-test .left in
     let S = start (at .before .before .before .before .before .before .before) .args .starts .now in
-    (I .legal, (u-node I d, second-lent (half S) (at .loop .work) (I .gave .full) ∙ I .gave .flat (sym (I .test) ∙ d) .blank))
+    (I .legal, (u-node I d, (u-few I d (c .before .wide2 .ensures), second-lent (half S) (at .loop .work) (I .gave .full) ∙ I .gave .flat (sym (I .test) ∙ d) .blank)))
 
 same-length : tie.Need-same-length Inv-loop μ-loop
 same-length c =
-    let at = c .before .before .before .before .before in
+    let at = c .before .before .before .before .before .before in
     let s = start (at .before .before .before .before .before .before .before) in
-    same-len-mid (half (s .args .starts .now)) (length (at .loop .work) - half (s .args .starts .now)) (at .loop .work) (c .before .before .search2 .last .1 .1 .1 .0)
-    (c .before .before .search2 .kept .1 .1 .1 .0)
+    same-len-mid (half (s .args .starts .now)) (length (at .loop .work) - half (s .args .starts .now)) (at .loop .work) (c .before .before .search2 .last .1 .1 .1 .1 .0)
+    (c .before .before .search2 .kept .1 .1 .1 .1 .0)
     ∙ at .loop .inv .gave .full ∙ sym (first-full (s .args .starts .now) (s .args .neighbours .now) (s .pre .0) (node s) (s .pre .1 .1 .1))
 
 returns : tie.Need-returns Inv-loop μ-loop
 returns c =
-    let at = c .before .before .before .before .before in
+    let at = c .before .before .before .before .before .before in
     let I = at .loop .inv in
-    let d = c .before .before .before .before .loop-test .left in
+    let d = c .before .before .before .before .before .loop-test .left in
     let s = start (at .before .before .before .before .before .before .before) in
     let E = c .before .before .search2 .ensures in
-    let e = second-back (half (s .args .starts .now)) (at .loop .work) (I .gave .full) (c .before .before .search2 .last .1 .1 .1 .0) in (
+    let e = second-back (half (s .args .starts .now)) (at .loop .work) (I .gave .full) (c .before .before .search2 .last .1 .1 .1 .1 .0) in (
       figures I d (E .0) _ refl refl refl refl refl refl,
       subst (Ended (s .args .starts .now) (s .args .neighbours .now) _) (sym e) (ended I d (E .1)),
     )
@@ -155,6 +159,7 @@ ends-from-spec =
     pass-requires-2
     loop-less
     loop-again
+    wide-requires-2
     mul-search
     sub-search-2
     part-search-start-2

@@ -9,6 +9,7 @@ use Rattle.basis.specs.Lists.{memb}
 use Rattle.spec.specs.Graph.{graphOf, sizeOf, firstInE}
 use Rattle.spec.specs.Levels.{levels, reached}
 use Rattle.laws.specs.Legal.{Node}
+use Rattle.laws.proofs.Parts.{part-most}
 use Rattle.laws.proofs.Refused.{passed, starts-of}
 use Rattle.search.specs.Answer.{Searched}
 use Rattle.search.specs.Queue.{Queued}
@@ -23,7 +24,7 @@ start c = c .before .before .before .before .before
 node : (c : tie.After-search) → let s = start c in Node (graphOf (s .args .starts .now) (s .args .neighbours .now)) (s .args .node)
 node c = let s = start c in record { low = s .pre .1 .0 .0; high = s .pre .1 .0 .1 }
 
-kept : (c : tie.After-search) → let s = start c in Searched (s .args .starts .now) (s .args .neighbours .now) (s .args .node) (c .search .last .1 .1 .1 .0)
+kept : (c : tie.After-search) → let s = start c in Searched (s .args .starts .now) (s .args .neighbours .now) (s .args .node) (c .search .last .1 .1 .1 .1 .0)
 kept c = c .search .ensures .1
 
 reached-is : (c : tie.After-wide) → let s = start (c .before .before .before) in
@@ -33,20 +34,22 @@ reached-is c = c .wide .ensures ∙ ap (λ r. r .reached) (c .before .before .be
 -- the part of the queue that is lent
 queue-lent : (c : tie.After-first-in-e-arg) → let at = c .before .before .before .before .before in let s = start at in
     take (length (s .args .starts .now) - 1 + c .before .before .wide .result - (length (s .args .starts .now) - 1))
-    (drop (length (s .args .starts .now) - 1) (at .search .last .1 .1 .1 .0))
-    ≡ take (reached (levels (graphOf (s .args .starts .now) (s .args .neighbours .now)) (s .args .node))) (drop (sizeOf (s .args .starts .now)) (at .search .last .1 .1 .1 .0))
+    (drop (length (s .args .starts .now) - 1) (at .search .last .1 .1 .1 .1 .0))
+    ≡ take (reached (levels (graphOf (s .args .starts .now) (s .args .neighbours .now)) (s .args .node))) (drop (sizeOf (s .args .starts .now)) (at .search .last .1 .1 .1 .1 .0))
 queue-lent c =
     let at = c .before .before .before .before .before in
     let s = start at in
     let n : ℕ = length (s .args .starts .now) - 1 in
     let e : n + c .before .before .wide .result - n ≡ c .before .before .wide .result = omega arith in
-    ap (λ (k : ℕ). take k (drop n (at .search .last .1 .1 .1 .0))) (e ∙ reached-is (c .before .before))
+    ap (λ (k : ℕ). take k (drop n (at .search .last .1 .1 .1 .1 .0))) (e ∙ reached-is (c .before .before))
 
 sub-n : tie.Need-sub-n
 sub-n c = search needs
 
 search-requires : tie.Need-search-requires
-search-requires c κs = search needs
+search-requires c κs =
+    let s = c .before .before .before .before in
+    (s .pre .0, (s .pre .1 .0, (part-most (graphOf (s .args .starts .now) (s .args .neighbours .now)) (s .args .node), s .pre .1 .1)))
 
 wide-requires : tie.Need-wide-requires
 wide-requires c κs = search needs
@@ -80,7 +83,7 @@ wipe-requires : tie.Need-wipe-requires
 wipe-requires c κs =
     let at = c .before .before .before .before .before .before .before in
     let s = start at in
-    subst (λ (m : ℕ). Queued (sizeOf (s .args .starts .now)) m (at .search .last .1 .1 .1 .0)) (sym (reached-is (c .before .before .before .before))) (kept at .holds)
+    subst (λ (m : ℕ). Queued (sizeOf (s .args .starts .now)) m (at .search .last .1 .1 .1 .1 .0)) (sym (reached-is (c .before .before .before .before))) (kept at .holds)
 
 same-length : tie.Need-same-length
 same-length c = search needs

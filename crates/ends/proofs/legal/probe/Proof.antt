@@ -33,7 +33,7 @@ wipe-requires c κs =
     let at-search = c .before .before .before .before .before .before in
     let s = at-search .before .before .before .before .before in
     let E = at-search .search .ensures in
-    subst (λ (m : ℕ). Queued (sizeOf (s .args .starts .now)) m (at-search .search .last .1 .1 .1 .0))
+    subst (λ (m : ℕ). Queued (sizeOf (s .args .starts .now)) m (at-search .search .last .1 .1 .1 .1 .0))
     (sym (c .wide .ensures ∙ ap (λ r. r .reached) (E .0))) (E .1 .holds)
 
 same-length-2 : tie.Need-same-length-2

@@ -7,24 +7,24 @@ use lib.ListN.{length}
 use borrow.Rule.Slice.PartMut.{same-len-mid}
 use Rattle.laws.proofs.Refused.{passed, starts-of}
 use Rattle.ends.specs.Passes.{half}
-use Rattle.ends.proofs.Trying.{Trying, trying-begin, size, size₀, fits, node-in, blank, trying-deep, trying-new, trying-old, trying-done}
+use Rattle.ends.proofs.Trying.{Trying, trying-begin, size, size₀, fits, node-in, part-few, blank, trying-deep, trying-new, trying-old, trying-done}
 use Rattle.ends.proofs.legal.try_each.Statement.{statement}
 use Rattle.ends.proofs.legal.try_each.Tie as tie
 
 abbrev Inv-loop : tie.InvT-loop
-Inv-loop starts neighbours work₀ a b depth half node₀ best₀ i₀ work node best i = Trying starts neighbours work₀ a b depth work node best i
+Inv-loop starts neighbours work₀ a b depth n half most node₀ best₀ i₀ work node best i = Trying starts neighbours work₀ a b depth work node best i
 
 abbrev μ-loop : tie.MeasureT-loop
-μ-loop starts neighbours work₀ a b depth half node₀ best₀ i₀ work node best i = b - i
+μ-loop starts neighbours work₀ a b depth n half most node₀ best₀ i₀ work node best i = b - i
 
-sub-half : tie.Need-sub-half Inv-loop μ-loop
-sub-half c = let s = c .before .before .before in omega (arith, starts-of (passed (s .args .starts .now) (s .args .neighbours .now) (s .pre .0)) .count)
-
-sub-half-2 : tie.Need-sub-half-2 Inv-loop μ-loop
-sub-half-2 c = let s = c .before .before .before in omega (arith, starts-of (passed (s .args .starts .now) (s .args .neighbours .now) (s .pre .0)) .count)
+sub-n : tie.Need-sub-n Inv-loop μ-loop
+sub-n c = let s = c .before .before .before in omega (arith, starts-of (passed (s .args .starts .now) (s .args .neighbours .now) (s .pre .0)) .count)
 
 add-half : tie.Need-add-half Inv-loop μ-loop
 add-half c = let s = c .before .before .before in omega (arith, starts-of (passed (s .args .starts .now) (s .args .neighbours .now) (s .pre .0)) .few)
+
+sub-most : tie.Need-sub-most Inv-loop μ-loop
+sub-most c = let C = c .before .before .before .pre .1 in omega (arith, C .from, C .some)
 
 loop-holds : tie.Need-loop-holds Inv-loop μ-loop
 loop-holds c = let s = c .before .before .before in trying-begin (s .args .depth) 0 (s .pre .0) (s .pre .1) refl
@@ -51,14 +51,14 @@ probe-requires : tie.Need-probe-requires Inv-loop μ-loop
 probe-requires c κs =
     let I = c .before .before .before .loop .inv in
     let h = c .before .before .loop-test .taken in
-    (I .legal, (node-in I h, blank I h))
+    (I .legal, (node-in I h, (part-few I h, blank I h)))
 
 same-length : tie.Need-same-length Inv-loop μ-loop
 same-length c =
     let at = c .before .before .before .before in
     let in-loop = at .before .before .before .before in
     let S = in-loop .before .before .before .before .args .starts .now in
-    same-len-mid (half S) (length (in-loop .loop .work) - half S) (in-loop .loop .work) (at .probe .last .1 .1 .1 .1 .0) (at .probe .kept .1 .1 .1 .1 .0)
+    same-len-mid (half S) (length (in-loop .loop .work) - half S) (in-loop .loop .work) (at .probe .last .1 .1 .1 .1 .1 .0) (at .probe .kept .1 .1 .1 .1 .1 .0)
     ∙ size₀ (in-loop .loop .inv)
 
 returns : tie.Need-returns Inv-loop μ-loop
@@ -94,9 +94,9 @@ try-each-spec =
     (tie.spec
     Inv-loop
     μ-loop
-    sub-half
-    sub-half-2
+    sub-n
     add-half
+    sub-most
     loop-holds
     mul-s
     slice-read-s

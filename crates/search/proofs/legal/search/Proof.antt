@@ -2,10 +2,10 @@
 use mathlib.Core.Path.{_≡_, refl, sym, ap, _∙_, subst}
 use mathlib.Core.List.{List}
 use Prim.Native.Nat.{ℕ, _+_, _-_, _≤_, _<_, max}
-use native.Mathlib.Nat.{add-zero}
+use native.Mathlib.Nat.{add-zero, le-trans}
 use native.Mathlib.Omega.{arith}
 use lib.ListN.{length, take, drop, set, replicate, length-set, length-replicate}
-use lib.Seq.{slice}
+use lib.Seq.{slice, take-set-le, drop-set-add}
 use borrow.Author.Needs.{needs}
 use Rattle.spec.specs.Graph.{graphOf, sizeOf, graphRefusal}
 use Rattle.laws.specs.Legal.{Node}
@@ -15,7 +15,7 @@ use Rattle.search.specs.Answer.{Searched}
 use Rattle.search.proofs.Round.{readable}
 use Rattle.search.proofs.Stores.{write-front, write-behind, take-replicate, drop-replicate}
 use Rattle.search.proofs.Level.{w-most}
-use Rattle.search.proofs.Turns.{Rounds, begin, step, nodes-in, b-most, room, numbers, searched}
+use Rattle.search.proofs.Turns.{Rounds, begin, step, nodes-in, b-most, room, bound, numbers, searched}
 use Rattle.search.proofs.legal.search.Statement.{statement}
 use Rattle.search.proofs.legal.search.Tie as tie
 
@@ -85,8 +85,11 @@ module _ {S N : List ℕ} {root n : ℕ} {W : List ℕ} {last a b d w : ℕ} (I 
       → Inside S N root n W′ a b b′ (d + 1) w′
   again h e P ew = record { is = I .is; full = e ∙ I .full; on = step (I .on) h P ew }
 
-  found-all : b ≤ a → Searched S N root W
-  found-all h = searched (I .on) h W (I .full ∙ ap (λ (m : ℕ). m + m) (I .is)) (ap (λ (m : ℕ). take m W) (I .is)) (ap (λ (m : ℕ). drop m W) (I .is))
+  found-all : b ≤ a → {X : List ℕ} → X ≡ set W (n + b) 0 → Searched S N root X
+  found-all h {X} e =
+      searched (I .on) h X (ap length e ∙ length-set W (n + b) 0 ∙ I .full ∙ ap (λ (m : ℕ). m + m) (I .is))
+      (sym (ap (take n) e ∙ take-set-le n W (n + b) 0 (omega arith)) ∙ ap (λ (m : ℕ). take m X) (I .is))
+      (sym (ap (drop n) e ∙ drop-set-add n W b 0) ∙ ap (λ (m : ℕ). drop m X) (I .is))
 
   d-small : a < b → d < 4096
   d-small h = omega (arith, I .on .level .early, b-most (I .on), readable S N (I .on .level .legal) .starts .few)
@@ -101,15 +104,15 @@ module _ {S N : List ℕ} {root n : ℕ} {W : List ℕ} {last a b d w : ℕ} (I 
   last-small = omega (arith, b-small, I .on .tail-before, I .on .order)
 
 abbrev Inv-loop : tie.InvT-loop
-Inv-loop starts neighbours root work₀ n at last₀ a₀ b₀ depth₀ width₀ work last a b depth width = Inside starts neighbours root n work last a b depth width
+Inv-loop starts neighbours root most work₀ n at last₀ a₀ b₀ depth₀ width₀ work last a b depth width = Inside starts neighbours root n work last a b depth width
 
 abbrev μ-loop : tie.MeasureT-loop
-μ-loop starts neighbours root work₀ n at last₀ a₀ b₀ depth₀ width₀ work last a b depth width = sizeOf starts - a
+μ-loop starts neighbours root most work₀ n at last₀ a₀ b₀ depth₀ width₀ work last a b depth width = sizeOf starts - a
 
 start : (c : tie.After-wide Inv-loop μ-loop) → let s = c .before .before .before .before in Start (s .args .starts .now) (s .args .neighbours .now) (s .args .root) (s .args .work .now)
 start c =
     let s = c .before .before .before .before in
-    record { legal = s .pre .0; node = record { low = s .pre .1 .0 .0; high = s .pre .1 .0 .1 }; zero = s .pre .1 .1 }
+    record { legal = s .pre .0; node = record { low = s .pre .1 .0 .0; high = s .pre .1 .0 .1 }; zero = s .pre .1 .1 .1 }
 
 sub-n : tie.Need-sub-n Inv-loop μ-loop
 sub-n c = let s = c .before .before .before in omega (arith, readable (s .args .starts .now) (s .args .neighbours .now) (s .pre .0) .starts .some)
@@ -148,7 +151,10 @@ add-expand : tie.Need-add-expand Inv-loop μ-loop
 add-expand c = omega (arith, d-small (c .before .before .before .loop .inv) (c .before .before .loop-test .taken))
 
 expand-requires : tie.Need-expand-requires Inv-loop μ-loop
-expand-requires c κs = let I = c .before .before .before .loop .inv in (lent I, (graph I, (I .on .order, window I)))
+expand-requires c κs =
+    let I = c .before .before .before .loop .inv in
+    let s = c .before .before .before .before .before .before .before .before in
+    (lent I, (graph I, (I .on .order, (window I, le-trans (bound (I .on) (c .before .before .loop-test .taken)) (s .pre .1 .1 .0)))))
 
 loop-less : tie.Need-loop-less Inv-loop μ-loop
 loop-less c = omega (arith, c .before .before .before .before .before .loop-test .taken, b-most (c .before .before .before .before .before .before .loop .inv .on))
@@ -156,20 +162,28 @@ loop-less c = omega (arith, c .before .before .before .before .before .loop-test
 loop-again : tie.Need-loop-again Inv-loop μ-loop
 loop-again c = again (c .before .before .before .before .before .before .loop .inv) (c .before .before .before .before .before .loop-test .taken) (c .before .before .expand .kept .1 .1 .0) (c .before .before .expand .ensures) (c .before .before .before .before .larger .ensures)
 
-cast-t21 : tie.Need-cast-t21 Inv-loop μ-loop
-cast-t21 c = omega (arith, w-small (c .before .loop .inv))
+shut-requires : tie.Need-shut-requires Inv-loop μ-loop
+shut-requires c κs = c .before .before .loop .inv .full
 
-cast-t22 : tie.Need-cast-t22 Inv-loop μ-loop
-cast-t22 c = omega (arith, b-small (c .before .loop .inv))
+cast-t25 : tie.Need-cast-t25 Inv-loop μ-loop
+cast-t25 c = omega (arith, w-small (c .before .before .before .before .before .loop .inv))
 
-cast-t23 : tie.Need-cast-t23 Inv-loop μ-loop
-cast-t23 c = omega (arith, last-small (c .before .loop .inv))
+cast-t26 : tie.Need-cast-t26 Inv-loop μ-loop
+cast-t26 c = omega (arith, b-small (c .before .before .before .before .before .loop .inv))
+
+cast-t27 : tie.Need-cast-t27 Inv-loop μ-loop
+cast-t27 c = omega (arith, last-small (c .before .before .before .before .before .loop .inv))
 
 same-length : tie.Need-same-length Inv-loop μ-loop
-same-length c = c .before .loop .inv .full ∙ sym (W-size (start (c .before .before)) (c .before .before .wide .ensures))
+same-length c =
+    let l = c .before .before .before .before .before in
+    c .before .before .shut .kept .0 ∙ l .loop .inv .full ∙ sym (W-size (start (l .before)) (l .before .wide .ensures))
 
 returns : tie.Need-returns Inv-loop μ-loop
-returns c = let I = c .before .loop .inv in let h = c .loop-test .left in (numbers (I .on) h _ refl refl refl refl, found-all I h)
+returns c =
+    let I = c .before .before .before .before .before .loop .inv in
+    let h = c .before .before .before .before .loop-test .left in
+    (numbers (I .on) h _ refl refl refl refl, found-all I h (c .before .before .shut .ensures))
 
 pub search-spec : {M : Type 1} → statement M
 search-spec =
@@ -192,8 +206,9 @@ search-spec =
     expand-requires
     loop-less
     loop-again
-    cast-t21
-    cast-t22
-    cast-t23
+    shut-requires
+    cast-t25
+    cast-t26
+    cast-t27
     same-length
     returns)

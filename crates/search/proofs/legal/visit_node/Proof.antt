@@ -1,6 +1,11 @@
 -- `search::legal::visit_node` meets its contract: the row of p is what `visit` visits. Assumes nothing.
 use mathlib.Core.Path.{_≡_, sym, ap, _∙_, subst}
+use mathlib.Core.Bool.{true}
+use mathlib.Core.List.{List}
+use Prim.Native.Nat.{ℕ}
+use lib.Dec.{ltb}
 use borrow.Author.Needs.{needs}
+use Rattle.basis.specs.Lists.{chainb}
 use Rattle.spec.specs.Graph.{rowOf}
 use Rattle.search.specs.Marks.{within}
 use Rattle.search.proofs.legal.visit_node.Statement.{statement}
@@ -22,7 +27,11 @@ row-is c =
 visit-requires : tie.Need-visit-requires
 visit-requires c κs =
     let s = c .before .before .before .before .before .before in
-    (s .pre .0, subst (within (s .args .n)) (sym (row-is (c .before))) (s .pre .1 .0 .inside (s .args .p)))
+    let r = sym (row-is (c .before)) in
+    let G = s .pre .1 .0 in (
+      s .pre .0,
+      (subst (within (s .args .n)) r (G .inside (s .args .p)), subst (λ (row : List ℕ). chainb ltb row ≡ true) r (G .rises (s .args .p))),
+    )
 
 same-length : tie.Need-same-length
 same-length c = search needs
