@@ -1,0 +1,173 @@
+// The adjacency test, the measures and the elimination: see jobs.h. BUILD is the namespace of this compilation.
+#include "jobs.h"
+
+#include <algorithm>
+
+namespace BUILD {
+
+// Whether a row that rises holds p: halving without a branch on what is read.
+static inline bool holds(const u16 *row, u32 length, u32 p) {
+  while (length > 1) {
+    u32 half = length / 2;
+    row += row[half - 1] < p ? half : 0;
+    length -= half;
+  }
+  return length == 1 && *row == p;
+}
+
+// Every entry q < p of row p must have p in row q. That is enough where as many entries are above their row's number as below: each entry
+// below has another partner among those above.
+u16 test_adjacency(const u16 *starts, size_t starts_len, const u16 *neighbours, size_t length) {
+  if (starts_len < 2 || starts_len > MAX_NODES + 1) return 1;
+  const u32 n = u32(starts_len - 1);
+  if (starts[0] != 0 || starts[n] != length || length > MAX_ENTRIES) return 2;
+  bool falls = false;
+  for (u32 p = 1; p <= n; p++) falls |= starts[p] < starts[p - 1];
+  if (falls) return 2;
+  bool bad = false, lacking = false;
+  u32 below = 0;
+  for (u32 p = 1; p <= n && !bad; p++) {
+    const u32 from = starts[p - 1], to = starts[p];
+    u32 last = 0, k = from;
+    for (; k < to && neighbours[k] < p; k++) {
+      const u32 q = neighbours[k];
+      bad |= q <= last;
+      last = q;
+      if (!bad) lacking |= !holds(neighbours + starts[q - 1], starts[q] - starts[q - 1], p);
+    }
+    below += k - from;
+    last = p;  // what follows is above p
+    for (; k < to; k++) {
+      const u32 q = neighbours[k];
+      bad |= q <= last;
+      last = q;
+    }
+    bad |= last > n;
+  }
+  if (bad) return 3;
+  return lacking || 2 * below != length ? 4 : 0;
+}
+
+// With a cursor for each row: rows are met in rising order, so each must be the next partner of the row that its entry names.
+bool bare_test(const u16 *starts, const u16 *neighbours, u32 n) {
+  u16 cursors[MAX_NODES];
+  memcpy(cursors, starts, n * sizeof(u16));
+  bool good = true;
+  for (u32 p = 1; p <= n && good; p++) {
+    u32 last = 0;
+    for (u32 k = starts[p - 1]; k < starts[p] && good; k++) {
+      const u32 q = neighbours[k];
+      good = q > last && q <= n && q != p && cursors[q - 1] < starts[q] && neighbours[cursors[q - 1]] == p;
+      if (good) cursors[q - 1]++;
+      last = q;
+    }
+  }
+  return good;
+}
+
+// 7: whether the numbering has each of 1..n once. The n scratch words end as 0.
+static bool is_numbering(const u16 *numbering, size_t length, u32 n, u16 *scratch) {
+  clear(scratch, n);
+  if (length != n) return false;
+  bool out = false;
+  for (u32 i = 0; i < n; i++) {
+    const u32 at = numbering[i] - 1u;
+    out |= at >= n;
+    scratch[at < n ? at : 0] = 1;
+  }
+  u32 count = 0;
+  for (u32 i = 0; i < n; i++) count += scratch[i];
+  clear(scratch, n);
+  return !out && count == n;
+}
+
+// The least of the number of a node and those of its neighbours.
+static inline u32 first_of(const u16 *starts, const u16 *neighbours, const u16 *numbering, u32 p) {
+  u32 first = numbering[p];
+  for (u32 k = starts[p]; k < starts[p + 1]; k++) {
+    const u32 q = numbering[neighbours[k] - 1];
+    first = q < first ? q : first;
+  }
+  return first;
+}
+
+// The bandwidth is the greatest q - f_q. The front at i is the count of the f_q up to i less the numbers passed.
+void bare_measures(const u16 *starts, const u16 *neighbours, u32 n, const u16 *numbering, u16 *scratch, u64 *figures) {
+  u32 bandwidth = 0, profile = 0, front = 0, live = 0;
+  clear(scratch, n);
+  for (u32 p = 0; p < n; p++) {
+    const u32 first = first_of(starts, neighbours, numbering, p), reach = numbering[p] - first;
+    scratch[first - 1]++;
+    profile += reach;
+    bandwidth = std::max(bandwidth, reach);
+  }
+  for (u32 i = 0; i < n; i++) {
+    live += scratch[i];
+    front = std::max(front, live);
+    live--;
+  }
+  figures[0] = bandwidth;
+  figures[1] = profile;
+  figures[2] = front;
+}
+
+u16 measures(const u16 *starts, size_t starts_len, const u16 *neighbours, size_t neighbours_len, const u16 *numbering,
+                  size_t numbering_len, u16 *scratch, size_t scratch_len, u64 *figures, size_t figures_len) {
+  if (u16 refusal = test_adjacency(starts, starts_len, neighbours, neighbours_len)) return refusal;
+  const u32 n = u32(starts_len - 1);
+  if (scratch_len < n || figures_len < 3) return 5;
+  if (!is_numbering(numbering, numbering_len, n, scratch)) return 7;
+  bare_measures(starts, neighbours, n, numbering, scratch, figures);
+  clear(scratch, n);
+  return 0;
+}
+
+// Row q of the factor is what the lower neighbours of q reach by going from each number to its parent, the first number above it that it is
+// joined to. The marks tell which are reached. The scratch word of a number holds its node until its row is made, then its parent.
+void bare_eliminate(const u16 *starts, const u16 *neighbours, u32 n, const u16 *numbering, u16 *scratch, u8 *bytes, size_t bytes_len,
+                    u64 *figures) {
+  memset(bytes, 0, bytes_len);
+  for (u32 p = 0; p < n; p++) scratch[numbering[p] - 1] = u16(p + 1);
+  u32 start = 0, marked = 0;
+  for (u32 q = 1; q <= n; q++) {
+    const u32 node = scratch[q - 1] - 1u;
+    scratch[q - 1] = 0;
+    const u32 first = first_of(starts, neighbours, numbering, node);
+    for (u32 k = starts[node]; k < starts[node + 1]; k++) {
+      u32 p = numbering[neighbours[k] - 1];
+      while (p < q) {
+        const u32 t = start + p - first;
+        const u8 bit = u8(1u << (t % 8));
+        if (bytes[t / 8] & bit) break;
+        bytes[t / 8] |= bit;
+        marked++;
+        const u32 parent = scratch[p - 1];
+        if (parent == 0) {
+          scratch[p - 1] = u16(q);
+          break;
+        }
+        p = parent;
+      }
+    }
+    start += q - first;
+  }
+  figures[0] = marked;
+  figures[1] = marked - starts[n] / 2u;
+}
+
+u16 eliminate(const u16 *starts, size_t starts_len, const u16 *neighbours, size_t neighbours_len, const u16 *numbering,
+                   size_t numbering_len, u16 *scratch, size_t scratch_len, u8 *bytes, size_t bytes_len, u64 *figures, size_t figures_len) {
+  if (u16 refusal = test_adjacency(starts, starts_len, neighbours, neighbours_len)) return refusal;
+  const u32 n = u32(starts_len - 1);
+  if (scratch_len < n || figures_len < 2) return 5;
+  if (!is_numbering(numbering, numbering_len, n, scratch)) return 7;
+  u32 profile = 0;
+  for (u32 p = 0; p < n; p++) profile += numbering[p] - first_of(starts, neighbours, numbering, p);
+  const u32 used = (profile + 7) / 8;
+  if (bytes_len < used) return 8;
+  bare_eliminate(starts, neighbours, n, numbering, scratch, bytes, used, figures);
+  clear(scratch, n);
+  return 0;
+}
+
+}  // namespace BUILD

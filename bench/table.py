@@ -1,0 +1,108 @@
+"""The lines of the timing program as tables."""
+
+from math import exp, log
+
+# The line of docs/PERFORMANCE.md below which the tables stand.
+BELOW = '## Measured\n'
+
+CALLS = ('adjacency test', 'mesh', 'measures', 'whole run', 'elimination', 'measures, numbers as given', 'elimination, numbers as given')
+EACH, MEAN = 2.0, 1.5
+
+
+class Mesh:
+    def __init__(self, name, nodes, entries, parts):
+        self.name, self.nodes, self.entries, self.parts = name, nodes, entries, parts
+        self.times = {}    # call: nanoseconds of the proved library, of the C++ for any processor and for this one, of the bare stage
+        self.figures = {}  # 'as given', 'whole run': bandwidth, profile, front
+        self.peers = {}    # name: nanoseconds, bandwidth, profile, front; or a word
+
+
+def read(text):
+    meshes = []
+    for line in text.splitlines():
+        kind, name, *rest = line.split('\t')
+        if kind == 'mesh':
+            meshes.append(Mesh(name, *map(int, rest)))
+        elif kind == 'time':
+            meshes[-1].times[name] = list(map(float, rest))
+        elif kind == 'figures':
+            meshes[-1].figures[name] = list(map(int, rest))
+        elif kind == 'peer':
+            meshes[-1].peers[name] = rest[0] if len(rest) == 1 else [float(rest[0])] + list(map(int, rest[1:]))
+    return meshes
+
+
+def rows(head, body):
+    return '\n'.join('| ' + ' | '.join(row) + ' |' for row in [head, ['---'] * len(head)] + body) + '\n'
+
+
+def micro(nanoseconds):
+    return '{:,.0f}'.format(nanoseconds / 1000) if nanoseconds >= 1e5 else '%.1f' % (nanoseconds / 1000)
+
+
+def times(ratio):
+    return '%.0f' % ratio if ratio >= 20 else '%.1f' % ratio if ratio >= 5 else '%.2f' % ratio
+
+
+def ratio(mesh, call):
+    """Of the proved library to the same job in C++ for this processor."""
+    return mesh.times[call][0] / mesh.times[call][2]
+
+
+def mean(values):
+    return exp(sum(map(log, values)) / len(values))
+
+
+def summary(meshes):
+    body = []
+    for call in CALLS:
+        ratios = {mesh.name: ratio(mesh, call) for mesh in meshes}
+        missed = [name for name, r in ratios.items() if r > EACH]
+        average = mean(ratios.values())
+        goal = ['mean'] * (average > MEAN) + ['%d of %d meshes' % (len(missed), len(ratios))] * bool(missed)
+        body.append([call, times(min(ratios.values())), times(max(ratios.values())), times(average),
+                     'missed: ' + ', '.join(goal) if goal else 'met'])
+    return rows(['call', 'least ratio', 'greatest', 'geometric mean', 'goal'], body)
+
+
+def call_table(meshes, call):
+    body = []
+    for mesh in meshes:
+        ours, plain, same, bare = mesh.times[call]
+        mark = ' **' if ours / same > EACH else ' '
+        body.append([mesh.name, micro(ours), micro(same), (mark + times(ours / same) + mark[::-1]).strip(), times(ours / plain), times(ours / bare)])
+    return rows(['mesh', 'proved, µs', 'same job, µs', 'ratio', 'ratio, plain -O3', 'ratio, bare stage'], body)
+
+
+def figures(values):
+    return '{:,} / {:,} / {:,}'.format(*values)
+
+
+def figure_table(meshes):
+    names = list(meshes[0].peers)
+    body = []
+    for mesh in meshes:
+        cells = [mesh.peers[name] for name in names]
+        body.append([mesh.name] + ['{:,}'.format(count) for count in (mesh.nodes, mesh.entries, mesh.parts)]
+                    + [figures(mesh.figures[which]) for which in ('as given', 'whole run')]
+                    + [cell if isinstance(cell, str) else figures(cell[1:]) for cell in cells])
+    return rows(['mesh', 'nodes', 'entries', 'parts', 'as given', 'whole run'] + names, body)
+
+
+def peer_table(meshes):
+    names = list(meshes[0].peers)
+    body = []
+    for mesh in meshes:
+        ours = mesh.times['whole run'][0]
+        cells = [mesh.peers[name] for name in names]
+        body.append([mesh.name, micro(ours)] + [cell if isinstance(cell, str) else times(cell[0] / ours) for cell in cells])
+    return rows(['mesh', 'whole run, µs'] + names, body)
+
+
+def tables(meshes):
+    parts = ['\nRatios of processor time, the proved library to the same job in C++. Over %g: bold.\n' % EACH, summary(meshes)]
+    for call in CALLS:
+        parts += ['### %s\n' % (call[0].upper() + call[1:]), call_table(meshes, call)]
+    parts += ['### Other programs: time\n', 'Multiples of the time of our whole run; below 1 they are faster.\n', peer_table(meshes),
+              '### Bandwidth, profile and front\n', figure_table(meshes)]
+    return '\n'.join(parts)

@@ -1,0 +1,268 @@
+// timing [--quick] MESH.grd ..: each call of the C interface on each mesh, the proved library against the same job in C++, in one process.
+// First all answers and buffers are compared, also on damaged input: a difference ends the run with status 1. Then each call is timed: medians of
+// the processor time of the thread, the programs taking turns. Lines for table.py go to standard output, their columns split by tabs.
+#include "../include/wagonepoch.h"
+#include "jobs.h"
+#include "peers.h"
+
+#include <algorithm>
+#include <cstdio>
+#include <cstdlib>
+#include <ctime>
+#include <functional>
+#include <string>
+#include <vector>
+
+typedef std::vector<u16> Words;
+
+// The calls of one program.
+struct Calls {
+  decltype(&wagonepoch_test_adjacency) test_adjacency;
+  decltype(&wagonepoch_mesh) mesh;
+  decltype(&wagonepoch_run) run;
+  decltype(&wagonepoch_measures) measures;
+  decltype(&wagonepoch_eliminate) eliminate;
+};
+
+#define CALLS_OF(build) {build::test_adjacency, build::mesh, build::run, build::measures, build::eliminate}
+static const Calls PROGRAMS[] = {
+    {wagonepoch_test_adjacency, wagonepoch_mesh, wagonepoch_run, wagonepoch_measures, wagonepoch_eliminate},
+    CALLS_OF(any_processor),
+    CALLS_OF(this_processor),
+};
+
+// What is lent to a call, and its answer. A list may be longer than it need be.
+struct Lent {
+  Words starts, neighbours, numbers, levels, scratch;
+  std::vector<u8> bytes;
+  std::vector<u64> figures;
+  u16 answer;
+
+  explicit Lent(size_t n, size_t byte_count = 0)
+      : starts(n + 3, 60001), neighbours(32770, 60002), numbers(n + 2, 60003), levels(n + 2, 60004), scratch(8 * n + 2, 60005),
+        bytes(byte_count + 2, 165), figures(12, 60006), answer(65535) {}
+
+  bool operator==(const Lent &o) const {
+    return answer == o.answer && starts == o.starts && neighbours == o.neighbours && numbers == o.numbers && levels == o.levels &&
+           scratch == o.scratch && bytes == o.bytes && figures == o.figures;
+  }
+};
+
+// What a call is given.
+struct Given {
+  size_t n;
+  Words elements, starts, neighbours, numbering;
+};
+
+typedef std::function<void(const Calls &, const Given &, Lent &)> Job;
+
+static void test_job(const Calls &c, const Given &g, Lent &l) {
+  l.answer = c.test_adjacency(g.starts.data(), g.starts.size(), g.neighbours.data(), g.neighbours.size());
+}
+static void mesh_job(const Calls &c, const Given &g, Lent &l) {
+  l.answer = c.mesh(g.n, g.elements.data(), g.elements.size(), l.starts.data(), l.starts.size(), l.neighbours.data(), l.neighbours.size(),
+                    l.scratch.data(), l.scratch.size(), l.figures.data(), l.figures.size());
+}
+static void run_job(const Calls &c, const Given &g, Lent &l) {
+  l.answer = c.run(g.starts.data(), g.starts.size(), g.neighbours.data(), g.neighbours.size(), l.numbers.data(), l.numbers.size(),
+                   l.levels.data(), l.levels.size(), l.scratch.data(), l.scratch.size(), l.figures.data(), l.figures.size());
+}
+static void measures_job(const Calls &c, const Given &g, Lent &l) {
+  l.answer = c.measures(g.starts.data(), g.starts.size(), g.neighbours.data(), g.neighbours.size(), g.numbering.data(), g.numbering.size(),
+                        l.scratch.data(), l.scratch.size(), l.figures.data(), l.figures.size());
+}
+static void eliminate_job(const Calls &c, const Given &g, Lent &l) {
+  l.answer = c.eliminate(g.starts.data(), g.starts.size(), g.neighbours.data(), g.neighbours.size(), g.numbering.data(),
+                         g.numbering.size(), l.scratch.data(), l.scratch.size(), l.bytes.data(), l.bytes.size(), l.figures.data(),
+                         l.figures.size());
+}
+
+static std::string mesh_name;
+
+// The job by every program on equal buffers, which must end equal, with the answer wanted. Returns what the proved library left.
+static Lent agreed(const char *call, const Job &job, const Given &given, const Lent &lent, u16 wanted) {
+  std::vector<Lent> ends;
+  for (const Calls &program : PROGRAMS) {
+    ends.push_back(lent);
+    job(program, given, ends.back());
+    if (!(ends.back() == ends[0]) || ends[0].answer != wanted) {
+      printf("%s, %s: the proved library answers %u, program %zu %u, wanted %u; buffers %s\n", mesh_name.c_str(), call, ends[0].answer,
+             ends.size(), ends.back().answer, wanted, ends.back() == ends[0] ? "agree" : "differ");
+      exit(1);
+    }
+  }
+  return ends[0];
+}
+
+// Refusals: each of a few damages to what is given or lent, and the number that it must get.
+static void try_refusals(const Given &good, size_t byte_count) {
+  const size_t n = good.n;
+  auto refused = [&](const Job &job, u16 wanted, const std::function<void(Given &, Lent &)> &damage) {
+    Given given = good;
+    Lent lent(n, byte_count);
+    damage(given, lent);
+    agreed("a refusal", job, given, lent, wanted);
+  };
+  for (const Job &job : {Job(test_job), Job(run_job), Job(measures_job), Job(eliminate_job)}) {
+    refused(job, 1, [](Given &g, Lent &) { g.starts.clear(); });
+    refused(job, 1, [](Given &g, Lent &) { g.starts.resize(1); });
+    refused(job, 1, [](Given &g, Lent &) { g.starts.resize(4098, g.starts.back()); });
+    refused(job, 2, [](Given &g, Lent &) { g.starts[0] = 1; });
+    refused(job, 2, [](Given &g, Lent &) { g.starts.back()++; });
+    refused(job, 2, [n](Given &g, Lent &) { g.starts[n / 2] = 40000; });
+    if (good.neighbours.empty()) continue;
+    const size_t last = good.neighbours.size() - 1;
+    const size_t row = size_t(std::lower_bound(good.starts.begin(), good.starts.end(), last + 1) - good.starts.begin());
+    refused(job, 3, [](Given &g, Lent &) { g.neighbours[0] = 0; });
+    refused(job, 3, [=](Given &g, Lent &) { g.neighbours[last] = u16(n + 1); });
+    refused(job, 3, [=](Given &g, Lent &) { g.neighbours[last] = u16(row); });
+    // the last entry taken out: its partner lacks it
+    refused(job, 4, [=](Given &g, Lent &) {
+      g.neighbours.erase(g.neighbours.begin() + long(last));
+      for (size_t p = row; p <= n; p++) g.starts[p]--;
+    });
+  }
+  for (const Job &job : {Job(run_job), Job(measures_job), Job(eliminate_job), Job(mesh_job)}) {
+    refused(job, 5, [n](Given &, Lent &l) { l.scratch.resize(n - 1); });
+    refused(job, 5, [](Given &, Lent &l) { l.figures.clear(); });
+  }
+  refused(run_job, 5, [n](Given &, Lent &l) { l.numbers.resize(n - 1); });
+  refused(run_job, 5, [n](Given &, Lent &l) { l.levels.resize(n - 1); });
+  refused(run_job, 5, [n](Given &, Lent &l) { l.scratch.resize(8 * n - 1); });
+  for (const Job &job : {Job(measures_job), Job(eliminate_job)}) {
+    refused(job, 7, [](Given &g, Lent &) { g.numbering.pop_back(); });
+    refused(job, 7, [](Given &g, Lent &) { g.numbering[0] = 0; });
+    refused(job, 7, [n](Given &g, Lent &) { g.numbering[n - 1] = u16(n + 1); });
+    refused(job, 7, [n](Given &g, Lent &) { g.numbering[0] = g.numbering[n - 1]; });
+  }
+  if (byte_count) refused(eliminate_job, 8, [=](Given &, Lent &l) { l.bytes.resize(byte_count - 1); });
+  refused(mesh_job, 1, [](Given &g, Lent &) { g.n = 0; });
+  refused(mesh_job, 1, [](Given &g, Lent &) { g.n = 4097; });
+  refused(mesh_job, 5, [n](Given &, Lent &l) { l.starts.resize(n); });
+  refused(mesh_job, 5, [](Given &, Lent &l) { l.neighbours.resize(32767); });
+  refused(mesh_job, 9, [](Given &g, Lent &) { g.elements.insert(g.elements.end(), {11, 1, 2}); });
+  refused(mesh_job, 9, [](Given &g, Lent &) { g.elements.insert(g.elements.end(), {1, 1}); });
+  refused(mesh_job, 10, [n](Given &g, Lent &) { g.elements.insert(g.elements.end(), {1, 1, u16(n + 1)}); });
+  refused(mesh_job, 10, [](Given &g, Lent &) { g.elements.insert(g.elements.end(), {2, 1, 2, 1}); });
+  refused(mesh_job, 11, [n](Given &g, Lent &) {  // bars from each of twenty nodes to all others
+    for (u16 p = 1; p <= 20; p++)
+      for (u16 q = u16(p + 1); q <= n; q++) g.elements.insert(g.elements.end(), {1, p, q});
+  });
+}
+
+static u64 now() {
+  timespec t;
+  clock_gettime(CLOCK_THREAD_CPUTIME_ID, &t);
+  return u64(t.tv_sec) * 1000000000 + u64(t.tv_nsec);
+}
+
+typedef std::function<void()> Step;
+
+// Medians in nanoseconds. A short step is repeated until the clock's own time doesn't count. The steps take turns.
+static std::vector<double> medians(const std::vector<Step> &steps, bool quick) {
+  const u64 slice = quick ? 0 : 100000, budget = quick ? 0 : 1500000000;
+  std::vector<u64> repeats;
+  std::vector<std::vector<double>> times(steps.size());
+  for (const Step &step : steps) {
+    const u64 begin = now();
+    step();
+    repeats.push_back(1 + slice / (now() - begin + 1));
+  }
+  const u64 begin = now();
+  do {
+    for (size_t i = 0; i < steps.size(); i++) {
+      const u64 from = now();
+      for (u64 k = 0; k < repeats[i]; k++) steps[i]();
+      times[i].push_back(double(now() - from) / double(repeats[i]));
+    }
+  } while (!quick && (times[0].size() < 5 || (now() - begin < budget && times[0].size() < 101)));
+  std::vector<double> result;
+  for (auto &t : times) {
+    std::nth_element(t.begin(), t.begin() + long(t.size() / 2), t.end());
+    result.push_back(t[t.size() / 2]);
+  }
+  return result;
+}
+
+// Times the job by every program and, last, the bare stage.
+static void time_job(const char *call, const Job &job, const Given &given, const Lent &lent, const Step &bare, bool quick) {
+  std::vector<Lent> lents(std::size(PROGRAMS), lent);
+  std::vector<Step> steps;
+  for (size_t i = 0; i < lents.size(); i++) steps.push_back([&, i] { job(PROGRAMS[i], given, lents[i]); });
+  steps.push_back(bare);
+  printf("time\t%s", call);
+  for (double t : medians(steps, quick)) printf("\t%.0f", t);
+  printf("\n");
+}
+
+static Words words_of(const std::string &path) {
+  FILE *file = fopen(path.c_str(), "rb");
+  if (!file) {
+    printf("cannot read %s\n", path.c_str());
+    exit(1);
+  }
+  Words words;
+  fseek(file, 3, SEEK_SET);
+  for (int low = getc(file); low != EOF; low = getc(file)) words.push_back(u16(low | getc(file) << 8));
+  fclose(file);
+  return words;
+}
+
+// One mesh: all calls agree, then all are timed, then the peers.
+static void bench(const std::string &path, bool quick) {
+  mesh_name = path.substr(path.find_last_of('/') + 1);
+  mesh_name.resize(mesh_name.size() - 4);
+  const Words file = words_of(path);
+  Given g = {file[1], Words(file.begin() + 3, file.end()), {}, {}, {}};
+  const u32 n = u32(g.n);
+  const Lent lists = agreed("mesh", mesh_job, g, Lent(n), 0);
+  g.starts.assign(lists.starts.begin(), lists.starts.begin() + n + 1);
+  g.neighbours.assign(lists.neighbours.begin(), lists.neighbours.begin() + long(lists.figures[0]));
+  g.neighbours.reserve(1);
+  agreed("adjacency test", test_job, g, Lent(n), 0);
+  const Lent ran = agreed("whole run", run_job, g, Lent(n), 0);
+  const Words numbers(ran.numbers.begin(), ran.numbers.begin() + n);
+  for (u32 p = 1; p <= n; p++) g.numbering.push_back(u16(p));
+  const Lent measured = agreed("measures", measures_job, g, Lent(n), 0);
+  printf("mesh\t%s\t%u\t%zu\t%llu\n", mesh_name.c_str(), n, g.neighbours.size(), (unsigned long long)ran.figures[1]);
+  printf("figures\tas given\t%llu\t%llu\t%llu\n", (unsigned long long)measured.figures[0], (unsigned long long)measured.figures[1],
+         (unsigned long long)measured.figures[2]);
+  printf("figures\twhole run\t%llu\t%llu\t%llu\n", (unsigned long long)ran.figures[2], (unsigned long long)ran.figures[3],
+         (unsigned long long)ran.figures[4]);
+  if (n < 1500) try_refusals(g, (measured.figures[1] + 7) / 8);  // larger ones take long and tell no more
+
+  Lent own(n), of(n);
+  const u16 *starts = g.starts.data(), *neighbours = g.neighbours.data();
+  time_job("adjacency test", test_job, g, Lent(n), [&] { this_processor::bare_test(starts, neighbours, n); }, quick);
+  time_job("mesh", mesh_job, g, Lent(n),
+           [&] { this_processor::bare_mesh(n, g.elements.data(), g.elements.size(), own.starts.data(), own.neighbours.data(), own.figures.data()); },
+           quick);
+  time_job("whole run", run_job, g, Lent(n),
+           [&] { this_processor::bare_run(starts, neighbours, n, own.numbers.data(), own.levels.data(), own.scratch.data(), own.figures.data()); },
+           quick);
+  const Words given = g.numbering;
+  for (const bool by_run : {true, false}) {
+    g.numbering = by_run ? numbers : given;
+    const size_t bytes = ((by_run ? ran.figures[3] : measured.figures[1]) + 7) / 8;
+    const Lent lent(n, bytes);
+    own = lent;
+    agreed("measures", measures_job, g, lent, 0);
+    agreed("elimination", eliminate_job, g, lent, 0);
+    time_job(by_run ? "measures" : "measures, numbers as given", measures_job, g, lent,
+             [&] { this_processor::bare_measures(starts, neighbours, n, g.numbering.data(), own.scratch.data(), own.figures.data()); }, quick);
+    time_job(by_run ? "elimination" : "elimination, numbers as given", eliminate_job, g, lent,
+             [&] {
+               this_processor::bare_eliminate(starts, neighbours, n, g.numbering.data(), own.scratch.data(), own.bytes.data(), bytes,
+                                              own.figures.data());
+             },
+             quick);
+  }
+  fflush(stdout);
+  if (!quick) time_peers(g.starts, g.neighbours);
+}
+
+int main(int argc, char **argv) {
+  const bool quick = argc > 1 && std::string(argv[1]) == "--quick";
+  for (int i = quick ? 2 : 1; i < argc; i++) bench(argv[i], quick);
+  return 0;
+}
