@@ -21,11 +21,11 @@ use Rattle.combining.specs.Model.{nodeAt, queued}
 use Rattle.combining.proofs.Counting.{Counts}
 use Rattle.piecing.specs.Seek.{looseAt}
 use Rattle.piecing.specs.Starts.{startAt, startsOf, sizeAt, membersOf, Standing, Found}
-use Rattle.piecing.specs.Sizes.{rowOf, larger, Sortable, InOrder, Discovered}
+use Rattle.piecing.specs.Sizes.{lineOf, larger, Sortable, InOrder, Discovered}
 use Rattle.piecing.proofs.Walking.{same-node-at, same-size-at}
 use Rattle.piecing.proofs.Finding.{leadb}
 use Rattle.piecing.proofs.Orders.{map-sort, rising-same, rise-alike}
-use Rattle.piecing.proofs.Rows.{row-end, row-fits, row-rises}
+use Rattle.piecing.proofs.Lines.{line-end, line-fits, line-rises}
 use Rattle.piecing.proofs.Taking.{Finding, led, start-node, start-size, start-some, loose-few}
 
 module _ {g : Graph} {n from to : ℕ} {W₀ L₀ W L : List ℕ} {tail m i : ℕ} (I : Finding g n from to W₀ L₀ W L tail m i) (d : to ≤ i) where
@@ -58,7 +58,7 @@ module _ {g : Graph} {n from to : ℕ} {W₀ L₀ W L : List ℕ} {tail m i : �
       high = λ o k. omega (arith, start-node I o k .high, I .ask .is);
     };
     end = I .end;
-    leaders = I .row ∙ led-all;
+    leaders = I .line ∙ led-all;
     sizes = start-size I;
     perms = λ o k. subst (λ (x : ℕ). Perm (queued n o (o + x) W) (part (restrict g t) (nodeAt n W o))) (sym (start-size I o k)) (I .each o k .perm);
     loose = omega (arith, I .spare);
@@ -71,7 +71,7 @@ module _ {g : Graph} {n from to : ℕ} {W₀ L₀ W L : List ℕ} {tail m i : �
 
 module _ {g : Graph} {n count : ℕ} {t : ℕ → Bool} {W₀ L₀ W L : List ℕ} {m tail : ℕ} (D : Discovered g n count t W₀ L₀ W L m tail) where
   abbrev os : List ℕ
-  os = rowOf n m W L
+  os = lineOf n m W L
 
   -- what the sort asks
   pub sortable : ((i : ℕ) → 3 * n ≤ i → i < 3 * n + countb t (nodes g) → getD W₀ i 0 ≡ 0) → Sortable n m W L
@@ -100,7 +100,7 @@ module _ {g : Graph} {n count : ℕ} {t : ℕ → Bool} {W₀ L₀ W L : List �
       let x = sym (D .sizes a p) in
       let y = sym (D .sizes b q) in
       let z : ltb (headOr 0 (part (restrict g t) (nodeAt n W a))) (headOr 0 (part (restrict g t) (nodeAt n W b))) ≡ ltb a b =
-      (λ i. ltb (start-leads a p i) (start-leads b q i)) ∙ rise-alike (nodeAt n W) os (row-rises (sizeAt n W L) 0 m (D .lined .some)) nodes-rising a b p q in
+      (λ i. ltb (start-leads a p i) (start-leads b q i)) ∙ rise-alike (nodeAt n W) os (line-rises (sizeAt n W L) 0 m (D .lined .some)) nodes-rising a b p q in
       λ i. ltb (y i) (x i) || eqb (x i) (y i) && z i
 
   -- the pieces by their starts, once these are in order
@@ -129,7 +129,7 @@ module _ {g : Graph} {n count : ℕ} {t : ℕ → Bool} {W₀ L₀ W L : List �
       size-is = same-size-at (D .lined) same-words o k
 
       fits : o + sizeAt n W L o ≤ n
-      fits = omega (arith, row-fits (sizeAt n W L) 0 m (D .lined .some) o k, D .lined .most)
+      fits = omega (arith, line-fits (sizeAt n W L) 0 m (D .lined .some) o k, D .lined .most)
 
       stands : Standing n U L o
       stands = record {
@@ -156,7 +156,7 @@ module _ {g : Graph} {n count : ℕ} {t : ℕ → Bool} {W₀ L₀ W L : List �
 
     found : Found g n count t W₀ L₀ U L m
     found = record {
-      most = omega (arith, row-end (sizeAt n W L) 0 m (D .lined .some), D .end, D .loose);
+      most = omega (arith, line-end (sizeAt n W L) 0 m (D .lined .some), D .end, D .loose);
       less = D .less;
       queue = λ i l h. E .front i (omega arith) ∙ D .queue i l h;
       each = λ i h. stands (startAt n U i) (start-at i h);

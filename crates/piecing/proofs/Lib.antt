@@ -3,7 +3,7 @@ pub mod Seeking
 pub mod Growing
 pub mod Orders
 pub mod Ranks
-pub mod Rows
+pub mod Lines
 pub mod Walking
 pub mod Counted
 pub mod Dealing

@@ -26,10 +26,10 @@ use Rattle.combining.specs.Model.{nodeAt, queued}
 use Rattle.combining.proofs.Counting.{from-cons, from-none}
 use Rattle.piecing.specs.Seek.{at, looseAt, freshAt, Seek, Shut, Grown}
 use Rattle.piecing.specs.Starts.{sizeAt, membersOf, Beside, Findable}
-use Rattle.piecing.specs.Sizes.{rowOf, rowEnd}
+use Rattle.piecing.specs.Sizes.{lineOf, lineEnd}
 use Rattle.piecing.proofs.Finding.{restrict-cong, len, leadb, covered, one-leader, self-in, len-some, piece-loose, lead-iff}
 use Rattle.piecing.proofs.Orders.{rising-same, rise-before}
-use Rattle.piecing.proofs.Rows.{row-next, end-next, row-cong}
+use Rattle.piecing.proofs.Lines.{line-next, end-next, line-cong}
 use Rattle.piecing.proofs.Stores.{sets-before, sets-behind, sets-at}
 
 -- ---- runs of indices
@@ -65,12 +65,12 @@ pub record Finding (g : Graph) (n from to : ℕ) (W₀ L₀ W L : List ℕ) (tai
   pub others : (q : ℕ) → Node g q → looseAt n W₀ q ≡ false → at L q ≡ at L₀ q
   pub marks : (q : ℕ) → Node g q → looseAt n W₀ q ≡ true → eqb (at L q) 0 ≡ not (covered g (looseAt n W₀) (led g n from i W₀) q)
   pub sizes : (w : ℕ) → memb w (led g n from i W₀) ≡ true → at L w ≡ len g (looseAt n W₀) w
-  pub row : map (nodeAt n W) (rowOf n m W L) ≡ led g n from i W₀
-  pub end : rowEnd n m W L ≡ tail
+  pub line : map (nodeAt n W) (lineOf n m W L) ≡ led g n from i W₀
+  pub end : lineEnd n m W L ≡ tail
   pub count : m ≤ tail
   pub spare : tail + countb (freshAt n W L) (upFrom 1 n) ≤ countb (looseAt n W₀) (nodes g)
   pub queue : (k : ℕ) → n + tail ≤ k → k < 2 * n → getD W k 0 ≡ getD W₀ k 0
-  pub each : (o : ℕ) → memb o (rowOf n m W L) ≡ true → Whole g (looseAt n W₀) n W tail o
+  pub each : (o : ℕ) → memb o (lineOf n m W L) ≡ true → Whole g (looseAt n W₀) n W tail o
 
 -- the loose nodes are among the members
 pub loose-few : {g : Graph} {n from to : ℕ} {W L : List ℕ} → Findable g n from to W L → countb (looseAt n W) (nodes g) ≤ to - from
@@ -110,7 +110,7 @@ finding-begin {g} {n} {from} {to} {W} {L} G A =
       others = λ q N e. refl;
       marks = λ q N e. eq-eqb (at L q) 0 (A .clean q N e) ∙ sym (ap (λ (l : List ℕ). not (covered g (looseAt n W) l q)) no-lead);
       sizes = λ w m. clash (sym (ap (memb w) no-lead) ∙ m) refl;
-      row = sym no-lead;
+      line = sym no-lead;
       end = refl;
       count = omega arith;
       spare = omega (arith, fresh-loose g W L (A .is));
@@ -148,16 +148,16 @@ module _ {g : Graph} {n from to : ℕ} {W₀ L₀ W L : List ℕ} {tail m i : �
   led-both w m = and-split (t w) (leads (restrict g t) w) (filter-in (leadb g t) (membersOf n from i W₀) w m .1)
 
   -- the node at a start is one of them
-  pub led-at : (o : ℕ) → memb o (rowOf n m W L) ≡ true → memb (nodeAt n W o) ws ≡ true
-  led-at o h = sym (ap (memb (nodeAt n W o)) (I .row)) ∙ memb-map (nodeAt n W) (rowOf n m W L) o h
+  pub led-at : (o : ℕ) → memb o (lineOf n m W L) ≡ true → memb (nodeAt n W o) ws ≡ true
+  led-at o h = sym (ap (memb (nodeAt n W o)) (I .line)) ∙ memb-map (nodeAt n W) (lineOf n m W L) o h
 
-  pub start-node : (o : ℕ) → memb o (rowOf n m W L) ≡ true → Node g (nodeAt n W o)
+  pub start-node : (o : ℕ) → memb o (lineOf n m W L) ≡ true → Node g (nodeAt n W o)
   start-node o h = led-node (nodeAt n W o) (led-at o h)
 
-  pub start-size : (o : ℕ) → memb o (rowOf n m W L) ≡ true → sizeAt n W L o ≡ len g t (nodeAt n W o)
+  pub start-size : (o : ℕ) → memb o (lineOf n m W L) ≡ true → sizeAt n W L o ≡ len g t (nodeAt n W o)
   start-size o h = I .sizes (nodeAt n W o) (led-at o h)
 
-  pub start-some : (o : ℕ) → memb o (rowOf n m W L) ≡ true → 1 ≤ len g t (nodeAt n W o)
+  pub start-some : (o : ℕ) → memb o (lineOf n m W L) ≡ true → 1 ≤ len g t (nodeAt n W o)
   start-some o h = len-some (I .graph) t (nodeAt n W o) (start-node o h)
 
   -- what was found is closed
@@ -232,7 +232,7 @@ module _ {g : Graph} {n from to : ℕ} {W₀ L₀ W L : List ℕ} {tail m i : �
           others = I .others;
           marks = λ q N l. I .marks q N l ∙ ap (λ (x : List ℕ). not (covered g t x q)) (sym k);
           sizes = λ w x. I .sizes w (sym (ap (memb w) k) ∙ x);
-          row = I .row ∙ sym k;
+          line = I .line ∙ sym k;
           end = I .end;
           count = I .count;
           spare = I .spare;
@@ -292,7 +292,7 @@ module _ {g : Graph} {n from to : ℕ} {W₀ L₀ W L : List ℕ} {tail m i : �
       new-node = let a : tail ≡ tail + 0 = omega arith in ap (nodeAt n W′) a ∙ in-piece 0 F-some ∙ F-first
 
       -- an old start, and the node there
-      old-node : (o : ℕ) → memb o (rowOf n m W L) ≡ true → nodeAt n W′ o ≡ nodeAt n W o
+      old-node : (o : ℕ) → memb o (lineOf n m W L) ≡ true → nodeAt n W′ o ≡ nodeAt n W o
       old-node o l = before-end (n + o) (omega (arith, I .each o l .fits, start-some o l))
 
       -- ---- an earlier leader
@@ -317,27 +317,27 @@ module _ {g : Graph} {n from to : ℕ} {W₀ L₀ W L : List ℕ} {tail m i : �
       new-mark = T .marks z (z-node .low) (omega (arith, z-node .high, I .ask .is)) ∙ rw (eqb-self z)
 
       -- the starts
-      old-size : (o : ℕ) → memb o (rowOf n m W L) ≡ true → sizeAt n W L o ≡ sizeAt n W′ L′ o
+      old-size : (o : ℕ) → memb o (lineOf n m W L) ≡ true → sizeAt n W L o ≡ sizeAt n W′ L′ o
       old-size o l = start-size o l ∙ sym (ap (at L′) (old-node o l) ∙ w-mark (nodeAt n W o) (led-at o l))
 
-      old-row : (rowOf n m W L ≡ rowOf n m W′ L′) × (rowEnd n m W L ≡ rowEnd n m W′ L′)
-      old-row = row-cong (sizeAt n W L) (sizeAt n W′ L′) 0 m old-size
+      old-line : (lineOf n m W L ≡ lineOf n m W′ L′) × (lineEnd n m W L ≡ lineEnd n m W′ L′)
+      old-line = line-cong (sizeAt n W L) (sizeAt n W′ L′) 0 m old-size
 
-      old-end : rowEnd n m W′ L′ ≡ tail
-      old-end = sym (old-row .1) ∙ I .end
+      old-end : lineEnd n m W′ L′ ≡ tail
+      old-end = sym (old-line .1) ∙ I .end
 
-      new-row : rowOf n (m + 1) W′ L′ ≡ rowOf n m W L ++ (tail ∷ [])
-      new-row = row-next (sizeAt n W′ L′) 0 m ∙ (λ x. sym (old-row .0) x ++ (old-end x ∷ []))
+      new-line : lineOf n (m + 1) W′ L′ ≡ lineOf n m W L ++ (tail ∷ [])
+      new-line = line-next (sizeAt n W′ L′) 0 m ∙ (λ x. sym (old-line .0) x ++ (old-end x ∷ []))
 
-      new-end : rowEnd n (m + 1) W′ L′ ≡ end
+      new-end : lineEnd n (m + 1) W′ L′ ≡ end
       new-end =
           end-next (sizeAt n W′ L′) 0 m ∙ (λ x. old-end x + sizeAt n W′ L′ (old-end x))
           ∙ ap (λ (x : ℕ). tail + x) (ap (at L′) new-node ∙ new-mark) ∙ sym (T .is)
 
-      row-is : map (nodeAt n W′) (rowOf n (m + 1) W′ L′) ≡ led g n from (i + 1) W₀
-      row-is =
-          ap (map (nodeAt n W′)) new-row ∙ map-append (nodeAt n W′) (rowOf n m W L) (tail ∷ [])
-          ∙ (λ x. (map-cong (nodeAt n W′) (nodeAt n W) (rowOf n m W L) old-node ∙ I .row) x ++ (new-node x ∷ [])) ∙ sym next-led-is
+      line-is : map (nodeAt n W′) (lineOf n (m + 1) W′ L′) ≡ led g n from (i + 1) W₀
+      line-is =
+          ap (map (nodeAt n W′)) new-line ∙ map-append (nodeAt n W′) (lineOf n m W L) (tail ∷ [])
+          ∙ (λ x. (map-cong (nodeAt n W′) (nodeAt n W) (lineOf n m W L) old-node ∙ I .line) x ++ (new-node x ∷ [])) ∙ sym next-led-is
 
       -- the pieces stand whole
       whole-new : Whole g t n W′ end tail
@@ -356,7 +356,7 @@ module _ {g : Graph} {n from to : ℕ} {W₀ L₀ W L : List ℕ} {tail m i : �
                 (subst (λ (l : List ℕ). Perm l (part (restrict g t) z)) (sym q) F-perm);
           }
 
-      whole-old : (o : ℕ) → memb o (rowOf n m W L) ≡ true → Whole g t n W′ end o
+      whole-old : (o : ℕ) → memb o (lineOf n m W L) ≡ true → Whole g t n W′ end o
       whole-old o l =
           let v : ℕ = nodeAt n W o in
           let a : nodeAt n W′ o ≡ v = old-node o l in
@@ -421,14 +421,14 @@ module _ {g : Graph} {n from to : ℕ} {W₀ L₀ W L : List ℕ} {tail m i : �
         others = λ q N l. other-node q N l ∙ I .others q N l;
         marks = mark-next;
         sizes = λ w x. ⊎-elim (λ a. w-mark w a) (λ a. z-mark w a) (or-split (memb w ws) (memb w (z ∷ [])) (sym (memb-append w ws (z ∷ [])) ∙ sym (ap (memb w) next-led-is) ∙ x));
-        row = row-is;
+        line = line-is;
         end = new-end;
         count = omega (arith, I .count, T .is, F-some);
         spare = omega (arith, I .spare, T .spare);
         queue = λ k l r. far-behind k l ∙ I .queue k (omega (arith, T .is)) r;
         each = λ o l. ⊎-elim (λ a. whole-old o a)
             (λ a. subst (Whole g t n W′ end) (sym (eqb-true o tail (sym (memb-one o tail) ∙ a))) whole-new)
-            (or-split (memb o (rowOf n m W L)) (memb o (tail ∷ [])) (sym (memb-append o (rowOf n m W L) (tail ∷ [])) ∙ sym (ap (memb o) new-row) ∙ l));
+            (or-split (memb o (lineOf n m W L)) (memb o (tail ∷ [])) (sym (memb-append o (lineOf n m W L) (tail ∷ [])) ∙ sym (ap (memb o) new-line) ∙ l));
       }
         where
           other-node : (q : ℕ) → Node g q → t q ≡ false → at L′ q ≡ at L q

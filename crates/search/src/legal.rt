@@ -62,10 +62,10 @@ fn visit_two(work: &mut [u16], n: usize, tail: usize, u: u16, v: u16, j: u16) ->
     let x = work[a];
     let y = work[b];
     let t = tail + none(x);
-    work[a] = level(x, j);
     work[n + tail] = u;
-    work[b] = level(y, j);
     work[n + t] = v;
+    work[a] = level(x, j);
+    work[b] = level(y, j);
     t + none(y)
 }
 

@@ -1,10 +1,11 @@
 -- `search::legal::visit_two` meets its contract. Assumes nothing.
-use mathlib.Core.Path.{_≡_}
+use mathlib.Core.Path.{_≡_, ap, _∙_}
 use mathlib.Core.Bool.{cond}
 use mathlib.Core.List.{List, [], _∷_}
 use Prim.Native.Nat.{ℕ, _+_, _-_, _≤_, _<_}
 use native.Mathlib.Omega.{arith}
 use lib.ListN.{length, getD, set, length-set}
+use lib.Seq.{set-comm}
 use lib.Dec.{eqb}
 use borrow.Author.Needs.{needs}
 use Rattle.basis.specs.Lists.{bit}
@@ -22,9 +23,17 @@ record Words (W : List ℕ) (j at new level : ℕ) : Type 0 where
 
 both : {n : ℕ} {W : List ℕ} {tail j u v a b p q x y : ℕ} → Lent n W tail j → within n (u ∷ v ∷ []) → u < v → tail + 1 < n
     → a ≡ u → b ≡ v → Words W j a p x → Words W j b q y
-    → Moved n (u ∷ v ∷ []) j W tail (set (set (set (set W (a - 1) x) (n + tail) u) (b - 1) y) (n + (tail + p)) v) (tail + p + q)
-both R w lt h ea eb A B =
-    rw (A .is-new, A .is-level, B .is-new, B .is-level, ea, eb) (two R (w .0) lt (w .2 .1) h)
+    → Moved n (u ∷ v ∷ []) j W tail (set (set (set (set W (n + tail) u) (n + (tail + p)) v) (a - 1) x) (b - 1) y) (tail + p + q)
+both {n} {W} {tail} {j} {u} {v} {a} {b} {p} {q} {x} {y} R w lt h ea eb A B =
+    rw order (rw (A .is-new, A .is-level, B .is-new, B .is-level, ea, eb) (two R (w .0) lt (w .2 .1) h))
+  where
+    -- the stores in the order of `two`
+    order : set (set (set (set W (n + tail) u) (n + (tail + p)) v) (a - 1) x) (b - 1) y ≡ set (set (set (set W (a - 1) x) (n + tail) u) (b - 1) y) (n + (tail + p)) v
+    order =
+        ap (λ (l : List ℕ). set l (b - 1) y)
+        (set-comm (set W (n + tail) u) (n + (tail + p)) (a - 1) v x (λ e. omega (arith, ea, w .0, w .1))
+        ∙ ap (λ (l : List ℕ). set l (n + (tail + p)) v) (set-comm W (n + tail) (a - 1) u x (λ e. omega (arith, ea, w .0, w .1))))
+        ∙ set-comm (set (set W (a - 1) x) (n + tail) u) (n + (tail + p)) (b - 1) v y (λ e. omega (arith, eb, w .2 .0, w .2 .1))
 
 wide-requires : tie.Need-wide-requires
 wide-requires c κs = search needs
@@ -62,6 +71,11 @@ new-x c =
 in-words : (c : tie.After-none) → let s = c .before .before .before .before .before .before in s .args .n + (s .args .tail + 1) < length (s .args .work .now)
 in-words c = let s = c .before .before .before .before .before .before in omega (arith, s .pre .1 .1 .1, s .pre .0 .size)
 
+a-in : (c : tie.After-none) → c .before .before .before .before .wide .result - 1 < length (c .before .before .before .before .before .before .args .work .now)
+a-in c =
+    let s = c .before .before .before .before .before .before in
+    omega (arith, c .before .before .before .before .wide .ensures, s .pre .0 .size, s .pre .1 .0 .1, s .pre .1 .0 .0)
+
 b-in : (c : tie.After-none) → c .before .before .before .wide2 .result - 1 < length (c .before .before .before .before .before .before .args .work .now)
 b-in c =
     let s = c .before .before .before .before .before .before in
@@ -70,8 +84,8 @@ b-in c =
 add-t : tie.Need-add-t
 add-t c = omega (arith, new-x c, in-words c)
 
-level-requires : tie.Need-level-requires
-level-requires c κs = search needs
+add-work : tie.Need-add-work
+add-work c = search needs
 
 mul-work : tie.Need-mul-work
 mul-work c = search needs
@@ -79,32 +93,32 @@ mul-work c = search needs
 slice-write-work : tie.Need-slice-write-work
 slice-write-work c = search needs
 
-add-work : tie.Need-add-work
-add-work c = search needs
+add-work-2 : tie.Need-add-work-2
+add-work-2 c = omega (arith, new-x c, in-words c)
 
 mul-work-2 : tie.Need-mul-work-2
-mul-work-2 c = search needs
+mul-work-2 c = omega (arith, new-x c, in-words c)
 
 slice-write-work-2 : tie.Need-slice-write-work-2
-slice-write-work-2 c = simp length-set (omega (arith, in-words (c .before)))
+slice-write-work-2 c = simp length-set (omega (arith, new-x c, in-words c))
 
-level-requires-2 : tie.Need-level-requires-2
-level-requires-2 c κs = search needs
+level-requires : tie.Need-level-requires
+level-requires c κs = search needs
 
 mul-work-3 : tie.Need-mul-work-3
 mul-work-3 c = search needs
 
 slice-write-work-3 : tie.Need-slice-write-work-3
-slice-write-work-3 c = simp length-set (b-in (c .before .before))
+slice-write-work-3 c = simp length-set (a-in (c .before))
 
-add-work-2 : tie.Need-add-work-2
-add-work-2 c = omega (arith, new-x (c .before .before), in-words (c .before .before))
+level-requires-2 : tie.Need-level-requires-2
+level-requires-2 c κs = search needs
 
 mul-work-4 : tie.Need-mul-work-4
-mul-work-4 c = omega (arith, new-x (c .before .before), in-words (c .before .before))
+mul-work-4 c = search needs
 
 slice-write-work-4 : tie.Need-slice-write-work-4
-slice-write-work-4 c = simp length-set (omega (arith, new-x (c .before .before), in-words (c .before .before)))
+slice-write-work-4 c = simp length-set (b-in (c .before .before))
 
 none-requires-2 : tie.Need-none-requires-2
 none-requires-2 c κs = search needs
@@ -143,16 +157,16 @@ visit-two-spec =
     slice-read-y
     none-requires
     add-t
-    level-requires
+    add-work
     mul-work
     slice-write-work
-    add-work
+    add-work-2
     mul-work-2
     slice-write-work-2
-    level-requires-2
+    level-requires
     mul-work-3
     slice-write-work-3
-    add-work-2
+    level-requires-2
     mul-work-4
     slice-write-work-4
     none-requires-2
