@@ -57,8 +57,7 @@ typedef std::function<Step(const Graph &, Numbers &numbers)> Prepare;
 
 struct Peer {
   const char *name;
-  bool installed;
-  Prepare prepare;
+  Prepare prepare;  // empty where the program is not installed
 };
 
 Graph graph_of(const std::vector<u16> &starts, const std::vector<u16> &neighbours) {
@@ -115,7 +114,11 @@ Step viennacl_gps(const Graph &g, Numbers &numbers) {
     }
   };
 }
+#else
+const Prepare viennacl_gps;
 #endif
+
+enum Ordering { CUTHILL_MCKEE, KING, SLOAN };
 
 #ifdef HAVE_BOOST
 typedef boost::adjacency_list<
@@ -124,8 +127,6 @@ typedef boost::adjacency_list<
                     boost::property<boost::vertex_degree_t, int, boost::property<boost::vertex_priority_t, double>>>>
     BoostGraph;
 typedef boost::graph_traits<BoostGraph>::vertex_descriptor Vertex;
-
-enum Ordering { CUTHILL_MCKEE, KING, SLOAN };
 
 // As the library's examples have it: from the back for Cuthill-McKee and King, forward for Sloan, which takes one part at a time.
 Step boost_ordering(const Graph &g, Numbers &numbers, Ordering ordering) {
@@ -160,6 +161,12 @@ Step boost_ordering(const Graph &g, Numbers &numbers, Ordering ordering) {
     }
   };
 }
+
+Prepare boost(Ordering ordering) {
+  return [ordering](const Graph &g, Numbers &numbers) { return boost_ordering(g, numbers, ordering); };
+}
+#else
+Prepare boost(Ordering) { return {}; }
 #endif
 
 #ifdef HAVE_DOLFINX
@@ -176,6 +183,8 @@ Step dolfinx_gps(const Graph &g, Numbers &numbers) {
     for (size_t i = 0; i < order.size(); i++) numbers[i] = u32(order[i]) + 1;
   };
 }
+#else
+const Prepare dolfinx_gps;
 #endif
 
 #ifdef HAVE_PETSC
@@ -204,6 +213,8 @@ Step petsc_rcm(const Graph &g, Numbers &numbers) {
     ISDestroy(&columns);
   };
 }
+#else
+const Prepare petsc_rcm;
 #endif
 
 #ifdef HAVE_FREEFEM
@@ -234,38 +245,15 @@ Step freefem_gibbs(const Graph &g, Numbers &numbers) {
     numbers.assign(x[0].begin(), x[0].begin() + n);
   };
 }
+#else
+const Prepare freefem_gibbs;
 #endif
 
 const Peer PEERS[] = {
-#ifdef HAVE_VIENNACL
-    {"ViennaCL, Gibbs-Poole-Stockmeyer", true, viennacl_gps},
-#else
-    {"ViennaCL, Gibbs-Poole-Stockmeyer", false, {}},
-#endif
-#ifdef HAVE_DOLFINX
-    {"DOLFINx, Gibbs-Poole-Stockmeyer", true, dolfinx_gps},
-#else
-    {"DOLFINx, Gibbs-Poole-Stockmeyer", false, {}},
-#endif
-#ifdef HAVE_FREEFEM
-    {"FreeFEM, Gibbs-Poole-Stockmeyer", true, freefem_gibbs},
-#else
-    {"FreeFEM, Gibbs-Poole-Stockmeyer", false, {}},
-#endif
-#ifdef HAVE_BOOST
-    {"Boost, Cuthill-McKee", true, [](const Graph &g, Numbers &numbers) { return boost_ordering(g, numbers, CUTHILL_MCKEE); }},
-    {"Boost, King", true, [](const Graph &g, Numbers &numbers) { return boost_ordering(g, numbers, KING); }},
-    {"Boost, Sloan", true, [](const Graph &g, Numbers &numbers) { return boost_ordering(g, numbers, SLOAN); }},
-#else
-    {"Boost, Cuthill-McKee", false, {}},
-    {"Boost, King", false, {}},
-    {"Boost, Sloan", false, {}},
-#endif
-#ifdef HAVE_PETSC
-    {"PETSc, Cuthill-McKee", true, petsc_rcm},
-#else
-    {"PETSc, Cuthill-McKee", false, {}},
-#endif
+    {"ViennaCL, Gibbs-Poole-Stockmeyer", viennacl_gps}, {"DOLFINx, Gibbs-Poole-Stockmeyer", dolfinx_gps},
+    {"FreeFEM, Gibbs-Poole-Stockmeyer", freefem_gibbs}, {"Boost, Cuthill-McKee", boost(CUTHILL_MCKEE)},
+    {"Boost, King", boost(KING)},                       {"Boost, Sloan", boost(SLOAN)},
+    {"PETSc, Cuthill-McKee", petsc_rcm},
 };
 
 enum State { DONE, NO_NUMBERING, TOO_LONG, CRASHED };
@@ -330,14 +318,13 @@ Result in_child(const Peer &peer, const Graph &g, const std::vector<u16> &starts
 void time_peers(const std::vector<u16> &starts, const std::vector<u16> &neighbours) {
   const Graph g = graph_of(starts, neighbours);
   for (const Peer &peer : PEERS) {
-    if (!peer.installed) {
+    if (!peer.prepare) {
       printf("peer\t%s\tnot installed\n", peer.name);
       continue;
     }
     const Result r = in_child(peer, g, starts, neighbours);
     if (r.state == DONE)
-      printf("peer\t%s\t%.0f\t%llu\t%llu\t%llu\n", peer.name, r.nanoseconds, (unsigned long long)r.figures[0],
-             (unsigned long long)r.figures[1], (unsigned long long)r.figures[2]);
+      printf("peer\t%s\t%.0f\t%lu\t%lu\t%lu\n", peer.name, r.nanoseconds, r.figures[0], r.figures[1], r.figures[2]);
     else
       printf("peer\t%s\t%s\n", peer.name, r.state == NO_NUMBERING ? "no numbering" : r.state == TOO_LONG ? "over 10 s" : "crashed");
     fflush(stdout);

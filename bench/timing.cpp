@@ -54,25 +54,31 @@ struct Given {
   Words elements, starts, neighbours, numbering;
 };
 
+// A pointer is never null, also that of an empty list.
+static const u16 *data(const Words &words) {
+  static const u16 none = 0;
+  return words.empty() ? &none : words.data();
+}
+
 typedef std::function<void(const Calls &, const Given &, Lent &)> Job;
 
 static void test_job(const Calls &c, const Given &g, Lent &l) {
-  l.answer = c.test_adjacency(g.starts.data(), g.starts.size(), g.neighbours.data(), g.neighbours.size());
+  l.answer = c.test_adjacency(data(g.starts), g.starts.size(), data(g.neighbours), g.neighbours.size());
 }
 static void mesh_job(const Calls &c, const Given &g, Lent &l) {
-  l.answer = c.mesh(g.n, g.elements.data(), g.elements.size(), l.starts.data(), l.starts.size(), l.neighbours.data(), l.neighbours.size(),
+  l.answer = c.mesh(g.n, data(g.elements), g.elements.size(), l.starts.data(), l.starts.size(), l.neighbours.data(), l.neighbours.size(),
                     l.scratch.data(), l.scratch.size(), l.figures.data(), l.figures.size());
 }
 static void run_job(const Calls &c, const Given &g, Lent &l) {
-  l.answer = c.run(g.starts.data(), g.starts.size(), g.neighbours.data(), g.neighbours.size(), l.numbers.data(), l.numbers.size(),
+  l.answer = c.run(data(g.starts), g.starts.size(), data(g.neighbours), g.neighbours.size(), l.numbers.data(), l.numbers.size(),
                    l.levels.data(), l.levels.size(), l.scratch.data(), l.scratch.size(), l.figures.data(), l.figures.size());
 }
 static void measures_job(const Calls &c, const Given &g, Lent &l) {
-  l.answer = c.measures(g.starts.data(), g.starts.size(), g.neighbours.data(), g.neighbours.size(), g.numbering.data(), g.numbering.size(),
+  l.answer = c.measures(data(g.starts), g.starts.size(), data(g.neighbours), g.neighbours.size(), data(g.numbering), g.numbering.size(),
                         l.scratch.data(), l.scratch.size(), l.figures.data(), l.figures.size());
 }
 static void eliminate_job(const Calls &c, const Given &g, Lent &l) {
-  l.answer = c.eliminate(g.starts.data(), g.starts.size(), g.neighbours.data(), g.neighbours.size(), g.numbering.data(),
+  l.answer = c.eliminate(data(g.starts), g.starts.size(), data(g.neighbours), g.neighbours.size(), data(g.numbering),
                          g.numbering.size(), l.scratch.data(), l.scratch.size(), l.bytes.data(), l.bytes.size(), l.figures.data(),
                          l.figures.size());
 }
@@ -208,57 +214,72 @@ static Words words_of(const std::string &path) {
   return words;
 }
 
-// One mesh: all calls agree, then all are timed, then the peers.
+// The lists of a mesh, its nodes numbered as given, and what the run and the measures make of it.
+struct Case {
+  Given given;
+  Lent ran, measured;
+};
+
+// Compares the calls that make the case, and prints its figures.
+static Case compare(const Words &file) {
+  Given g = {file[1], Words(file.begin() + 3, file.end()), {}, {}, {}};
+  const long n = file[1];
+  const Lent lists = agreed("mesh", mesh_job, g, Lent(g.n), 0);
+  g.starts.assign(lists.starts.begin(), lists.starts.begin() + n + 1);
+  g.neighbours.assign(lists.neighbours.begin(), lists.neighbours.begin() + long(lists.figures[0]));
+  for (long p = 1; p <= n; p++) g.numbering.push_back(u16(p));
+  agreed("adjacency test", test_job, g, Lent(g.n), 0);
+  const Lent ran = agreed("whole run", run_job, g, Lent(g.n), 0), measured = agreed("measures", measures_job, g, Lent(g.n), 0);
+  const auto &f = ran.figures, &m = measured.figures;
+  printf("mesh\t%s\t%ld\t%zu\t%lu\n", mesh_name.c_str(), n, g.neighbours.size(), f[1]);
+  printf("figures\tas given\t%lu\t%lu\t%lu\n", m[0], m[1], m[2]);
+  printf("figures\twhole run\t%lu\t%lu\t%lu\n", f[2], f[3], f[4]);
+  return {g, ran, measured};
+}
+
+// The calls that take no numbering.
+static void time_lists(const Given &g, bool quick) {
+  const u16 *starts = data(g.starts), *neighbours = data(g.neighbours);
+  const u32 n = u32(g.n);
+  Lent own(n);
+  using namespace this_processor;
+  time_job("adjacency test", test_job, g, Lent(n), [&] { bare_test(starts, neighbours, n); }, quick);
+  time_job("mesh", mesh_job, g, Lent(n),
+           [&] { bare_mesh(n, data(g.elements), g.elements.size(), own.starts.data(), own.neighbours.data(), own.figures.data()); }, quick);
+  time_job("whole run", run_job, g, Lent(n),
+           [&] { bare_run(starts, neighbours, n, own.numbers.data(), own.levels.data(), own.scratch.data(), own.figures.data()); }, quick);
+}
+
+// The calls that take a numbering, of this profile. They are compared first.
+static void time_numbered(const Given &g, u64 profile, const std::string &which, bool quick) {
+  const u16 *starts = data(g.starts), *neighbours = data(g.neighbours), *numbering = data(g.numbering);
+  const u32 n = u32(g.n);
+  const size_t bytes = (profile + 7) / 8;
+  const Lent lent(n, bytes);
+  Lent own = lent;
+  using namespace this_processor;
+  agreed("measures", measures_job, g, lent, 0);
+  agreed("elimination", eliminate_job, g, lent, 0);
+  time_job(("measures" + which).c_str(), measures_job, g, lent,
+           [&] { bare_measures(starts, neighbours, n, numbering, own.scratch.data(), own.figures.data()); }, quick);
+  time_job(("elimination" + which).c_str(), eliminate_job, g, lent,
+           [&] { bare_eliminate(starts, neighbours, n, numbering, own.scratch.data(), own.bytes.data(), bytes, own.figures.data()); }, quick);
+}
+
+// One mesh: all calls agree, then all are timed, then the other programs.
 static void bench(const std::string &path, bool quick) {
   mesh_name = path.substr(path.find_last_of('/') + 1);
   mesh_name.resize(mesh_name.size() - 4);
-  const Words file = words_of(path);
-  Given g = {file[1], Words(file.begin() + 3, file.end()), {}, {}, {}};
-  const u32 n = u32(g.n);
-  const Lent lists = agreed("mesh", mesh_job, g, Lent(n), 0);
-  g.starts.assign(lists.starts.begin(), lists.starts.begin() + n + 1);
-  g.neighbours.assign(lists.neighbours.begin(), lists.neighbours.begin() + long(lists.figures[0]));
-  g.neighbours.reserve(1);
-  agreed("adjacency test", test_job, g, Lent(n), 0);
-  const Lent ran = agreed("whole run", run_job, g, Lent(n), 0);
-  const Words numbers(ran.numbers.begin(), ran.numbers.begin() + n);
-  for (u32 p = 1; p <= n; p++) g.numbering.push_back(u16(p));
-  const Lent measured = agreed("measures", measures_job, g, Lent(n), 0);
-  printf("mesh\t%s\t%u\t%zu\t%llu\n", mesh_name.c_str(), n, g.neighbours.size(), (unsigned long long)ran.figures[1]);
-  printf("figures\tas given\t%llu\t%llu\t%llu\n", (unsigned long long)measured.figures[0], (unsigned long long)measured.figures[1],
-         (unsigned long long)measured.figures[2]);
-  printf("figures\twhole run\t%llu\t%llu\t%llu\n", (unsigned long long)ran.figures[2], (unsigned long long)ran.figures[3],
-         (unsigned long long)ran.figures[4]);
-  if (n < 1500) try_refusals(g, (measured.figures[1] + 7) / 8);  // larger ones take long and tell no more
-
-  Lent own(n), of(n);
-  const u16 *starts = g.starts.data(), *neighbours = g.neighbours.data();
-  time_job("adjacency test", test_job, g, Lent(n), [&] { this_processor::bare_test(starts, neighbours, n); }, quick);
-  time_job("mesh", mesh_job, g, Lent(n),
-           [&] { this_processor::bare_mesh(n, g.elements.data(), g.elements.size(), own.starts.data(), own.neighbours.data(), own.figures.data()); },
-           quick);
-  time_job("whole run", run_job, g, Lent(n),
-           [&] { this_processor::bare_run(starts, neighbours, n, own.numbers.data(), own.levels.data(), own.scratch.data(), own.figures.data()); },
-           quick);
-  const Words given = g.numbering;
-  for (const bool by_run : {true, false}) {
-    g.numbering = by_run ? numbers : given;
-    const size_t bytes = ((by_run ? ran.figures[3] : measured.figures[1]) + 7) / 8;
-    const Lent lent(n, bytes);
-    own = lent;
-    agreed("measures", measures_job, g, lent, 0);
-    agreed("elimination", eliminate_job, g, lent, 0);
-    time_job(by_run ? "measures" : "measures, numbers as given", measures_job, g, lent,
-             [&] { this_processor::bare_measures(starts, neighbours, n, g.numbering.data(), own.scratch.data(), own.figures.data()); }, quick);
-    time_job(by_run ? "elimination" : "elimination, numbers as given", eliminate_job, g, lent,
-             [&] {
-               this_processor::bare_eliminate(starts, neighbours, n, g.numbering.data(), own.scratch.data(), own.bytes.data(), bytes,
-                                              own.figures.data());
-             },
-             quick);
-  }
+  const Case c = compare(words_of(path));
+  const size_t n = c.given.n;
+  if (n < 1500) try_refusals(c.given, (c.measured.figures[1] + 7) / 8);  // larger ones take long and tell no more
+  time_lists(c.given, quick);
+  Given by_run = c.given;
+  by_run.numbering.assign(c.ran.numbers.begin(), c.ran.numbers.begin() + long(n));
+  time_numbered(by_run, c.ran.figures[3], "", quick);
+  time_numbered(c.given, c.measured.figures[1], ", numbers as given", quick);
   fflush(stdout);
-  if (!quick) time_peers(g.starts, g.neighbours);
+  if (!quick) time_peers(c.given.starts, c.given.neighbours);
 }
 
 int main(int argc, char **argv) {
