@@ -1,11 +1,14 @@
 -- Answers and lent buffers: what an accepted call says, and the words that it leaves. Assumes nothing.
 use mathlib.Core.Path.{_≡_, refl, sym, ap, _∙_}
 use mathlib.Core.List.{List, _++_, append-nil}
-use Prim.Native.Nat.{ℕ, zero, suc, _≤_}
+use Prim.Native.Nat.{ℕ, zero, suc, _*_, _≤_}
 use native.Mathlib.Omega.{arith}
 use lib.ListN.{length, take, drop, replicate, length-replicate, drop-of-length-le}
 use lib.Seq.{take-at, drop-at}
-use Rattle.spec.specs.Lent.{Outcome, accepted, refused, outcome, filled, zeroed}
+use borrow.Author.Tests.{ne-eqb}
+use Rattle.spec.specs.CallsLevels.{partScratch}
+use Rattle.spec.specs.Graph.{sizeOf}
+use Rattle.spec.specs.Lent.{Outcome, accepted, refused, outcome, filled, zeroed, scratchAfter, wordsPerNode}
 
 -- an outcome that is accepted was not refused, and has the values asked for
 pub outcome-accepted : {A : Type 0} (c : ℕ) (a b : A) → outcome c a ≡ accepted b → (c ≡ 0) × (a ≡ b)
@@ -44,3 +47,31 @@ pub zeroed-all : (n : ℕ) (l : List ℕ) → length l ≡ n → zeroed n l ≡ 
 zeroed-all n l e =
     let h : length l ≤ n = omega arith in
     zeroed-is n l ∙ ap (λ (t : List ℕ). replicate n 0 ++ t) (drop-of-length-le l h) ∙ append-nil (replicate n 0)
+
+-- ---- a call that is refused by c, or accepted: its answer, a buffer, the scratch of a call on one part
+
+pub answer-refused : {A : Type 0} (code c : ℕ) (a : A) → code ≡ c → 1 ≤ c → refused c ≡ outcome code a
+unfolding outcome
+answer-refused zero c a e l = absurd (omega arith)
+answer-refused (suc d) c a e l = ap (λ (x : ℕ). refused x) (sym e)
+
+pub filled-refused : (code c : ℕ) (new old : List ℕ) → code ≡ c → 1 ≤ c → old ≡ filled code new old
+unfolding filled
+filled-refused zero c new old e l = absurd (omega arith)
+filled-refused (suc d) c new old e l = refl
+
+pub answer-accepted : {A : Type 0} (code : ℕ) (a : A) → code ≡ 0 → accepted a ≡ outcome code a
+unfolding outcome
+answer-accepted code a e = rw e
+
+pub filled-accepted : (code n : ℕ) (new old : List ℕ) → code ≡ 0 → length new ≡ n → new ++ drop n old ≡ filled code new old
+filled-accepted code n new old e l = sym (filled-none code new old e ∙ ap (λ (k : ℕ). new ++ drop k old) l)
+
+pub scratch-refused : (code c : ℕ) (S W : List ℕ) → code ≡ c → 1 ≤ c → W ≡ partScratch code S W
+unfolding partScratch scratchAfter
+scratch-refused zero c S W e l = absurd (omega arith)
+scratch-refused (suc d) c S W e l = rw (ne-eqb (suc d) 0 (λ q. omega arith))
+
+pub scratch-accepted : (code : ℕ) (S W : List ℕ) → code ≡ 0 → zeroed (wordsPerNode * sizeOf S) W ≡ partScratch code S W
+unfolding partScratch scratchAfter
+scratch-accepted code S W e = rw e

@@ -21,40 +21,12 @@ use Rattle.laws.specs.Legal.{Node}
 use Rattle.laws.proofs.Combined.{combined-of}
 use Rattle.laws.proofs.Ends.{ends-of}
 use Rattle.laws.proofs.Figures.{length-levelList}
-use Rattle.laws.proofs.Lent.{filled-none}
+use Rattle.laws.proofs.Lent.{answer-refused, filled-refused, answer-accepted, filled-accepted, scratch-refused, scratch-accepted}
 use Rattle.graph.specs.Facts.{LegalLists, RefusedLists}
 use Rattle.graph.proofs.Answers.{refused-first, legal-next}
 use Rattle.ends.proofs.Areas.{front-back}
 use Rattle.levels.specs.Part.{partLevelsOf}
 use Rattle.levels.specs.declared.shape.PartLevels.{PartLevels}
-
--- ---- a call that is refused by c, or accepted: its answer, a buffer, the scratch
-
-pub answer-refused : {A : Type 0} (code c : ℕ) (a : A) → code ≡ c → 1 ≤ c → refused c ≡ outcome code a
-unfolding outcome
-answer-refused zero c a e l = absurd (omega arith)
-answer-refused (suc d) c a e l = ap (λ (x : ℕ). refused x) (sym e)
-
-pub filled-refused : (code c : ℕ) (new old : List ℕ) → code ≡ c → 1 ≤ c → old ≡ filled code new old
-unfolding filled
-filled-refused zero c new old e l = absurd (omega arith)
-filled-refused (suc d) c new old e l = refl
-
-pub answer-accepted : {A : Type 0} (code : ℕ) (a : A) → code ≡ 0 → accepted a ≡ outcome code a
-unfolding outcome
-answer-accepted code a e = rw e
-
-pub filled-accepted : (code n : ℕ) (new old : List ℕ) → code ≡ 0 → length new ≡ n → new ++ drop n old ≡ filled code new old
-filled-accepted code n new old e l = sym (filled-none code new old e ∙ ap (λ (k : ℕ). new ++ drop k old) l)
-
-pub scratch-refused : (code c : ℕ) (S W : List ℕ) → code ≡ c → 1 ≤ c → W ≡ partScratch code S W
-unfolding partScratch scratchAfter
-scratch-refused zero c S W e l = absurd (omega arith)
-scratch-refused (suc d) c S W e l = rw (ne-eqb (suc d) 0 (λ q. omega arith))
-
-pub scratch-accepted : (code : ℕ) (S W : List ℕ) → code ≡ 0 → zeroed (wordsPerNode * sizeOf S) W ≡ partScratch code S W
-unfolding partScratch scratchAfter
-scratch-accepted code S W e = rw e
 
 -- ---- a node that was tested
 

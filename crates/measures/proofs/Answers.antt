@@ -12,33 +12,13 @@ use Rattle.basis.specs.Lists.{overwrite}
 use Rattle.basis.proofs.Logic.{or-neither}
 use Rattle.spec.specs.Refusal.{refuse, _orElse_}
 use Rattle.spec.specs.Lent.{accepted, refused, outcome, zeroed, scratchAfter, short}
-use Rattle.spec.specs.Graph.{Graph, graphOf, graphRefusal, sizeOf, refuses1, refuses2, refuses3, refuses4}
+use Rattle.spec.specs.Graph.{Graph, graphOf, sizeOf}
 use Rattle.spec.specs.Measures.{isNumbering, renumbered, bandwidth, profile, front}
 use Rattle.spec.specs.CallsNumbering.{MeasureFigures, measureFigures, measuresRefusal, measuresAnswer, measuresScratch}
-use Rattle.laws.proofs.Lent.{zeroed-is}
+use Rattle.laws.proofs.Lent.{answer-refused, zeroed-is}
+use Rattle.laws.proofs.Refused.{graph-refusal-most}
 use Rattle.graph.specs.Facts.{LegalLists, RefusedLists}
 use Rattle.graph.proofs.Answers.{refused-first, legal-next}
-
--- ---- refusals in general
-
-pub outcome-refused : {A : Type 0} (c : ℕ) (a : A) → 1 ≤ c → refused c ≡ outcome c a
-unfolding outcome
-outcome-refused zero a h = absurd (omega arith)
-outcome-refused (suc c) a h = refl
-
--- the two lists are refused by 4 at most
-pub graph-refusal-most : (S N : List ℕ) → graphRefusal S N ≤ 4
-unfolding graphRefusal
-graph-refusal-most S N = go (refuses1 S) (refuses2 S N) (refuses3 (graphOf S N)) (refuses4 (graphOf S N))
-  where
-    go : (a b c d : Bool) → (refuse a 1 orElse refuse b 2 orElse refuse c 3 orElse refuse d 4) ≤ 4
-    go true b c d = omega arith
-    go false true c d = omega arith
-    go false false true d = omega arith
-    go false false false true = omega arith
-    go false false false false = omega arith
-
--- ---- the call
 
 module _ (S N X W : List ℕ) where
   abbrev h : MeasureFigures
@@ -48,7 +28,7 @@ module _ (S N X W : List ℕ) where
   by-refusal : (c : ℕ) → 1 ≤ c → (c ≡ 7 → ⊥) → measuresRefusal S N X W ≡ c → (refused c ≡ measuresAnswer S N X W) × (W ≡ measuresScratch S N X W)
   unfolding measuresAnswer measuresScratch scratchAfter
   by-refusal c some other e = (
-    outcome-refused c h some ∙ ap (λ (d : ℕ). outcome d h) (sym e),
+    answer-refused (measuresRefusal S N X W) c h e some,
     ap (λ (b : Bool). scratchAfter b (sizeOf S) W) (sym (ap (λ (d : ℕ). eqb d 0 || eqb d 7) e ∙ or-neither (ne-eqb c 0 (λ z. omega arith)) (ne-eqb c 7 other))),
   )
 

@@ -15,12 +15,12 @@ use Rattle.spec.specs.Lent.{Outcome, accepted, refused, zeroed}
 use Rattle.spec.specs.Numbering.{Figures, run}
 use Rattle.spec.specs.Refusal.{refuse}
 use Rattle.laws.proofs.Legal.{node-in}
+use Rattle.laws.proofs.Lent.{answer-refused, filled-refused, answer-accepted, filled-accepted, scratch-refused, scratch-accepted}
 use Rattle.laws.proofs.Numberings.{numbering-length}
 use Rattle.laws.proofs.RunLevels.{levels-length, run-occupied, run-width-most, run-width-met, run-one-level, run-edges}
 use Rattle.laws.proofs.Whole.{run-numbering, run-measured-bandwidth, run-measured-profile, run-measured-front}
 use Rattle.graph.specs.Facts.{LegalLists, RefusedLists}
 use Rattle.graph.proofs.Answers.{refused-first, legal-next}
-use Rattle.levels.proofs.Refusals.{answer-refused, filled-refused, answer-accepted, filled-accepted, scratch-refused, scratch-accepted}
 use Rattle.numbering.specs.Numbered.{Numbered}
 
 -- ---- a short buffer

@@ -11,29 +11,18 @@ use borrow.Author.Tests.{lt-ltb, le-ltb, ne-eqb}
 use Rattle.basis.specs.Lists.{overwrite}
 use Rattle.spec.specs.CallsNumbering.{measuresRefusal}
 use Rattle.spec.specs.CallsStore.{EliminationFigures, eliminationFigures, eliminationRefusal, eliminationAnswer, eliminationScratch, eliminationBytes}
-use Rattle.spec.specs.Graph.{sizeOf, graphOf, refuses1, refuses2, refuses3, refuses4, graphRefusal}
+use Rattle.spec.specs.Graph.{sizeOf}
 use Rattle.spec.specs.Lent.{Outcome, refused, outcome, filled, zeroed, scratchAfter, short}
 use Rattle.spec.specs.Measures.{isNumbering, orderOf}
 use Rattle.spec.specs.Refusal.{refuse, _orElse_}
 use Rattle.spec.specs.Store.{markByteCount, markBytes}
-use Rattle.laws.proofs.Lent.{zeroed-is}
+use Rattle.laws.proofs.Lent.{answer-refused, filled-refused, zeroed-is}
 use Rattle.laws.proofs.Numberings.{numbering-length}
+use Rattle.laws.proofs.Refused.{graph-refusal-most}
 use Rattle.graph.specs.Facts.{LegalLists, RefusedLists}
 use Rattle.graph.proofs.Answers.{refused-first, legal-next}
 use Rattle.envelope.proofs.Lent.{length-orderOf}
 use Rattle.eliminate.specs.Walk.{newGraph}
-
--- the tests 1 to 4
-lists-few : (S N : List ℕ) → graphRefusal S N ≤ 4
-unfolding graphRefusal
-lists-few S N = go (refuses1 S) (refuses2 S N) (refuses3 (graphOf S N)) (refuses4 (graphOf S N))
-  where
-    go : (a b c d : Bool) → (refuse a 1 orElse refuse b 2 orElse refuse c 3 orElse refuse d 4) ≤ 4
-    go true b c d = omega arith
-    go false true c d = omega arith
-    go false false true d = omega arith
-    go false false false true = omega arith
-    go false false false false = omega arith
 
 first-refuses : (c d : ℕ) → 1 ≤ c → c orElse d ≡ c
 first-refuses zero d h = absurd (omega arith)
@@ -52,14 +41,12 @@ module _ (S N x C B : List ℕ) where
   by = eliminationRefusal S N x C B
 
   refused-answer : (c : ℕ) → 1 ≤ c → eliminationRefusal S N x C B ≡ c → refused c ≡ eliminationAnswer S N x C B
-  unfolding eliminationAnswer outcome
-  refused-answer zero h e = absurd (omega arith)
-  refused-answer (suc c) h e = rw e
+  unfolding eliminationAnswer
+  refused-answer c h e = answer-refused by c _ e h
 
   refused-bytes : (c : ℕ) → 1 ≤ c → eliminationRefusal S N x C B ≡ c → B ≡ eliminationBytes S N x C B
-  unfolding eliminationBytes filled
-  refused-bytes zero h e = absurd (omega arith)
-  refused-bytes (suc c) h e = rw e
+  unfolding eliminationBytes
+  refused-bytes c h e = filled-refused by c _ B e h
 
   zeroed-scratch : (c : ℕ) → eqb c 0 || eqb c 7 || eqb c 8 ≡ true → eliminationRefusal S N x C B ≡ c → zeroed (sizeOf S) C ≡ eliminationScratch S N x C B
   unfolding eliminationScratch scratchAfter
@@ -115,7 +102,7 @@ module _ (S N x C B : List ℕ) where
 pub answered-lists : (S N x C B : List ℕ) {c : ℕ} → RefusedLists S N c → Answered S N x C B (refused c) C B
 unfolding eliminationRefusal measuresRefusal
 answered-lists S N x C B {c} F =
-    untouched S N x C B c (F .some) (omega (arith, F .refusal, lists-few S N))
+    untouched S N x C B c (F .some) (omega (arith, F .refusal, graph-refusal-most S N))
     (ap (λ (d : ℕ). d orElse last) (refused-first F rest) ∙ first-refuses c last (F .some))
   where
     rest : ℕ
