@@ -175,8 +175,12 @@ Old numbers are given as a mesh tool gives them: corners first, then edges, then
 Bandwidth, profile and front are before → after the renumbering. `NAME.grd` is the mesh, `NAME.txt` the listing that the program must print
 for it, and `NAME.svg` the matrix before and after. The listings come from `tests/reference`, the independent program.
 
-    tools/grd.py examples/bracket.grd
-    tools/picture.py examples/bracket.grd examples/bracket.txt bracket.svg
+    $ ./renumber examples/two_parts.grd
+    nodes 152 parts 2 bandwidth 17 profile 1447 front 17 levels 18 width 13 passes 2
+    1 1 1
+    ..
+
+`tools/README.md` says how a picture is made, and how meshes come from other formats.
 '''
 
 
