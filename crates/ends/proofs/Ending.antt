@@ -12,7 +12,7 @@ use Rattle.spec.specs.Ends.{depthAt, widthAt, farthest, deeper, rootsFrom, root
 use Rattle.spec.specs.Graph.{graphOf, sizeOf, graphRefusal, firstInE, ofNode}
 use Rattle.spec.specs.Levels.{levels, reached, part}
 use Rattle.laws.specs.Legal.{Node, LegalGraph}
-use Rattle.laws.proofs.Ends.{deeper-in, far-part, other-far, roots-on, roots-done}
+use Rattle.laws.proofs.Ends.{deeper-in, far-part, roots-on, roots-done}
 use Rattle.laws.proofs.Figures.{reached-part}
 use Rattle.laws.proofs.Levels.{depth-some, depth-most, part-test, part-node, part-self, part-same}
 use Rattle.laws.proofs.Refused.{passed, starts-of, not-refused}
@@ -199,15 +199,6 @@ module _ {S N : List ℕ} {z v : ℕ} {r : Rooted} {t : Tried} {passes : ℕ} {d
         go zero = refl
         go (suc f) = roots-done f (graphOf S N) v (over .none)
 
-    u-part : memb (t .node) (part (graphOf S N) v) ≡ true
-    u-part = far-part G M (t .node) (subst (λ (u : ℕ). memb u (farthest (graphOf S N) v) ≡ true) (over .is) (other-far G M))
-
-    pub u-node : (1 ≤ t .node) × (t .node ≤ sizeOf S)
-    u-node = let B = part-node G M (t .node) u-part in (B .low, B .high)
-
-    pub u-few : {c : ℕ} → c ≡ r .reached → length (part (graphOf S N) (t .node)) ≤ c
-    u-few e = omega (arith, e, ap (λ x. x .reached) (I .found), reached-part G M, ap length (part-same G (t .node) M u-part))
-
     ends-are : ends (graphOf S N) z ≡ endsAt (graphOf S N) v passes
     unfolding ends
     ends-are =
@@ -215,25 +206,19 @@ module _ {S N : List ℕ} {z v : ℕ} {r : Rooted} {t : Tried} {passes : ℕ} {d
         let b : length (roots (graphOf S N) z) ≡ passes = omega (arith, I .count, ap length alone) in
         (λ i. endsAt (graphOf S N) (a i) (b i))
 
-    pub figures : {w : Rooted} → w ≡ rootedOf (levels (graphOf S N) (t .node)) → (f : Found) → f .v ≡ v → f .u ≡ t .node → f .k ≡ r .depth → f .widthv ≡ r .width → f .widthu ≡ w .width → f .passes ≡ passes
+    pub figures : (f : Found) → f .v ≡ v → f .u ≡ t .node → f .k ≡ r .depth → f .widthv ≡ r .width → f .widthu ≡ t .search .width → f .passes ≡ passes
         → f ≡ foundOf (ends (graphOf S N) z)
     unfolding endsAt depthAt widthAt
-    figures {w} e f pv pu pk pw pu′ pp =
+    figures f pv pu pk pw pu′ pp =
         (λ i. record {
           v = pv i;
           u = (pu ∙ sym (over .is)) i;
           k = (pk ∙ ap (λ x. x .depth) (I .found)) i;
           widthv = (pw ∙ ap (λ x. x .width) (I .found)) i;
-          widthu = (pu′ ∙ ap (λ x. x .width) e ∙ ap (widthAt (graphOf S N)) (sym (over .is))) i;
+          widthu = (pu′ ∙ ap (λ x. x .width) (over .found) ∙ ap (widthAt (graphOf S N)) (sym (over .is))) i;
           passes = pp i;
         }) ∙ ap foundOf (sym ends-are)
 
-    pub ended : {X : List ℕ} → Searched S N (t .node) X → Ended S N (ends (graphOf S N) z) (take (half S) W ++ X)
+    pub ended : Ended S N (ends (graphOf S N) z) W
     unfolding endsAt
-    ended {X} K =
-        let x = I .gave .kept .holds .full in
-        rw ends-are record {
-          full = omega (arith, length-append (take (half S) W) X, x, K .holds .full);
-          first = rw (first-half (half S) (take (half S) W) X x) (I .gave .kept);
-          second = rw (second-half (half S) (take (half S) W) X x, over .is) K;
-        }
+    ended = rw ends-are record { full = I .gave .full; first = I .gave .kept; second = rw (over .is) (over .kept) }

@@ -107,5 +107,5 @@ module _ {S N : List ℕ} {v : ℕ} {r : Rooted} {W : List ℕ} (A : At S N v r 
     flat = λ y.
         let D = P .flat y in
         let L = rw T-is at (D .least) in
-        record { none = sym deep-is ∙ D .none; is = other-is (graphOf S N) v (t .node) (L .member) (L .before); found = D .found; blank = D .blank };
+        record { none = sym deep-is ∙ D .none; is = other-is (graphOf S N) v (t .node) (L .member) (L .before); found = D .found; kept = D .kept };
   }

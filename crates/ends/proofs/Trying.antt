@@ -3,28 +3,30 @@ use mathlib.Core.Path.{_≡_, refl, sym, ap, _∙_}
 use mathlib.Core.Logic.{_⊎_, inl, inr, ⊎-elim}
 use mathlib.Core.Bool.{Bool, true, false, true≢false}
 use mathlib.Core.List.{List, [], _∷_, _++_}
-use Prim.Native.Nat.{ℕ, _+_, _-_, _≤_, _<_}
+use Prim.Native.Nat.{ℕ, zero, suc, _+_, _-_, _≤_, _<_}
 use native.Mathlib.Nat.{le-refl}
 use native.Mathlib.Omega.{arith}
-use lib.ListN.{length, take, drop, getD, replicate, take-append-drop}
-use lib.Seq.{slice, slice-empty, length-take-le}
+use lib.ListN.{length, take, drop, getD, replicate, length-append, length-replicate}
+use lib.Seq.{slice, slice-empty, length-take-le, getD-take}
 use lib.Dec.{ltb}
 use borrow.Author.Tests.{lt-ltb, le-ltb}
 use borrow.Rule.Slice.PartMut.{putMid}
-use Rattle.basis.specs.Lists.{chainb, filterb, memb, consIf}
+use Rattle.basis.specs.Lists.{bit, chainb, filterb, memb, consIf}
 use Rattle.basis.proofs.Lists.{memb-here, memb-append}
 use Rattle.basis.proofs.Logic.{by-test, or-right}
 use Rattle.spec.specs.Ends.{depthAt, widthAt, narrower}
-use Rattle.spec.specs.Graph.{graphOf, sizeOf, graphRefusal, beforeE}
+use Rattle.spec.specs.Graph.{graphOf, sizeOf, graphRefusal, beforeE, ofNode}
 use Rattle.spec.specs.Levels.{levels, levelList, part, depth as deepness}
 use Rattle.laws.specs.Legal.{Node, LegalGraph}
 use Rattle.laws.proofs.Figures.{width-counts, length-levelList}
 use Rattle.laws.proofs.Orders.{E-order, narrower-order}
 use Rattle.laws.proofs.Refused.{passed, starts-of, not-refused}
-use Rattle.search.specs.Answer.{rootedOf}
+use Rattle.search.specs.Answer.{rootedOf, Searched}
+use Rattle.search.specs.Queue.{Queued}
 use Rattle.search.specs.declared.shape.Rooted.{Rooted}
+use Rattle.search.proofs.Stores.{take-replicate, drop-replicate}
 use Rattle.search.proofs.Tallies.{width-most}
-use Rattle.ends.specs.Passes.{Least, half, Probed, Candidates, Tries}
+use Rattle.ends.specs.Passes.{Least, half, Candidates, Tries}
 use Rattle.ends.proofs.Areas.{slice-snoc, slice-split, second-lent, second-back, first-half, second-half}
 use Rattle.ends.proofs.Least.{least-one, least-new, least-old, chain-before, narrower-later}
 
@@ -39,50 +41,91 @@ filter-past t (x ∷ xs) ys e =
     never : (l : List ℕ) → l ≡ x ∷ filterb t xs → l ≡ [] → ⊥
     never l p q = let n : length (x ∷ filterb t xs) ≡ 0 = ap length (sym p ∙ q) in omega arith
 
-pub record Trying (S N W₀ : List ℕ) (a b depth : ℕ) (W : List ℕ) (node : ℕ) (best : Rooted) (i : ℕ) : Type 0 where
+-- words that are 0 hold a search of no nodes
+zero-of : (n q : ℕ) → _≡_ {A = ℕ} (getD (replicate n 0) q 0) 0
+zero-of zero q = refl
+zero-of (suc n) zero = refl
+zero-of (suc n) (suc q) = zero-of n q
+
+no-level : (n q : ℕ) → ofNode (replicate n 0) q ≡ 0
+unfolding ofNode
+no-level n q = zero-of (suc n) q
+
+queued-none : (n : ℕ) {W : List ℕ} → W ≡ replicate (n + n) 0 → Queued n 0 W
+queued-none n z =
+    let e : n + n - n ≡ n - 0 = omega arith in
+    rw z record {
+      full = length-replicate (n + n) 0;
+      most = omega arith;
+      each = λ q. sym (ap (λ (l : List ℕ). bit (ltb 0 (ofNode l q))) (take-replicate n n 0) ∙ ap (λ (x : ℕ). bit (ltb 0 x)) (no-level n q));
+      rest = drop-replicate n (n + n) 0 ∙ ap (λ (k : ℕ). replicate k 0) e;
+    }
+
+-- the second 2n words have the search from s, the last one tried, of `held` nodes
+pub record Trying (S N W₀ : List ℕ) (a b depth : ℕ) (W : List ℕ) (node : ℕ) (best : Rooted) (s held i : ℕ) : Type 0 where
   pub legal : graphRefusal S N ≡ 0
   pub given : Candidates S N a b W₀
-  pub same : W ≡ W₀
+  pub full : length W ≡ length W₀
+  pub same : take (half S) W ≡ take (half S) W₀
   pub from : a ≤ i
   pub to : i ≤ b
   pub flat : filterb (λ s. ltb depth (depthAt (graphOf S N) s)) (slice a i W₀) ≡ []
-  pub least : ((i ≡ a) × (best .width ≡ 65535)) ⊎ (Least (narrower (graphOf S N)) (slice a i W₀) node × (best ≡ rootedOf (levels (graphOf S N) node)))
+  pub holds : Queued (sizeOf S) held (drop (half S) W)
+  pub least : ((i ≡ a) × (best .width ≡ 65535))
+      ⊎ (Least (narrower (graphOf S N)) (slice a i W₀) node × (best ≡ rootedOf (levels (graphOf S N) node)) × Searched S N s (drop (half S) W))
 
-pub trying-begin : {S N W : List ℕ} {a b : ℕ} (depth node : ℕ) {best : Rooted} → graphRefusal S N ≡ 0 → Candidates S N a b W → best .width ≡ 65535
-    → Trying S N W a b depth W node best a
-trying-begin {S} {N} {W} {a} depth node z C e = record {
+pub trying-begin : {S N W : List ℕ} {a b : ℕ} (depth node : ℕ) {best : Rooted} (s : ℕ) → graphRefusal S N ≡ 0 → Candidates S N a b W → best .width ≡ 65535
+    → Trying S N W a b depth W node best s 0 a
+trying-begin {S} {N} {W} {a} depth node s z C e = record {
   legal = z;
   given = C;
+  full = refl;
   same = refl;
   from = le-refl a;
   to = omega (arith, C .some);
   flat = ap (filterb (λ s. ltb depth (depthAt (graphOf S N) s))) (slice-empty a W);
+  holds = queued-none (sizeOf S) (C .blank);
   least = inl (refl, e);
 }
 
-module _ {S N W₀ : List ℕ} {a b depth : ℕ} {W : List ℕ} {node : ℕ} {best : Rooted} {i : ℕ} (I : Trying S N W₀ a b depth W node best i) where
+module _ {S N W₀ : List ℕ} {a b depth : ℕ} {W : List ℕ} {node : ℕ} {best : Rooted} {s held i : ℕ} (I : Trying S N W₀ a b depth W node best s held i) where
   abbrev test : ℕ → Bool
   test s = ltb depth (depthAt (graphOf S N) s)
 
   pub size : length W ≡ half S + half S
-  size = ap length (I .same) ∙ I .given .full
+  size = I .full ∙ I .given .full
 
-  pub size₀ : length W ≡ length W₀
-  size₀ = ap length (I .same)
+  front : length (take (half S) W) ≡ half S
+  front = length-take-le (half S) W (omega (arith, size))
+
+  -- the second 2n words as they are lent
+  abbrev lent : List ℕ
+  lent = take (length W - half S) (drop (half S) W)
+
+  lent-is : lent ≡ drop (half S) W
+  lent-is = second-lent (half S) W size
+
+  pub holds-lent : Queued (sizeOf S) held lent
+  holds-lent = rw lent-is (I .holds)
 
   -- a candidate
   module _ (h : i < b) where
     pub fits : i < length W
     fits = omega (arith, size, I .given .most)
 
+    word : getD W₀ i 0 ≡ getD W i 0
+    word =
+        let f : i < half S = omega (arith, I .given .most) in
+        sym (getD-take (half S) W₀ i 0 f) ∙ ap (λ (l : List ℕ). getD l i 0) (sym (I .same)) ∙ getD-take (half S) W i 0 f
+
     split : slice a b W₀ ≡ slice a i W₀ ++ (getD W i 0 ∷ slice (i + 1) b W₀)
     split =
         slice-split a i b W₀ (I .from) h (omega (arith, I .given .most, I .given .full))
-        ∙ ap (λ (l : List ℕ). slice a i W₀ ++ (getD l i 0 ∷ slice (i + 1) b W₀)) (sym (I .same))
+        ∙ ap (λ (q : ℕ). slice a i W₀ ++ (q ∷ slice (i + 1) b W₀)) word
 
     snoc : slice a (i + 1) W₀ ≡ slice a i W₀ ++ (getD W i 0 ∷ [])
     snoc =
-        slice-snoc a i W₀ (I .from) (omega (arith, fits, size₀)) ∙ ap (λ (l : List ℕ). slice a i W₀ ++ (getD l i 0 ∷ [])) (sym (I .same))
+        slice-snoc a i W₀ (I .from) (omega (arith, fits, I .full)) ∙ ap (λ (q : ℕ). slice a i W₀ ++ (q ∷ [])) word
 
     given-it : memb (getD W i 0) (slice a b W₀) ≡ true
     given-it =
@@ -95,10 +138,7 @@ module _ {S N W₀ : List ℕ} {a b depth : ℕ} {W : List ℕ} {node : ℕ} {be
     pub part-few : length (part (graphOf S N) (getD W i 0)) ≤ b - sizeOf S
     part-few = I .given .few (getD W i 0) given-it
 
-    pub blank : take (length W - half S) (drop (half S) W) ≡ replicate (half S) 0
-    blank = second-lent (half S) W size ∙ ap (drop (half S)) (I .same) ∙ I .given .blank
-
-    module _ {X : List ℕ} {r : Rooted} (e : r ≡ rootedOf (levels (graphOf S N) (getD W i 0))) (P : Probed S N (getD W i 0) depth X) where
+    module _ {X : List ℕ} {r : Rooted} (e : r ≡ rootedOf (levels (graphOf S N) (getD W i 0))) (P : Searched S N (getD W i 0) X) where
       depth-is : depthAt (graphOf S N) (getD W i 0) ≡ r .depth
       unfolding depthAt
       depth-is = sym (ap (λ x. x .depth) e)
@@ -107,34 +147,25 @@ module _ {S N W₀ : List ℕ} {a b depth : ℕ} {W : List ℕ} {node : ℕ} {be
       unfolding widthAt
       width-is = sym (ap (λ x. x .width) e)
 
-      front : length (take (half S) W) ≡ half S
-      front = length-take-le (half S) W (omega (arith, size))
-
       -- it is deeper
       pub trying-deep : depth < r .depth
           → Tries S N (slice a b W₀) depth W₀ (putMid (half S) (length W - half S) W X) (record { deeper = true; node = getD W i 0; search = r })
       trying-deep l =
           let t : test (getD W i 0) ≡ true = lt-ltb depth (depthAt (graphOf S N) (getD W i 0)) (omega (arith, depth-is)) in
           rw (second-back (half S) W size X) record {
-            same = first-half (half S) (take (half S) W) X front ∙ ap (take (half S)) (I .same);
+            same = first-half (half S) (take (half S) W) X front ∙ I .same;
             deep = λ y. record {
               others = filterb test (slice (i + 1) b W₀);
               is = ap (filterb test) split ∙ filter-past test (slice a i W₀) (getD W i 0 ∷ slice (i + 1) b W₀) (I .flat)
                   ∙ ap (λ (x : Bool). consIf x (getD W i 0) (filterb test (slice (i + 1) b W₀))) t;
               found = e;
-              kept = rw (second-half (half S) (take (half S) W) X front) (P .kept (omega (arith, depth-is)));
+              kept = rw (second-half (half S) (take (half S) W) X front) P;
             };
             flat = λ y. absurd (true≢false y);
           }
 
       -- it is not
       module _ (l : r .depth ≤ depth) where
-        words : putMid (half S) (length W - half S) W X ≡ W₀
-        words =
-            second-back (half S) W size X
-            ∙ ap (λ (m : List ℕ). take (half S) W ++ m) (P .wiped (omega (arith, depth-is)) ∙ sym (I .given .blank) ∙ ap (drop (half S)) (sym (I .same)))
-            ∙ take-append-drop (half S) W ∙ I .same
-
         flat-next : filterb test (slice a (i + 1) W₀) ≡ []
         flat-next =
             let t : test (getD W i 0) ≡ false = le-ltb depth (depthAt (graphOf S N) (getD W i 0)) (omega (arith, depth-is)) in
@@ -150,25 +181,28 @@ module _ {S N W₀ : List ℕ} {a b depth : ℕ} {W : List ℕ} {node : ℕ} {be
             (chain-before (E-order (graphOf S N)) (slice a i W₀) (getD W i 0) (slice (i + 1) b W₀) (sym (ap (chainb (beforeE (graphOf S N))) split) ∙ I .given .sorted) node (L .member))
             ∙ (λ j. ltb (width-is j) (sym (ap (λ x. x .width) q) j))
 
-        next : {node′ : ℕ} {best′ : Rooted} → Least (narrower (graphOf S N)) (slice a i W₀ ++ (getD W i 0 ∷ [])) node′ → best′ ≡ rootedOf (levels (graphOf S N) node′)
-            → Trying S N W₀ a b depth (putMid (half S) (length W - half S) W X) node′ best′ (i + 1)
-        next L q = record {
+        next : {node′ held′ : ℕ} {best′ : Rooted} → held′ ≡ r .reached → Least (narrower (graphOf S N)) (slice a i W₀ ++ (getD W i 0 ∷ [])) node′
+            → best′ ≡ rootedOf (levels (graphOf S N) node′) → Trying S N W₀ a b depth (putMid (half S) (length W - half S) W X) node′ best′ (getD W i 0) held′ (i + 1)
+        next eh L q = rw (second-back (half S) W size X) record {
           legal = I .legal;
           given = I .given;
-          same = words;
+          full = omega (arith, length-append (take (half S) W) X, front, P .holds .full, I .given .full);
+          same = first-half (half S) (take (half S) W) X front ∙ I .same;
           from = omega (arith, I .from);
           to = omega arith;
           flat = flat-next;
-          least = inr (rw snoc L, q);
+          holds = rw (second-half (half S) (take (half S) W) X front, eh ∙ ap (λ x. x .reached) e) (P .holds);
+          least = inr (rw snoc L, q, rw (second-half (half S) (take (half S) W) X front) P);
         }
 
-        pub trying-new : r .width < best .width → Trying S N W₀ a b depth (putMid (half S) (length W - half S) W X) (getD W i 0) r (i + 1)
-        trying-new w =
+        pub trying-new : {held′ : ℕ} → held′ ≡ r .reached → r .width < best .width
+            → Trying S N W₀ a b depth (putMid (half S) (length W - half S) W X) (getD W i 0) r (getD W i 0) held′ (i + 1)
+        trying-new eh w =
             ⊎-elim
             (λ p.
             let z : slice a i W₀ ≡ [] = ap (λ (k : ℕ). slice a k W₀) (p .0) ∙ slice-empty a W₀ in
-            next (rw z (least-one (narrower (graphOf S N)) (getD W i 0))) e)
-            (λ p. next (least-new (narrower-order (graphOf S N)) (p .0) (getD W i 0) (by-width (p .0) (p .1) ∙ lt-ltb (r .width) (best .width) w)) e)
+            next eh (rw z (least-one (narrower (graphOf S N)) (getD W i 0))) e)
+            (λ p. next eh (least-new (narrower-order (graphOf S N)) (p .0) (getD W i 0) (by-width (p .0) (p .1) ∙ lt-ltb (r .width) (best .width) w)) e)
             (I .least)
 
         narrow : r .width ≤ 4096
@@ -185,26 +219,41 @@ module _ {S N W₀ : List ℕ} {a b depth : ℕ} {W : List ℕ} {node : ℕ} {be
               starts-of (passed S N (I .legal)) .few,
             )
 
-        pub trying-old : best .width ≤ r .width → Trying S N W₀ a b depth (putMid (half S) (length W - half S) W X) node best (i + 1)
-        trying-old w =
+        pub trying-old : {held′ : ℕ} → held′ ≡ r .reached → best .width ≤ r .width
+            → Trying S N W₀ a b depth (putMid (half S) (length W - half S) W X) node best (getD W i 0) held′ (i + 1)
+        trying-old eh w =
             ⊎-elim
             (λ p. absurd (omega (arith, p .1, narrow)))
-            (λ p. next (least-old (narrower-order (graphOf S N)) (p .0) (getD W i 0) (by-width (p .0) (p .1) ∙ le-ltb (r .width) (best .width) w)) (p .1))
+            (λ p. next eh (least-old (narrower-order (graphOf S N)) (p .0) (getD W i 0) (by-width (p .0) (p .1) ∙ le-ltb (r .width) (best .width) w)) (p .1))
             (I .least)
 
-  pub trying-done : b ≤ i → Tries S N (slice a b W₀) depth W₀ W (record { deeper = false; node = node; search = best })
-  trying-done h =
-      let e : i ≡ b = omega (arith, I .to) in
-      record {
-        same = ap (take (half S)) (I .same);
-        deep = λ y. absurd (true≢false (sym y));
-        flat = λ y.
-            ⊎-elim (λ p. absurd (omega (arith, p .0, I .given .some)))
-            (λ p. record {
-              none = ap (λ (k : ℕ). filterb test (slice a k W₀)) (sym e) ∙ I .flat;
-              least = rw e at (p .0);
-              found = p .1;
-              blank = ap (drop (half S)) (I .same) ∙ I .given .blank;
-            })
-            (I .least);
-      }
+  -- all are tried
+  module _ (h : b ≤ i) where
+    at-end : Least (narrower (graphOf S N)) (slice a b W₀) node × (best ≡ rootedOf (levels (graphOf S N) node)) × Searched S N s (drop (half S) W)
+    at-end =
+        let e : i ≡ b = omega (arith, I .to) in
+        ⊎-elim (λ p. absurd (omega (arith, p .0, I .given .some))) (λ p. (rw e at (p .0), p .1, p .2)) (I .least)
+
+    pub end-node : (1 ≤ node) × (node ≤ sizeOf S)
+    end-node = I .given .nodes node (at-end .0 .member)
+
+    pub end-few : length (part (graphOf S N) node) ≤ b - sizeOf S
+    end-few = I .given .few node (at-end .0 .member)
+
+    pub end-lent : Searched S N s lent
+    end-lent = rw lent-is (at-end .2)
+
+    pub trying-done : {X : List ℕ} → Searched S N node X
+        → Tries S N (slice a b W₀) depth W₀ (putMid (half S) (length W - half S) W X) (record { deeper = false; node = node; search = best })
+    trying-done {X} P =
+        let e : i ≡ b = omega (arith, I .to) in
+        rw (second-back (half S) W size X) record {
+          same = first-half (half S) (take (half S) W) X front ∙ I .same;
+          deep = λ y. absurd (true≢false (sym y));
+          flat = λ y. record {
+            none = ap (λ (k : ℕ). filterb test (slice a k W₀)) (sym e) ∙ I .flat;
+            least = at-end .0;
+            found = at-end .1;
+            kept = rw (second-half (half S) (take (half S) W) X front) P;
+          };
+        }

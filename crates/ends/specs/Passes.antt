@@ -27,11 +27,6 @@ pub record Least (t : ℕ → ℕ → Bool) (l : List ℕ) (m : ℕ) : Type 0 wh
 abbrev pub half : List ℕ → ℕ
 half S = sizeOf S + sizeOf S
 
--- what a search from s leaves in its 2n words: the search where s is deeper, else zeros
-pub record Probed (S N : List ℕ) (s depth : ℕ) (W : List ℕ) : Type 0 where
-  pub kept : depth < depthAt (graphOf S N) s → Searched S N s W
-  pub wiped : depthAt (graphOf S N) s ≤ depth → W ≡ replicate (half S) 0
-
 -- the words from a up to b of the first 2n are nodes in E, of a part that has no more nodes than stand in the queue up to b, and the second
 -- 2n words are 0
 pub record Candidates (S N : List ℕ) (a b : ℕ) (W : List ℕ) : Type 0 where
@@ -51,12 +46,12 @@ pub record FirstDeeper (S N T : List ℕ) (depth : ℕ) (W : List ℕ) (t : Trie
   pub found : t .search ≡ rootedOf (levels (graphOf S N) (t .node))
   pub kept : Searched S N (t .node) (drop (half S) W)
 
--- none of T is deeper, and t is the first by width and E
+-- none of T is deeper, t is the first by width and E, and its search stands in the second 2n words
 pub record Narrowest (S N T : List ℕ) (depth : ℕ) (W : List ℕ) (t : Tried) : Type 0 where
   pub none : filterb (λ s. ltb depth (depthAt (graphOf S N) s)) T ≡ []
   pub least : Least (narrower (graphOf S N)) T (t .node)
   pub found : t .search ≡ rootedOf (levels (graphOf S N) (t .node))
-  pub blank : drop (half S) W ≡ replicate (half S) 0
+  pub kept : Searched S N (t .node) (drop (half S) W)
 
 -- what going through T gives; the first 2n words stay
 pub record Tries (S N T : List ℕ) (depth : ℕ) (W W′ : List ℕ) (t : Tried) : Type 0 where
@@ -89,12 +84,12 @@ pub record Onward (S N : List ℕ) (v : ℕ) (W : List ℕ) (t : Tried) : Type 0
   pub found : t .search ≡ rootedOf (levels (graphOf S N) (t .node))
   pub kept : Searched S N (t .node) (drop (half S) W)
 
--- no s is deeper, and t is u
+-- no s is deeper, t is u, and its search stands in the second 2n words
 pub record Over (S N : List ℕ) (v : ℕ) (W : List ℕ) (t : Tried) : Type 0 where
   pub none : deeper (graphOf S N) v ≡ []
   pub is : otherEnd (graphOf S N) v ≡ t .node
   pub found : t .search ≡ rootedOf (levels (graphOf S N) (t .node))
-  pub blank : drop (half S) W ≡ replicate (half S) 0
+  pub kept : Searched S N (t .node) (drop (half S) W)
 
 -- what a pass from v gives
 pub record Passed (S N : List ℕ) (v : ℕ) (t : Tried) (W : List ℕ) : Type 0 where

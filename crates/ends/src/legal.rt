@@ -10,9 +10,10 @@ ghost use Rattle.spec.specs.Levels.{levels, part, reached};
 ghost use Rattle.spec.specs.Ends.{ends, farthest};
 ghost use Rattle.laws.specs.Legal.{Starts};
 ghost use Rattle.search.specs.Answer.{rootedOf, Searched};
+ghost use Rattle.search.specs.Queue.{Queued};
 ghost use Rattle.sorting.specs.Nodes.{Nodes};
 ghost use Rattle.ends.specs.Answer.{foundOf, Ended};
-ghost use Rattle.ends.specs.Passes.{Probed, Candidates, Tries, Area, Sorted, At, Passed, OnePart};
+ghost use Rattle.ends.specs.Passes.{Candidates, Tries, Area, Sorted, At, Passed, OnePart};
 use crate::shape::Found;
 use crate::shape::Tried;
 use graph::legal::precedes;
@@ -57,33 +58,53 @@ pub fn first_of_part(starts: &[u16], neighbours: &[u16], node: u16, work: &mut [
     v
 }
 
-// The search from s, whose part has at most `most` nodes; its words are kept if s is deeper than `depth`, and are 0 again if not.
+// The search from s, whose part has at most `most` nodes, in place of an earlier one, of `held` nodes.
 fn probe(
     starts: &[u16],
     neighbours: &[u16],
     s: u16,
     most: usize,
-    depth: u16,
+    held: usize,
     work: &mut [u16],
 ) -> Rooted
     requires { ⌜ graphRefusal (now starts) (now neighbours) ≡ 0 ⌝ }
     requires { ⌜ (1 ≤ s) × (s ≤ sizeOf (now starts)) ⌝ }
     requires { ⌜ length (part (graphOf (now starts) (now neighbours)) s) ≤ most ⌝ }
-    requires { ⌜ now work ≡ replicate (sizeOf (now starts) + sizeOf (now starts)) 0 ⌝ }
+    requires { ⌜ Queued (sizeOf (now starts)) held (now work) ⌝ }
     ensures { λ r. ⌜ r ≡ rootedOf (levels (graphOf (now (starts .entry)) (now (neighbours .entry))) s) ⌝ }
-    ensures { λ _. ⌜ Probed (now (starts .entry)) (now (neighbours .entry)) s depth (now (work .exit)) ⌝ }
+    ensures { λ _. ⌜ Searched (now (starts .entry)) (now (neighbours .entry)) s (now (work .exit)) ⌝ }
 {
     let n = starts.len() - 1;
-    let r = search(starts, neighbours, s, most, work);
-    if depth < r.depth {
-        return r;
-    }
-    wipe(work, n, wide(r.reached));
-    r
+    wipe(work, n, held);
+    search(starts, neighbours, s, most, work)
 }
 
-// Steps 3 and 4 for the nodes S that stand in the words from a up to b, the queue's end, in E: stops at the first s deeper than `depth`,
-// whose search then stands in the second 2n words. If there is none, it is the s of least width, "ties by E": a later s must be narrower.
+// The search from u in place of the one from s: there is nothing to do where u is s.
+fn probe_other(
+    starts: &[u16],
+    neighbours: &[u16],
+    s: u16,
+    u: u16,
+    most: usize,
+    held: usize,
+    work: &mut [u16],
+)
+    requires { ⌜ graphRefusal (now starts) (now neighbours) ≡ 0 ⌝ }
+    requires { ⌜ (1 ≤ u) × (u ≤ sizeOf (now starts)) ⌝ }
+    requires { ⌜ length (part (graphOf (now starts) (now neighbours)) u) ≤ most ⌝ }
+    requires { ⌜ Queued (sizeOf (now starts)) held (now work) ⌝ }
+    requires { ⌜ Searched (now starts) (now neighbours) s (now work) ⌝ }
+    ensures { λ _. ⌜ Searched (now (starts .entry)) (now (neighbours .entry)) u (now (work .exit)) ⌝ }
+{
+    if s == u {
+        return;
+    }
+    let _ = probe(starts, neighbours, u, most, held, work);
+}
+
+// Steps 3 and 4 for the nodes S that stand in the words from a up to b, the queue's end, in E: stops at the first s deeper than `depth`.
+// If there is none, it is the s of least width, "ties by E": a later s must be narrower. Its search then stands in the second 2n words. A
+// search is wiped for the next one only: the s of least width is often the last, above all where S has one node.
 fn try_each(
     starts: &[u16],
     neighbours: &[u16],
@@ -106,10 +127,12 @@ fn try_each(
         reached: 0,
         last: 0,
     };
+    let mut s = 0;
+    let mut held = 0;
     let mut i = a;
     while i < b {
-        let s = work[i];
-        let r = probe(starts, neighbours, s, most, depth, &mut work[half..]);
+        s = work[i];
+        let r = probe(starts, neighbours, s, most, held, &mut work[half..]);
         if depth < r.depth {
             return Tried {
                 deeper: true,
@@ -117,12 +140,14 @@ fn try_each(
                 search: r,
             };
         }
+        held = wide(r.reached);
         if r.width < best.width {
             node = s;
             best = r;
         }
         i += 1;
     }
+    probe_other(starts, neighbours, s, node, most, held, &mut work[half..]);
     Tried {
         deeper: false,
         node,
@@ -193,9 +218,8 @@ pub fn ends_from(starts: &[u16], neighbours: &[u16], first: u16, work: &mut [u16
     ensures { λ _. ⌜ Ended (now (starts .entry)) (now (neighbours .entry)) (ends (graphOf (now (starts .entry)) (now (neighbours .entry))) first) (now (work .exit)) ⌝ }
 {
     let n = starts.len() - 1;
-    let half = n + n;
     let mut v = first;
-    let mut r = search(starts, neighbours, first, n, &mut work[0..half]);
+    let mut r = search(starts, neighbours, first, n, &mut work[0..n + n]);
     let mut t = pass(starts, neighbours, r, work);
     let mut passes: u16 = 1;
     let mut deeper = t.deeper;
@@ -207,14 +231,12 @@ pub fn ends_from(starts: &[u16], neighbours: &[u16], first: u16, work: &mut [u16
         t = pass(starts, neighbours, r, work);
         deeper = t.deeper;
     }
-    let u = t.node;
-    let w = search(starts, neighbours, u, wide(r.reached), &mut work[half..]);
     Found {
         v,
-        u,
+        u: t.node,
         k: r.depth,
         widthv: r.width,
-        widthu: w.width,
+        widthu: t.search.width,
         passes,
     }
 }

@@ -1,27 +1,25 @@
 -- `ends::legal::ends_from` meets its contract: the loop is `Ending.antt`'s. Assumes nothing.
-use mathlib.Core.Path.{refl, sym, _∙_, subst}
+use mathlib.Core.Path.{refl, sym, _∙_}
 use mathlib.Core.List.{_++_}
 use Prim.Native.Nat.{_-_}
 use native.Mathlib.Omega.{arith}
-use lib.ListN.{length}
 use borrow.Author.Needs.{needs}
-use borrow.Rule.Slice.PartMut.{postOf, same-len-mid}
+use borrow.Rule.Slice.PartMut.{postOf}
 use Rattle.spec.specs.Graph.{graphOf, sizeOf}
 use Rattle.laws.specs.Legal.{Node, Starts}
 use Rattle.laws.proofs.Parts.{part-most}
 use Rattle.laws.proofs.Refused.{passed, starts-of}
-use Rattle.ends.specs.Answer.{Ended}
 use Rattle.ends.specs.Passes.{half, At}
-use Rattle.ends.proofs.Areas.{front-lent, front-back, second-lent, second-back}
-use Rattle.ends.proofs.Ending.{Going, first-blank, first-full, first-at, going-begin, small, one-part, next-at, grows, less, going-next, u-node, u-few, figures, ended}
+use Rattle.ends.proofs.Areas.{front-lent, front-back}
+use Rattle.ends.proofs.Ending.{Going, first-blank, first-full, first-at, going-begin, small, one-part, next-at, grows, less, going-next, figures, ended}
 use Rattle.ends.proofs.legal.ends_from.Statement.{statement}
 use Rattle.ends.proofs.legal.ends_from.Tie as tie
 
 abbrev Inv-loop : tie.InvT-loop
-Inv-loop starts neighbours first work₀ n half v₀ r₀ t₀ passes₀ deeper₀ work v r t passes deeper = Going starts neighbours first v r t passes deeper work
+Inv-loop starts neighbours first work₀ n v₀ r₀ t₀ passes₀ deeper₀ work v r t passes deeper = Going starts neighbours first v r t passes deeper work
 
 abbrev μ-loop : tie.MeasureT-loop
-μ-loop starts neighbours first work₀ n half v₀ r₀ t₀ passes₀ deeper₀ work v r t passes deeper = sizeOf starts - r .depth
+μ-loop starts neighbours first work₀ n v₀ r₀ t₀ passes₀ deeper₀ work v r t passes deeper = sizeOf starts - r .depth
 
 abbrev start : tie.After-search Inv-loop μ-loop → tie.Start Inv-loop μ-loop
 start c = c .before .before .before .before .before
@@ -44,8 +42,8 @@ begun c =
 sub-n : tie.Need-sub-n Inv-loop μ-loop
 sub-n c = omega (arith, starts (c .before .before .before) .count)
 
-add-half : tie.Need-add-half Inv-loop μ-loop
-add-half c = omega (arith, starts (c .before .before .before) .few)
+add-search : tie.Need-add-search Inv-loop μ-loop
+add-search c = omega (arith, starts (c .before .before .before) .few)
 
 sub-search : tie.Need-sub-search Inv-loop μ-loop
 sub-search c = omega arith
@@ -96,48 +94,14 @@ loop-again c =
     let d = c .before .before .before .before .before .before .before .before .before .before .loop-test .taken in
     going-next (at .loop .inv) d (c .before .before .pass2 .ensures (at .loop .t .node) (next-at (at .loop .inv) d (c .before .before .before .before .before .before .take-over .ensures)))
 
-wide-requires-2 : tie.Need-wide-requires-2 Inv-loop μ-loop
-wide-requires-2 c κs = search needs
-
-mul-search : tie.Need-mul-search Inv-loop μ-loop
-mul-search c = omega (arith, c .before .before .loop .inv .gave .full)
-
-sub-search-2 : tie.Need-sub-search-2 Inv-loop μ-loop
-sub-search-2 c = omega (arith, c .before .before .loop .inv .gave .full)
-
-part-search-start-2 : tie.Need-part-search-start-2 Inv-loop μ-loop
-part-search-start-2 c = omega (arith, c .before .before .loop .inv .gave .full)
-
-part-search-end-2 : tie.Need-part-search-end-2 Inv-loop μ-loop
-part-search-end-2 c = omega arith
-
-search-requires-2 : tie.Need-search-requires-2 Inv-loop μ-loop
-search-requires-2 c κs =
-    let at = c .before .before .before in
-    let I = at .loop .inv in
-    let d = c .before .before .loop-test .left in
-    let S = start (at .before .before .before .before .before .before .before) .args .starts .now in
-    (I .legal, (u-node I d, (u-few I d (c .before .wide2 .ensures), second-lent (half S) (at .loop .work) (I .gave .full) ∙ I .gave .flat (sym (I .test) ∙ d) .blank)))
-
 same-length : tie.Need-same-length Inv-loop μ-loop
 same-length c =
-    let at = c .before .before .before .before .before .before in
+    let at = c .before in
     let s = start (at .before .before .before .before .before .before .before) in
-    same-len-mid (half (s .args .starts .now)) (length (at .loop .work) - half (s .args .starts .now)) (at .loop .work) (c .before .before .search2 .last .1 .1 .1 .1 .0)
-    (c .before .before .search2 .kept .1 .1 .1 .1 .0)
-    ∙ at .loop .inv .gave .full ∙ sym (first-full (s .args .starts .now) (s .args .neighbours .now) (s .pre .0) (node s) (s .pre .1 .1 .1))
+    at .loop .inv .gave .full ∙ sym (first-full (s .args .starts .now) (s .args .neighbours .now) (s .pre .0) (node s) (s .pre .1 .1 .1))
 
 returns : tie.Need-returns Inv-loop μ-loop
-returns c =
-    let at = c .before .before .before .before .before .before in
-    let I = at .loop .inv in
-    let d = c .before .before .before .before .before .loop-test .left in
-    let s = start (at .before .before .before .before .before .before .before) in
-    let E = c .before .before .search2 .ensures in
-    let e = second-back (half (s .args .starts .now)) (at .loop .work) (I .gave .full) (c .before .before .search2 .last .1 .1 .1 .1 .0) in (
-      figures I d (E .0) _ refl refl refl refl refl refl,
-      subst (Ended (s .args .starts .now) (s .args .neighbours .now) _) (sym e) (ended I d (E .1)),
-    )
+returns c = let I = c .before .loop .inv in let d = c .loop-test .left in (figures I d _ refl refl refl refl refl refl, ended I d)
 
 pub ends-from-spec : {M : Type 1} → statement M
 ends-from-spec =
@@ -146,7 +110,7 @@ ends-from-spec =
     Inv-loop
     μ-loop
     sub-n
-    add-half
+    add-search
     sub-search
     part-search-start
     part-search-end
@@ -159,11 +123,5 @@ ends-from-spec =
     pass-requires-2
     loop-less
     loop-again
-    wide-requires-2
-    mul-search
-    sub-search-2
-    part-search-start-2
-    part-search-end-2
-    search-requires-2
     same-length
     returns)
