@@ -5,7 +5,7 @@ ghost use lib.Dec.{eqb, ltb};
 ghost use Rattle.spec.specs.Refusal.{refuse, _orElse_};
 ghost use Rattle.spec.specs.Mesh.{nodeCount, elementRefusal, elementsRefusal};
 
-mod nodes;
+pub mod nodes;
 
 // The node count by kind; there is no kind 0.
 const NODE_COUNTS: [usize; 11] = [0, 2, 3, 4, 4, 5, 6, 8, 6, 8, 10];

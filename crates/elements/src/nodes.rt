@@ -24,7 +24,7 @@ fn leaves(nodes: &[u16], n: usize) -> bool
 }
 
 // Whether p is one of the nodes.
-fn holds(nodes: &[u16], p: u16) -> bool
+pub fn holds(nodes: &[u16], p: u16) -> bool
     ensures { λ r. ⌜ r ≡ memb p (now (nodes .entry)) ⌝ }
 {
     let mut j = 0;

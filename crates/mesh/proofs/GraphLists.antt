@@ -22,7 +22,7 @@ use Rattle.laws.specs.Legal.{Node, LegalGraph}
 use Rattle.laws.proofs.Legal.{of-row}
 use Rattle.rows.specs.Rows.{entriesTo}
 use Rattle.basis.proofs.Next.{sum-next, join-length}
-use Rattle.rows.proofs.Blocks.{to-none, to-upto}
+use Rattle.rows.proofs.Laying.{to-none, to-upto}
 
 module _ (g : Graph) where
   -- ---- the two lists

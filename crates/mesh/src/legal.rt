@@ -24,11 +24,10 @@ pub fn adjacency(
     ensures { λ _. ⌜ now (neighbours .exit) ≡ filled (refuse (refuses11 (graphOfElements n (now (elements .entry)))) 11) (neighbourList (graphOfElements n (now (elements .entry)))) (now (neighbours .entry)) ⌝ }
     ensures { λ _. ⌜ now (scratch .exit) ≡ zeroed n (now (scratch .entry)) ⌝ }
 {
-    let bits = &mut scratch[..n];
-    let count = rows::legal::count::count_entries(bits, elements);
-    if 32768 < count {
+    let lists = &mut scratch[..n];
+    if 32768 < rows::legal::count(lists, elements, starts, neighbours) {
         return Entries::Refused(11);
     }
-    rows::legal::fill::fill(bits, elements, starts, neighbours);
-    Entries::Accepted(count as u32)
+    let entries = rows::legal::fill(lists, elements, starts, neighbours);
+    Entries::Accepted(entries as u32)
 }

@@ -1,2 +1,2 @@
-pub mod Filling
-pub mod Blocks
+pub mod Laying
+pub mod Rows

@@ -1,4 +1,61 @@
 // Functions that ask for elements that are not refused, one word a node, and room.
+ghost use mathlib.Core.Path.{_≡_};
+ghost use Prim.Native.Nat.{_≤_};
+ghost use lib.ListN.{length, replicate};
+ghost use Rattle.basis.specs.Lists.{overwrite};
+ghost use Rattle.spec.specs.Mesh.{elementsRefusal, entryCount, startList, neighbourList};
+ghost use Rattle.spec.specs.CallsMesh.{graphOfElements};
+ghost use Rattle.rows.specs.Rows.{Room};
 
-pub mod count;
-pub mod fill;
+mod batch;
+mod row;
+
+// The entry count of the mesh: with no room in the two lists, their rows are only counted. The lists of elements need a word for each
+// node, and end as zeros.
+pub fn count(
+    lists: &mut [u16],
+    elements: &[u16],
+    starts: &mut [u16],
+    neighbours: &mut [u16],
+) -> usize
+    requires { ⌜ length (now lists) ≤ 4096 ⌝ }
+    requires { ⌜ elementsRefusal (length (now elements)) (length (now lists)) (now elements) ≡ 0 ⌝ }
+    ensures { λ r. ⌜ r ≡ entryCount (graphOfElements (length (now (lists .entry))) (now (elements .entry))) ⌝ }
+    ensures { λ _. ⌜ now (lists .exit) ≡ replicate (length (now (lists .entry))) 0 ⌝ }
+    ensures { λ _. ⌜ now (starts .exit) ≡ now (starts .entry) ⌝ }
+    ensures { λ _. ⌜ now (neighbours .exit) ≡ now (neighbours .entry) ⌝ }
+{
+    let n = lists.len();
+    let mut bits = [0u64; 64];
+    let count = batch::all_rows(
+        &mut bits,
+        lists,
+        elements,
+        &mut starts[..0],
+        &mut neighbours[..0],
+    );
+    words::legal::clear(lists, n);
+    count
+}
+
+// Writes both lists, and returns the entry count. The lists of elements need a word for each node, and end as zeros.
+pub fn fill(
+    lists: &mut [u16],
+    elements: &[u16],
+    starts: &mut [u16],
+    neighbours: &mut [u16],
+) -> usize
+    requires { ⌜ elementsRefusal (length (now elements)) (length (now lists)) (now elements) ≡ 0 ⌝ }
+    requires { ⌜ Room (graphOfElements (length (now lists)) (now elements)) (length (now lists)) (now starts) (now neighbours) ⌝ }
+    ensures { λ r. ⌜ r ≡ entryCount (graphOfElements (length (now (lists .entry))) (now (elements .entry))) ⌝ }
+    ensures { λ _. ⌜ now (lists .exit) ≡ replicate (length (now (lists .entry))) 0 ⌝ }
+    ensures { λ _. ⌜ now (starts .exit) ≡ overwrite (startList (graphOfElements (length (now (lists .entry))) (now (elements .entry)))) (now (starts .entry)) ⌝ }
+    ensures { λ _. ⌜ now (neighbours .exit) ≡ overwrite (neighbourList (graphOfElements (length (now (lists .entry))) (now (elements .entry)))) (now (neighbours .entry)) ⌝ }
+{
+    let n = lists.len();
+    let mut bits = [0u64; 64];
+    starts[0] = 0;
+    let count = batch::all_rows(&mut bits, lists, elements, starts, neighbours);
+    words::legal::clear(lists, n);
+    count
+}

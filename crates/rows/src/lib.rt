@@ -1,4 +1,3 @@
-// The rows of a mesh's graph, out of blocks of sixteen: their entries counted, and the two lists filled.
+// The rows of a mesh's graph, one after another: their entries counted, and the two lists filled.
 
-mod entry;
 pub mod legal;

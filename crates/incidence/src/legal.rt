@@ -1,0 +1,4 @@
+// Functions that ask for elements that are not refused.
+
+pub mod adding;
+pub mod listing;

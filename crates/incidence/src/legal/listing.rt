@@ -1,0 +1,103 @@
+// Lists of element positions in lent words, one for each of some rows. The word of a row has its first cell, 0 for none; cell c, from 1
+// on, is two words behind those of the rows: a position and the next cell, which is lower.
+ghost use mathlib.Core.Path.{_≡_};
+ghost use mathlib.Core.Bool.{true};
+ghost use Prim.Native.Nat.{ℕ, suc, _+_, _*_, _≤_, _<_};
+ghost use lib.ListN.{length, getD};
+ghost use lib.Dec.{eqb};
+ghost use Rattle.basis.specs.Lists.{memb};
+ghost use Rattle.spec.specs.Mesh.{elementsRefusal};
+ghost use Rattle.incidence.specs.Cells.{Cells, pushed, Entered, Listed};
+
+// The place of row p among the rows after base, `rows` for a row that is none of them.
+fn row_of(p: usize, base: usize, rows: usize) -> usize
+    ensures { λ r. ⌜ (r ≤ rows) × ((k : ℕ) → k < rows → eqb (base + suc k) p ≡ eqb k r) ⌝ }
+{
+    if p <= base {
+        return rows;
+    }
+    words::smaller(p - base - 1, rows)
+}
+
+// Puts a position in front of the list of a row, as this cell.
+fn push(lists: &mut [u16], row: usize, rows: usize, cell: usize, at: u16)
+    requires { ⌜ (row < rows) × (rows + 2 * cell + 1 < length (now lists)) × (length (now lists) ≤ 4096) ⌝ }
+    ensures { λ _. ⌜ now (lists .exit) ≡ pushed rows (now (lists .entry)) row cell at ⌝ }
+{
+    let first = lists[row];
+    let to = rows + 2 * cell;
+    lists[to] = at;
+    lists[to + 1] = first;
+    lists[row] = cell as u16;
+}
+
+// Enters a position in the list of a row, if it is one; returns the cell that is free then, 0 where the words are full.
+fn enter_row(lists: &mut [u16], row: usize, rows: usize, cell: usize, at: u16) -> usize
+    requires { ⌜ (length (now lists) ≤ 4096) × Cells rows (now lists) cell ⌝ }
+    ensures { λ r. ⌜ ((r ≡ 0 → ⊥) → Entered at rows (λ k. eqb k row) (now (lists .entry)) cell (now (lists .exit)) r) ⌝ }
+{
+    if rows <= row {
+        return cell;
+    }
+    let next = cell + 1;
+    if lists.len() < rows + 2 * next {
+        return 0;
+    }
+    push(lists, row, rows, cell, at);
+    next
+}
+
+// Enters the position of an element in the list of each of its nodes that is one of the rows after base.
+fn enter(lists: &mut [u16], nodes: &[u16], at: u16, base: usize, rows: usize, cell: usize) -> usize
+    requires { ⌜ (length (now lists) ≤ 4096) × Cells rows (now lists) cell ⌝ }
+    ensures { λ r. ⌜ ((r ≡ 0 → ⊥) → Entered at rows (λ k. memb (base + suc k) (now (nodes .entry))) (now (lists .entry)) cell (now (lists .exit)) r) ⌝ }
+{
+    let mut free = cell;
+    let mut j = 0;
+    while j < nodes.len() {
+        let row = row_of(words::wide(nodes[j]), base, rows);
+        free = enter_row(lists, row, rows, free, at);
+        if free == 0 {
+            return 0;
+        }
+        j += 1;
+    }
+    free
+}
+
+// Lists the elements of the rows after base, in one pass; whether the words have room for all.
+fn list(lists: &mut [u16], elements: &[u16], base: usize, rows: usize) -> bool
+    requires { ⌜ (length (now lists) ≤ 4096) × (rows + 2 ≤ length (now lists)) × (length (now elements) ≤ 65536) ⌝ }
+    requires { ⌜ elementsRefusal (length (now elements)) (length (now lists)) (now elements) ≡ 0 ⌝ }
+    ensures { λ r. ⌜ (r ≡ true → Listed (now (elements .entry)) base rows (now (lists .exit))) ⌝ }
+{
+    words::legal::clear(lists, rows);
+    let mut cell = 1;
+    let mut at = 0;
+    while at < elements.len() {
+        let first = at + 1;
+        let next = first + elements::node_count(elements[at]);
+        cell = enter(lists, &elements[first..next], at as u16, base, rows, cell);
+        if cell == 0 {
+            return false;
+        }
+        at = next;
+    }
+    true
+}
+
+// Lists the elements of as many rows after base as there is room for, in steps of a half; returns how many rows, `most` at most.
+pub fn list_rows(lists: &mut [u16], elements: &[u16], base: usize, most: usize) -> usize
+    requires { ⌜ (length (now lists) ≤ 4096) × (most + 2 ≤ length (now lists)) × (length (now elements) ≤ 65536) ⌝ }
+    requires { ⌜ elementsRefusal (length (now elements)) (length (now lists)) (now elements) ≡ 0 ⌝ }
+    ensures { λ r. ⌜ (r ≤ most) × (1 ≤ r → Listed (now (elements .entry)) base r (now (lists .exit))) ⌝ }
+{
+    let mut rows = most;
+    while 0 < rows {
+        if list(lists, elements, base, rows) {
+            return rows;
+        }
+        rows = rows / 2;
+    }
+    0
+}

@@ -1,0 +1,112 @@
+// All rows, as many at a time as the lists of their elements have room.
+ghost use mathlib.Core.Path.{_≡_};
+ghost use Prim.Native.Nat.{_+_, _≤_, _<_, max};
+ghost use lib.ListN.{length};
+ghost use Rattle.spec.specs.Mesh.{elementsRefusal};
+ghost use Rattle.spec.specs.CallsMesh.{graphOfElements};
+ghost use Rattle.rowset.specs.Set.{Empty};
+ghost use Rattle.incidence.specs.Cells.{Listed};
+ghost use Rattle.rows.specs.Rows.{entriesTo, Ready, Goes, Laid};
+
+// Lists the elements of some rows after base, and returns of how many: 0 where not even one row has room, or positions don't fit a word.
+// A row takes a word, and two for each element: a guess by the elements that a row has in the mean.
+fn list_some(lists: &mut [u16], elements: &[u16], base: usize) -> usize
+    requires { ⌜ (length (now lists) ≤ 4096) × (base < length (now lists)) ⌝ }
+    requires { ⌜ elementsRefusal (length (now elements)) (length (now lists)) (now elements) ≡ 0 ⌝ }
+    ensures { λ r. ⌜ (base + r ≤ length (now (lists .entry))) × (1 ≤ r → Listed (now (elements .entry)) base r (now (lists .exit))) ⌝ }
+{
+    let n = lists.len();
+    if 65536 < elements.len() {
+        return 0;
+    }
+    if n < 2 {
+        return 0;
+    }
+    let mean = elements.len() / n;
+    let guess = n / (2 * mean + 2);
+    let most = words::smaller(words::smaller(guess, n - base), n - 2);
+    incidence::legal::listing::list_rows(lists, elements, base, most)
+}
+
+// The rows after base whose elements are listed.
+fn listed_rows(
+    bits: &mut [u64],
+    lists: &[u16],
+    elements: &[u16],
+    base: usize,
+    rows: usize,
+    at: usize,
+    starts: &mut [u16],
+    neighbours: &mut [u16],
+) -> usize
+    requires { ⌜ Ready (length (now lists)) (now elements) (now bits) (now starts) ⌝ }
+    requires { ⌜ Listed (now elements) base rows (now lists) × (base + rows ≤ length (now lists)) ⌝ }
+    requires { ⌜ at ≡ entriesTo (graphOfElements (length (now lists)) (now elements)) base ⌝ }
+    ensures { λ _. ⌜ Empty (now (bits .exit)) ⌝ }
+    ensures { λ r. ⌜ Goes (graphOfElements (length (now (lists .entry))) (now (elements .entry))) base (now (starts .entry)) (now (neighbours .entry)) (base + rows) (now (starts .exit)) (now (neighbours .exit)) r ⌝ }
+{
+    let mut to = at;
+    let mut row = 0;
+    while row < rows {
+        to = super::row::listed_row(
+            bits,
+            lists,
+            elements,
+            base,
+            rows,
+            row,
+            to,
+            starts,
+            neighbours,
+        );
+        row += 1;
+    }
+    to
+}
+
+// The rows after base whose elements are listed, or one row where none is.
+fn some_rows(
+    bits: &mut [u64],
+    lists: &[u16],
+    elements: &[u16],
+    base: usize,
+    rows: usize,
+    at: usize,
+    starts: &mut [u16],
+    neighbours: &mut [u16],
+) -> usize
+    requires { ⌜ Ready (length (now lists)) (now elements) (now bits) (now starts) ⌝ }
+    requires { ⌜ (1 ≤ rows → Listed (now elements) base rows (now lists)) × (base + max rows 1 ≤ length (now lists)) ⌝ }
+    requires { ⌜ at ≡ entriesTo (graphOfElements (length (now lists)) (now elements)) base ⌝ }
+    ensures { λ _. ⌜ Empty (now (bits .exit)) ⌝ }
+    ensures { λ r. ⌜ Goes (graphOfElements (length (now (lists .entry))) (now (elements .entry))) base (now (starts .entry)) (now (neighbours .entry)) (base + max rows 1) (now (starts .exit)) (now (neighbours .exit)) r ⌝ }
+{
+    if rows == 0 {
+        let n = lists.len();
+        return super::row::direct_row(bits, n, elements, base, at, starts, neighbours);
+    }
+    listed_rows(bits, lists, elements, base, rows, at, starts, neighbours)
+}
+
+// All rows from the first on; returns the entry count. The lists of elements have a word for each node.
+pub(crate) fn all_rows(
+    bits: &mut [u64],
+    lists: &mut [u16],
+    elements: &[u16],
+    starts: &mut [u16],
+    neighbours: &mut [u16],
+) -> usize
+    requires { ⌜ Ready (length (now lists)) (now elements) (now bits) (now starts) ⌝ }
+    ensures { λ r. ⌜ r ≡ entriesTo (graphOfElements (length (now (lists .entry))) (now (elements .entry))) (length (now (lists .entry))) ⌝ }
+    ensures { λ _. ⌜ Laid (graphOfElements (length (now (lists .entry))) (now (elements .entry))) (now (starts .entry)) (now (neighbours .entry)) (length (now (lists .entry))) (now (starts .exit)) (now (neighbours .exit)) ⌝ }
+{
+    let n = lists.len();
+    let mut to = 0;
+    let mut base = 0;
+    while base < n {
+        let rows = list_some(lists, elements, base);
+        to = some_rows(bits, lists, elements, base, rows, to, starts, neighbours);
+        base += words::larger(rows, 1);
+    }
+    to
+}
