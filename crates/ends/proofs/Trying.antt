@@ -41,7 +41,6 @@ filter-past t (x ∷ xs) ys e =
     never : (l : List ℕ) → l ≡ x ∷ filterb t xs → l ≡ [] → ⊥
     never l p q = let n : length (x ∷ filterb t xs) ≡ 0 = ap length (sym p ∙ q) in omega arith
 
--- words that are 0 hold a search of no nodes
 zero-of : (n q : ℕ) → _≡_ {A = ℕ} (getD (replicate n 0) q 0) 0
 zero-of zero q = refl
 zero-of (suc n) zero = refl
@@ -51,6 +50,7 @@ no-level : (n q : ℕ) → ofNode (replicate n 0) q ≡ 0
 unfolding ofNode
 no-level n q = zero-of (suc n) q
 
+-- words that are 0 hold a search of no nodes
 queued-none : (n : ℕ) {W : List ℕ} → W ≡ replicate (n + n) 0 → Queued n 0 W
 queued-none n z =
     let e : n + n - n ≡ n - 0 = omega arith in
@@ -61,7 +61,7 @@ queued-none n z =
       rest = drop-replicate n (n + n) 0 ∙ ap (λ (k : ℕ). replicate k 0) e;
     }
 
--- the second 2n words have the search from s, the last one tried, of `held` nodes
+-- node is the narrowest before i, and the search from s, the last one tried, of `held` nodes, stands in the second 2n words
 pub record Trying (S N W₀ : List ℕ) (a b depth : ℕ) (W : List ℕ) (node : ℕ) (best : Rooted) (s held i : ℕ) : Type 0 where
   pub legal : graphRefusal S N ≡ 0
   pub given : Candidates S N a b W₀
