@@ -204,7 +204,7 @@ fn wipe_each(work: &mut [u16], n: usize, count: usize)
     }
 }
 
-// The same, and in one go where the part has most of the nodes: that is many times faster a word.
+// The same, and in one go where the part has an eighth of the nodes or more: that is many times faster a word.
 pub fn wipe(work: &mut [u16], n: usize, count: usize)
     requires { ⌜ Queued n count (now work) ⌝ }
     ensures { λ _. ⌜ now (work .exit) ≡ replicate (n + n) 0 ⌝ }
