@@ -7,7 +7,7 @@ use native.Mathlib.Omega.{arith}
 use lib.ListN.{length, take, drop, replicate}
 use lib.Seq.{length-take-le}
 use lib.Dec.{eqb, ltb, eqb·suc-zero}
-use borrow.Author.Tests.{lt-ltb, le-ltb, ne-eqb}
+use borrow.Author.Tests.{ltb-false, ne-eqb}
 use Rattle.basis.specs.Lists.{overwrite}
 use Rattle.basis.proofs.Logic.{by-test}
 use Rattle.spec.specs.Refusal.{refuse, _orElse_}
@@ -91,16 +91,12 @@ counted n ws S N L answer S′ N′ L′ e a s t l = record {
   scratch = by-test (refuses11 (graphOfElements n ws)) (λ b. rw (e, b) l) (λ b. rw (e, b) l);
 }
 
--- ---- the entries are counted first
+-- ---- 11 is decided first
 
-module _ (n : ℕ) (ws : List ℕ) where
-  pub too-many : (count : ℕ) → count ≡ entryCount (graphOfElements n ws) → 32768 < count → refuses11 (graphOfElements n ws) ≡ true
-  unfolding refuses11
-  too-many count e h = lt-ltb 32768 (entryCount (graphOfElements n ws)) (omega (arith, e))
-
-  pub not-many : (count : ℕ) → count ≡ entryCount (graphOfElements n ws) → count ≤ 32768 → refuses11 (graphOfElements n ws) ≡ false
-  unfolding refuses11
-  not-many count e h = le-ltb 32768 (entryCount (graphOfElements n ws)) (omega (arith, e))
+-- it doesn't refuse
+pub few-entries : (n : ℕ) (ws : List ℕ) → refuses11 (graphOfElements n ws) ≡ false → entryCount (graphOfElements n ws) ≤ 32768
+unfolding refuses11
+few-entries n ws e = ltb-false 32768 (entryCount (graphOfElements n ws)) e
 
 -- an outcome and a buffer by the test of 11
 pub outcome-over : (b : Bool) (a : ℕ) → b ≡ true → refused 11 ≡ outcome (refuse b 11) a

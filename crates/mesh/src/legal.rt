@@ -9,7 +9,7 @@ ghost use Rattle.spec.specs.CallsMesh.{graphOfElements};
 ghost use Rattle.mesh.specs.Answer.{meaning};
 use crate::answer::Entries;
 
-// The entry count, or 11; the entries are counted before anything is written to the two lists.
+// The entry count, or 11; 11 is decided before anything is written to the two lists.
 pub fn adjacency(
     n: usize,
     elements: &[u16],
@@ -25,7 +25,7 @@ pub fn adjacency(
     ensures { λ _. ⌜ now (scratch .exit) ≡ zeroed n (now (scratch .entry)) ⌝ }
 {
     let lists = &mut scratch[..n];
-    if 32768 < rows::legal::count(lists, elements, starts, neighbours) {
+    if rows::legal::over(lists, elements, starts, neighbours) {
         return Entries::Refused(11);
     }
     let entries = rows::legal::fill(lists, elements, starts, neighbours);

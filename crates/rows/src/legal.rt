@@ -1,23 +1,20 @@
 // Functions that ask for elements that are not refused, one word a node, and room.
 ghost use mathlib.Core.Path.{_≡_};
+ghost use mathlib.Core.Bool.{true};
 ghost use Prim.Native.Nat.{_≤_};
 ghost use lib.ListN.{length, replicate};
 ghost use Rattle.basis.specs.Lists.{overwrite};
-ghost use Rattle.spec.specs.Mesh.{elementsRefusal, entryCount, startList, neighbourList};
+ghost use Rattle.spec.specs.Mesh.{elementsRefusal, entryCount, startList, neighbourList, refuses11};
 ghost use Rattle.spec.specs.CallsMesh.{graphOfElements};
 ghost use Rattle.rows.specs.Rows.{Room};
 
 mod batch;
+mod bound;
 mod row;
 
 // The entry count of the mesh: with no room in the two lists, their rows are only counted. The lists of elements need a word for each
 // node, and end as zeros.
-pub fn count(
-    lists: &mut [u16],
-    elements: &[u16],
-    starts: &mut [u16],
-    neighbours: &mut [u16],
-) -> usize
+fn count(lists: &mut [u16], elements: &[u16], starts: &mut [u16], neighbours: &mut [u16]) -> usize
     requires { ⌜ length (now lists) ≤ 4096 ⌝ }
     requires { ⌜ elementsRefusal (length (now elements)) (length (now lists)) (now elements) ≡ 0 ⌝ }
     ensures { λ r. ⌜ r ≡ entryCount (graphOfElements (length (now (lists .entry))) (now (elements .entry))) ⌝ }
@@ -36,6 +33,22 @@ pub fn count(
     );
     words::legal::clear(lists, n);
     count
+}
+
+// Whether the rows of the mesh have over 32,768 entries: they are counted only where the elements alone don't tell. Nothing is written
+// to the two lists; the lists of elements end as zeros where it is so.
+pub fn over(lists: &mut [u16], elements: &[u16], starts: &mut [u16], neighbours: &mut [u16]) -> bool
+    requires { ⌜ length (now lists) ≤ 4096 ⌝ }
+    requires { ⌜ elementsRefusal (length (now elements)) (length (now lists)) (now elements) ≡ 0 ⌝ }
+    ensures { λ r. ⌜ r ≡ refuses11 (graphOfElements (length (now (lists .entry))) (now (elements .entry))) ⌝ }
+    ensures { λ r. ⌜ (r ≡ true → now (lists .exit) ≡ replicate (length (now (lists .entry))) 0) ⌝ }
+    ensures { λ _. ⌜ now (starts .exit) ≡ now (starts .entry) ⌝ }
+    ensures { λ _. ⌜ now (neighbours .exit) ≡ now (neighbours .entry) ⌝ }
+{
+    if bound::few(elements) {
+        return false;
+    }
+    32768 < count(lists, elements, starts, neighbours)
 }
 
 // Writes both lists, and returns the entry count. The lists of elements need a word for each node, and end as zeros.

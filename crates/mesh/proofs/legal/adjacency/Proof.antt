@@ -11,7 +11,7 @@ use Rattle.basis.specs.Lists.{overwrite}
 use Rattle.spec.specs.Mesh.{elementsRefusal, entryCount, startList, neighbourList, refuses11}
 use Rattle.spec.specs.CallsMesh.{graphOfElements}
 use Rattle.rows.specs.Rows.{Room}
-use Rattle.mesh.proofs.Answers.{too-many, not-many, outcome-over, outcome-within, filled-over, filled-within, front-zero}
+use Rattle.mesh.proofs.Answers.{few-entries, outcome-over, outcome-within, filled-over, filled-within, front-zero}
 use Rattle.mesh.proofs.legal.adjacency.Statement.{statement}
 use Rattle.mesh.proofs.legal.adjacency.Tie as tie
 
@@ -19,17 +19,17 @@ use Rattle.mesh.proofs.legal.adjacency.Tie as tie
 size : (s : tie.Start) → length (take (s .args .n) (now (s .args .scratch))) ≡ s .args .n
 size s = length-take-le (s .args .n) (now (s .args .scratch)) (s .pre .0 .3)
 
-count-requires : tie.Need-count-requires
-count-requires c κs =
+over-requires : tie.Need-over-requires
+over-requires c κs =
     let s = c .before .before .before .before .before .before .before .before in
     let W = now (s .args .elements) in
     (omega (arith, size s, s .pre .0 .0), ap (λ (n : ℕ). elementsRefusal (length W) n W) (size s) ∙ s .pre .1)
 
--- the count is the graph's
-counted : (c : tie.After-count) → c .count .result ≡ entryCount (graphOfElements (c .before .before .before .before .before .before .before .before .before .args .n) (now (c .before .before .before .before .before .before .before .before .before .args .elements)))
-counted c =
+-- whether 11 refuses
+decided : (c : tie.After-over) → c .over .result ≡ refuses11 (graphOfElements (c .before .before .before .before .before .before .before .before .before .args .n) (now (c .before .before .before .before .before .before .before .before .before .args .elements)))
+decided c =
     let s = c .before .before .before .before .before .before .before .before .before in
-    c .count .ensures .0 ∙ ap (λ (n : ℕ). entryCount (graphOfElements n (now (s .args .elements)))) (size s)
+    c .over .ensures .0 ∙ ap (λ (n : ℕ). refuses11 (graphOfElements n (now (s .args .elements)))) (size s)
 
 returns : tie.Need-returns
 returns c =
@@ -37,20 +37,20 @@ returns c =
     let s = c .before .before .before .before .before .before .before .before .before .before .before .before .before .before .before .before .before .before in
     let a = s .args in
     let g = graphOfElements (a .n) (now (a .elements)) in
-    let b = too-many (a .n) (now (a .elements)) (k .count .result) (counted k) (c .before .before .if1 .taken) in (
+    let b = sym (decided k) ∙ c .before .before .if1 .taken in (
       outcome-over (refuses11 g) (entryCount g) b,
       (
-        k .count .ensures .1 .1 .0 ∙ filled-over (refuses11 g) (startList g) (now (a .starts)) b,
+        k .over .ensures .1 .1 .0 ∙ filled-over (refuses11 g) (startList g) (now (a .starts)) b,
         (
-          k .count .ensures .1 .1 .1 ∙ filled-over (refuses11 g) (neighbourList g) (now (a .neighbours)) b,
-          front-zero (a .n) (now (a .scratch)) (k .count .last .0) (s .pre .0 .3) (k .count .ensures .1 .0),
+          k .over .ensures .1 .1 .1 ∙ filled-over (refuses11 g) (neighbourList g) (now (a .neighbours)) b,
+          front-zero (a .n) (now (a .scratch)) (k .over .last .0) (s .pre .0 .3) (k .over .ensures .1 .0 (c .before .before .if1 .taken)),
         ),
       ),
     )
 
 -- the words that are filled with
-width : (c : tie.After-count) → length (c .count .last .0) ≡ c .before .before .before .before .before .before .before .before .before .args .n
-width c = c .count .kept .0 ∙ size (c .before .before .before .before .before .before .before .before .before)
+width : (c : tie.After-over) → length (c .over .last .0) ≡ c .before .before .before .before .before .before .before .before .before .args .n
+width c = c .over .kept .0 ∙ size (c .before .before .before .before .before .before .before .before .before)
 
 fill-requires : tie.Need-fill-requires
 fill-requires c κs =
@@ -58,14 +58,14 @@ fill-requires c κs =
     let s = c .before .before .before .before .before .before .before .before .before .before .before .before .before .before .before .before .before .before in
     let a = s .args in
     let W = now (a .elements) in
-    let h : k .count .result ≤ 32768 = c .before .before .if1 .left in (
+    let h = few-entries (a .n) W (sym (decided k) ∙ c .before .before .if1 .left) in (
       ap (λ (n : ℕ). elementsRefusal (length W) n W) (width k) ∙ s .pre .1,
-      subst (λ (n : ℕ). Room (graphOfElements n W) n (k .count .last .1 .1 .0) (k .count .last .1 .1 .1 .0)) (sym (width k))
+      subst (λ (n : ℕ). Room (graphOfElements n W) n (k .over .last .1 .1 .0) (k .over .last .1 .1 .1 .0)) (sym (width k))
           (record {
             few = s .pre .0 .0;
-            rows = omega (arith, s .pre .0 .1, k .count .kept .1 .1 .0);
-            entries = omega (arith, counted k, s .pre .0 .2, k .count .kept .1 .1 .1 .0);
-            small = omega (arith, counted k);
+            rows = omega (arith, s .pre .0 .1, k .over .kept .1 .1 .0);
+            entries = omega (arith, h, s .pre .0 .2, k .over .kept .1 .1 .1 .0);
+            small = h;
           }),
     )
 
@@ -74,10 +74,11 @@ entries : (c : tie.After-fill)
     → let a = c .before .before .before .before .before .before .before .before .before .before .before .before .before .before .before .before .before .before .before .args in (c .fill .result ≡ entryCount (graphOfElements (a .n) (now (a .elements)))) × (c .fill .result ≤ 32768)
 entries c =
     let k = c .before .before .before .before .before .before .before .before .before .before in
-    let h : k .count .result ≤ 32768 = c .before .before .before .if1 .left in
-    let e : c .fill .result ≡ entryCount (graphOfElements (c .before .before .before .before .before .before .before .before .before .before .before .before .before .before .before .before .before .before .before .args .n) (now (c .before .before .before .before .before .before .before .before .before .before .before .before .before .before .before .before .before .before .before .args .elements))) =
-    c .fill .ensures .0 ∙ ap (λ (n : ℕ). entryCount (graphOfElements n (now (c .before .before .before .before .before .before .before .before .before .before .before .before .before .before .before .before .before .before .before .args .elements)))) (width k) in
-    (e, omega (arith, e, counted k))
+    let a = c .before .before .before .before .before .before .before .before .before .before .before .before .before .before .before .before .before .before .before .args in
+    let W = now (a .elements) in
+    let h = few-entries (a .n) W (sym (decided k) ∙ c .before .before .before .if1 .left) in
+    let e : c .fill .result ≡ entryCount (graphOfElements (a .n) W) = c .fill .ensures .0 ∙ ap (λ (n : ℕ). entryCount (graphOfElements n W)) (width k) in
+    (e, omega (arith, e, h))
 
 returns-2 : tie.Need-returns-2
 returns-2 c =
@@ -87,15 +88,15 @@ returns-2 c =
     let a = s .args in
     let W = now (a .elements) in
     let g = graphOfElements (a .n) W in
-    let b = not-many (a .n) W (f .fill .result) (entries f .0) (entries f .1) in (
+    let b = sym (decided k) ∙ c .before .before .before .before .before .before .before .before .before .if1 .left in (
       outcome-within (refuses11 g) (entryCount g) (f .fill .result) b (entries f .0),
       (
         filled-within (refuses11 g) (startList g) (now (a .starts)) (f .fill .last .1 .1 .0) b
-            (f .fill .ensures .1 .1 .0 ∙ ap₂ (λ (n : ℕ) (l : List ℕ). overwrite (startList (graphOfElements n W)) l) (width k) (k .count .ensures .1 .1 .0)),
+            (f .fill .ensures .1 .1 .0 ∙ ap₂ (λ (n : ℕ) (l : List ℕ). overwrite (startList (graphOfElements n W)) l) (width k) (k .over .ensures .1 .1 .0)),
         (
           filled-within (refuses11 g) (neighbourList g) (now (a .neighbours)) (f .fill .last .1 .1 .1 .0) b
-              (f .fill .ensures .1 .1 .1 ∙ ap₂ (λ (n : ℕ) (l : List ℕ). overwrite (neighbourList (graphOfElements n W)) l) (width k) (k .count .ensures .1 .1 .1)),
-          front-zero (a .n) (now (a .scratch)) (f .fill .last .0) (s .pre .0 .3) (f .fill .ensures .1 .0 ∙ ap (λ (n : ℕ). replicate n 0) (k .count .kept .0)),
+              (f .fill .ensures .1 .1 .1 ∙ ap₂ (λ (n : ℕ) (l : List ℕ). overwrite (neighbourList (graphOfElements n W)) l) (width k) (k .over .ensures .1 .1 .1)),
+          front-zero (a .n) (now (a .scratch)) (f .fill .last .0) (s .pre .0 .3) (f .fill .ensures .1 .0 ∙ ap (λ (n : ℕ). replicate n 0) (k .over .kept .0)),
         ),
       ),
     )
@@ -106,14 +107,14 @@ adjacency-spec =
     (tie.spec
     (λ c. search needs)
     (λ c. sym (size (c .before .before .before .before .before)))
-    count-requires
-    (λ c. c .before .before .before .before .before .before .before .before .before .count .kept .1 .1 .0)
-    (λ c. c .before .before .before .before .before .before .before .before .before .count .kept .1 .1 .1 .0)
+    over-requires
+    (λ c. c .before .before .before .before .before .before .before .before .before .over .kept .1 .1 .0)
+    (λ c. c .before .before .before .before .before .before .before .before .before .over .kept .1 .1 .1 .0)
     (λ c. search needs)
     returns
     fill-requires
     (λ c. omega (arith, entries (c .before .before .before .before .before .before)))
-    (λ c. c .before .before .before .before .before .before .fill .kept .1 .1 .0 ∙ c .before .before .before .before .before .before .before .before .before .before .before .before .before .before .before .before .count .kept .1 .1 .0)
-    (λ c. c .before .before .before .before .before .before .fill .kept .1 .1 .1 .0 ∙ c .before .before .before .before .before .before .before .before .before .before .before .before .before .before .before .before .count .kept .1 .1 .1 .0)
+    (λ c. c .before .before .before .before .before .before .fill .kept .1 .1 .0 ∙ c .before .before .before .before .before .before .before .before .before .before .before .before .before .before .before .before .over .kept .1 .1 .0)
+    (λ c. c .before .before .before .before .before .before .fill .kept .1 .1 .1 .0 ∙ c .before .before .before .before .before .before .before .before .before .before .before .before .before .before .before .before .over .kept .1 .1 .1 .0)
     (λ c. search needs)
     returns-2)

@@ -1,0 +1,25 @@
+// A bound of the entries that needs no rows.
+ghost use mathlib.Core.Path.{_≡_};
+ghost use mathlib.Core.Bool.{true};
+ghost use Prim.Native.Nat.{ℕ, _≤_};
+ghost use lib.ListN.{length};
+ghost use Rattle.spec.specs.Mesh.{elements as nodesOf, elementsRefusal};
+ghost use Rattle.rows.specs.Rows.{squares};
+
+// Whether the squares of the elements' node counts, added up, are 32,768 at most: then the entries are too.
+pub(crate) fn few(elements: &[u16]) -> bool
+    requires { ⌜ ((n : ℕ) × (n ≤ 4096) × (elementsRefusal (length (now elements)) n (now elements) ≡ 0)) ⌝ }
+    ensures { λ r. ⌜ (r ≡ true → squares (nodesOf (now (elements .entry))) ≤ 32768) ⌝ }
+{
+    let mut total: usize = 0;
+    let mut at = 0;
+    while at < elements.len() {
+        let count = elements::node_count(elements[at]);
+        total += count * count;
+        if 32768 < total {
+            return false;
+        }
+        at = at + 1 + count;
+    }
+    true
+}
