@@ -69,7 +69,7 @@ def caterpillar():
 
 
 def beads():
-    """A spine whose every fifth node is a ring: between the ends of a ring two ways are open, so each ring leaves pieces to be placed."""
+    """Rings in a row, each sharing a node with the next. Two ways of unequal length lead through each, so each leaves a piece to be placed."""
     n, elements, last = 1, [], 1
     size = 0
     while n + 8 <= NODES:
@@ -155,10 +155,10 @@ def mixed(draw):
 
 def chain(draw):
     """Elements of every kind, each sharing a node or two with the one before: one long part."""
-    n, elements = 2, []
+    n, elements = 1, []
     while n + 10 <= NODES and len(elements) < 760:
         kind = draw.randrange(1, 11)
-        shared = min(NODE_COUNT[kind] - 1, draw.randrange(1, 3))
+        shared = min(NODE_COUNT[kind] - 1, draw.randrange(1, 3), n)
         new = NODE_COUNT[kind] - shared
         elements.append([kind] + list(range(n - shared + 1, n + new + 1)))
         n += new

@@ -10,6 +10,7 @@
 #include <functional>
 #include <map>
 #include <memory>
+#include <sys/time.h>
 #include <sys/wait.h>
 #include <unistd.h>
 
@@ -280,7 +281,7 @@ Result measure(const Peer &peer, const Graph &g, const std::vector<u16> &starts,
     const u64 from = now();
     step();
     times.push_back(now() - from);
-  } while (times.size() < 101 && now() - begin < 300000000);
+  } while (times.size() < 101 && now() - begin < 150000000);
   std::sort(times.begin(), times.end());
   Result r = {DONE, double(times[times.size() / 2]), {0, 0, 0}};
   const u32 n = u32(g.rows.size());
@@ -299,7 +300,8 @@ Result in_child(const Peer &peer, const Graph &g, const std::vector<u16> &starts
   if (child == 0) {
     close(ends[0]);
     if (!freopen("/dev/null", "w", stderr) || !freopen("/dev/null", "w", stdout)) _exit(1);
-    alarm(10);
+    const itimerval limit = {{0, 0}, {5, 0}};
+    setitimer(ITIMER_VIRTUAL, &limit, nullptr);
     const Result r = measure(peer, g, starts, neighbours);
     _exit(write(ends[1], &r, sizeof r) != sizeof r);
   }
@@ -309,7 +311,7 @@ Result in_child(const Peer &peer, const Graph &g, const std::vector<u16> &starts
   close(ends[0]);
   int status = 0;
   waitpid(child, &status, 0);
-  if (!got) r.state = WIFSIGNALED(status) && WTERMSIG(status) == SIGALRM ? TOO_LONG : CRASHED;
+  if (!got) r.state = WIFSIGNALED(status) && WTERMSIG(status) == SIGVTALRM ? TOO_LONG : CRASHED;
   return r;
 }
 
@@ -326,7 +328,7 @@ void time_peers(const std::vector<u16> &starts, const std::vector<u16> &neighbou
     if (r.state == DONE)
       printf("peer\t%s\t%.0f\t%lu\t%lu\t%lu\n", peer.name, r.nanoseconds, r.figures[0], r.figures[1], r.figures[2]);
     else
-      printf("peer\t%s\t%s\n", peer.name, r.state == NO_NUMBERING ? "no numbering" : r.state == TOO_LONG ? "over 10 s" : "crashed");
+      printf("peer\t%s\t%s\n", peer.name, r.state == NO_NUMBERING ? "no numbering" : r.state == TOO_LONG ? "over 5 s" : "crashed");
     fflush(stdout);
   }
 }

@@ -166,7 +166,7 @@ typedef std::function<void()> Step;
 
 // Medians in nanoseconds. A short step is repeated until the clock's own time doesn't count. The steps take turns.
 static std::vector<double> medians(const std::vector<Step> &steps, bool quick) {
-  const u64 slice = quick ? 0 : 100000, budget = quick ? 0 : 1500000000;
+  const u64 slice = quick ? 0 : 50000, budget = quick ? 0 : 500000000;
   std::vector<u64> repeats;
   std::vector<std::vector<double>> times(steps.size());
   for (const Step &step : steps) {
