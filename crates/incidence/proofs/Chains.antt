@@ -9,7 +9,7 @@ use lib.ListN.{length, getD, set, length-set}
 use lib.Seq.{getD-set-same, getD-set-other}
 use lib.Dec.{eqb}
 use borrow.Author.Tests.{eqb-true, eqb-false}
-use Rattle.basis.proofs.Logic.{by-test, lt-or-le, eq-or-ne}
+use Rattle.basis.proofs.Logic.{by-test, lt-or-le}
 use Rattle.incidence.specs.Cells.{Cells, pushed, holdIn, held, Entered}
 
 -- ---- lists that agree

@@ -1,5 +1,5 @@
 -- The entries of a mesh are at most the squares of its elements' node counts, added up. Assumes nothing.
-use mathlib.Core.Path.{_≡_, refl, sym, ap, _∙_}
+use mathlib.Core.Path.{_≡_, refl, ap}
 use mathlib.Core.Bool.{Bool, true, false, not, _&&_, _||_}
 use mathlib.Core.List.{List, [], _∷_, map}
 use Prim.Native.Nat.{ℕ, zero, suc, _+_, _*_, _≤_, _<_}
@@ -9,7 +9,7 @@ use lib.ListN.{length, getD, take, drop, length-drop}
 use lib.Seq.{length-take-le}
 use lib.Dec.{eqb, ltb}
 use borrow.Author.Tests.{ltb-false}
-use Rattle.basis.specs.Lists.{bit, anyb, memb, countb, filterb, upFrom, sum}
+use Rattle.basis.specs.Lists.{bit, anyb, memb, countb, upFrom, sum}
 use Rattle.basis.proofs.Count.{length-filter, count-mono, count-cong, count-none, upFrom-once}
 use Rattle.basis.proofs.Lists.{memb-here, upFrom-in, sum-mono, sum-add}
 use Rattle.basis.proofs.Logic.{by-test, and-split, or-right, or-none, eqb-sym}

@@ -5,8 +5,8 @@ use Prim.Native.Nat.{ℕ, zero, suc, _+_, _*_, _≤_, _<_}
 use native.Mathlib.Nat.{zero-add}
 use native.Mathlib.Omega.{arith}
 use lib.ListN.{length, set, drop, length-map}
-use lib.Seq.{sets, sets-eq, length-sets}
-use Rattle.basis.specs.Lists.{filterb, countb, joinAll, overwrite, upFrom, sum}
+use lib.Seq.{sets, sets-eq}
+use Rattle.basis.specs.Lists.{filterb, joinAll, overwrite, upFrom, sum}
 use Rattle.basis.proofs.Count.{length-filter, count-length}
 use Rattle.basis.proofs.Lists.{length-upFrom}
 use Rattle.basis.proofs.Next.{sets-append, map-next, join-next, sum-next, join-length, sum-upto}

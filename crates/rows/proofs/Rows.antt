@@ -5,15 +5,14 @@ use mathlib.Core.List.{List, [], _∷_, _++_, append-nil}
 use Prim.Native.Nat.{ℕ, zero, suc, _+_, _-_, _/_, _%_, _≤_, _<_}
 use native.Mathlib.Nat.{le-dest}
 use native.Mathlib.Omega.{arith}
-use lib.ListN.{length, getD, set, take, drop, replicate, getD-replicate}
+use lib.ListN.{length, set, take, drop, replicate, getD-replicate}
 use lib.Seq.{sets}
-use lib.Dec.{eqb, ltb}
+use lib.Dec.{eqb}
 use borrow.Author.Tests.{lt-ltb}
-use Rattle.basis.specs.Lists.{anyb, memb, filterb, upFrom}
+use Rattle.basis.specs.Lists.{memb, filterb, upFrom}
 use Rattle.basis.proofs.Lists.{any-none, filter-none, filter-cong, filter-append, upFrom-append, upFrom-in}
 use Rattle.basis.proofs.Logic.{fails, clash, or-right, or-neither}
 use Rattle.spec.specs.Graph.{outside}
-use Rattle.spec.specs.Refusal.{_orElse_}
 use Rattle.spec.specs.Mesh.{nodeCount, elementRefusal, elementsRefusal, elementsIn, elements, joins}
 use Rattle.spec.specs.CallsMesh.{graphOfElements}
 use Rattle.laws.proofs.Refused.{or-else-zero}

@@ -18,7 +18,7 @@ use Rattle.basis.proofs.Logic.{by-test, or-none, lt-or-le}
 use Rattle.basis.proofs.Filling.{Filling, filling-begin, filling-yes, filling-no}
 use Rattle.elements.proofs.Remains.{drop-next}
 use Rattle.rowset.specs.Set.{bitAt, has, inRow, members, Empty, Covered, Added, Wrote}
-use Rattle.rowset.proofs.Bits.{bit-zero, bit-or, bit-shifted, bit-down, Lowest, lowest-in}
+use Rattle.rowset.proofs.Bits.{bit-zero, bit-or, bit-down, Lowest, lowest-in}
 
 -- false adds nothing
 pub or-false : (a : Bool) → a || false ≡ a

@@ -1,9 +1,9 @@
 -- A set of nodes 1..4096 in 64 words of 64 bits: node q is bit (q − 1) mod 64 of word (q − 1) div 64. Assumes nothing.
-use Prim.Native.Nat.{ℕ, suc, _+_, _*_, _-_, _/_, _%_, _^_, _≤_, _<_}
+use Prim.Native.Nat.{ℕ, suc, _+_, _-_, _/_, _%_, _^_, _≤_, _<_}
 use mathlib.Core.Path.{_≡_}
 use mathlib.Core.Bool.{Bool, false, not, _&&_, _||_}
 use mathlib.Core.List.{List}
-use lib.ListN.{length, getD}
+use lib.ListN.{getD}
 use lib.Dec.{eqb}
 use Rattle.basis.specs.Lists.{filterb, upFrom}
 use Rattle.basis.proofs.Filling.{Filling}

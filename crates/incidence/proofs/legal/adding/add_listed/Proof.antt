@@ -1,11 +1,10 @@
 -- `incidence::legal::adding::add_listed` meets its contract. Assumes nothing.
-use Prim.Native.Nat.{ℕ, _+_, _*_, _-_, _≤_, _<_}
-use mathlib.Core.Path.{_≡_, refl, sym, ap, subst, subst₂, _∙_}
-use mathlib.Core.List.{List}
+use Prim.Native.Nat.{ℕ, _+_, _*_, _≤_, _<_}
+use mathlib.Core.Path.{sym, subst, _∙_}
 use native.Mathlib.Omega.{arith}
 use denote.Ref.{now}
 use borrow.Author.Needs.{needs}
-use lib.ListN.{length, getD}
+use lib.ListN.{length}
 use Rattle.rowset.specs.Set.{Added}
 use Rattle.incidence.specs.Cells.{Sound, Linked, nodeIn}
 use Rattle.incidence.proofs.Passes.{Walking, walking-begin, walking-step, walking-done}

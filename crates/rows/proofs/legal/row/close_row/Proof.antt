@@ -1,5 +1,4 @@
 -- `rows::legal::row::close_row` meets its contract. Assumes nothing.
-use mathlib.Core.Path.{_≡_, sym, ap, subst, _∙_}
 use native.Mathlib.Omega.{arith}
 use Rattle.rows.proofs.legal.row.close_row.Statement.{statement}
 use Rattle.rows.proofs.legal.row.close_row.Tie as tie

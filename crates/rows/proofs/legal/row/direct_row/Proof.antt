@@ -1,6 +1,5 @@
 -- `rows::legal::row::direct_row` meets its contract. Assumes nothing.
-use Prim.Native.Nat.{ℕ, _+_, _<_}
-use mathlib.Core.Path.{_≡_, _∙_}
+use mathlib.Core.Path.{_∙_}
 use native.Mathlib.Omega.{arith}
 use denote.Ref.{now}
 use Rattle.rows.proofs.Rows.{row-room, row-small, row-goes}
