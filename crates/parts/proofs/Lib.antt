@@ -3,6 +3,7 @@ pub mod Joins
 pub mod Labels
 pub mod Queue
 pub mod Mark
+pub mod Lone
 pub mod Classes
 pub mod Place
 pub mod Leads
