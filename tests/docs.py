@@ -46,12 +46,12 @@ def commands(page):
             if line.startswith('    $ '):
                 found.append((line[6:].strip(), []))
                 inside = True
-            elif BARE.match(line):
-                bare.append(line.strip())
             elif line.startswith('    ') and inside:
                 found[-1][1].append(line[4:])
             else:
                 inside = False
+                if BARE.match(line):
+                    bare.append(line.strip())
     return found, bare
 
 

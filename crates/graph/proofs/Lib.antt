@@ -1,2 +1,4 @@
 pub mod Rows
+pub mod Counting
+pub mod Pairs
 pub mod Answers

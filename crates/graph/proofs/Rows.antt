@@ -1,24 +1,22 @@
--- What the tests say, as the code meets them: the first two by the starts, the third word by word, and the partners of a row.
+-- What the tests say, as the code meets them: the first two by the starts, the third word by word.
 -- Assumes nothing.
 use mathlib.Core.Path.{_≡_, sym, ap, _∙_}
 use mathlib.Core.Logic.{⊎-elim}
-use mathlib.Core.Bool.{Bool, true, false, not, _||_}
+use mathlib.Core.Bool.{true, false, not, _||_}
 use mathlib.Core.List.{List, _∷_}
 use Prim.Native.Nat.{ℕ, zero, suc, _-_, _≤_, _<_}
 use native.Mathlib.Omega.{arith}
 use lib.ListN.{length, getD}
-use lib.Seq.{length-slice}
 use lib.Dec.{eqb, leb, ltb}
-use borrow.Author.Tests.{eqb-true, eqb-false, ltb-true, ltb-false, not-false, eq-eqb, ne-eqb, lt-ltb, le-ltb, le-leb}
+use borrow.Author.Tests.{eqb-false, ltb-true, eq-eqb, ne-eqb, lt-ltb, le-ltb, le-leb}
 use Rattle.basis.specs.Lists.{anyb, chainb, headOr, lastOr, memb}
 use Rattle.basis.proofs.Index.{last-at, memb-getD}
-use Rattle.basis.proofs.Lists.{any-none}
 use Rattle.basis.proofs.Logic.{by-test, or-none, or-left, or-right, or-neither, same, lt-or-le}
 use Rattle.basis.proofs.Rise.{chain-rise}
 use Rattle.basis.proofs.Walk.{any-at, any-walked, chain-broken, chain-walked, head-at, chain-weaker}
-use Rattle.spec.specs.Graph.{Graph, nodes, adjoins, degree, beforeE, sizeOf, rowOf, graphOf, maxNodes, maxEntries, badSize, outside, refuses1, refuses2, badRow, refuses3}
+use Rattle.spec.specs.Graph.{sizeOf, rowOf, graphOf, maxNodes, maxEntries, badSize, outside, refuses1, refuses2, badRow, refuses3}
 use Rattle.laws.specs.Legal.{Node, Starts}
-use Rattle.laws.proofs.Refused.{row-rises, row-inside}
+use Rattle.laws.proofs.Refused.{row-rises, row-inside, row-apart}
 use Rattle.graph.specs.Facts.{Rows}
 
 -- ---- the starts
@@ -122,7 +120,7 @@ module _ (n p : ℕ) (r : List ℕ) where
 -- ---- the rows, after test 3
 
 pub rows-from : {S N : List ℕ} → Starts S N → refuses3 (graphOf S N) ≡ false → Rows S N
-rows-from {S} {N} h three = record { begin = h; rises = row-rises S N three; inside = row-inside S N three }
+rows-from {S} {N} h three = record { begin = h; rises = row-rises S N three; inside = row-inside S N three; apart = row-apart S N three }
 
 -- the words of a row that rises never fall
 pub row-sorted : (r : List ℕ) → chainb ltb r ≡ true → (i j : ℕ) → i ≤ j → j < length r → getD r i 0 ≤ getD r j 0
@@ -141,16 +139,3 @@ row-parted p r lo under over =
 -- the entries of row p are nodes
 pub row-node : {S N : List ℕ} → Rows S N → {p : ℕ} → Node (graphOf S N) p → (r : List ℕ) → r ≡ rowOf S N p → (j : ℕ) → j < length r → Node (graphOf S N) (getD r j 0)
 row-node {S} {N} h {p} m r e j b = h .inside p (getD r j 0) m (ap (memb (getD r j 0)) (sym e) ∙ memb-getD r j b)
-
--- ---- the partners of the entries of row p, which is r
-
-module _ (S N : List ℕ) (p : ℕ) (r : List ℕ) (e : r ≡ rowOf S N p) where
-  -- one names a row without p
-  pub partner-lacks : (j : ℕ) → j < length r → memb p (rowOf S N (getD r j 0)) ≡ false → anyb (λ q. not (adjoins (graphOf S N) q p)) (rowOf S N p) ≡ true
-  unfolding adjoins
-  partner-lacks j b h = rw (sym e) (any-at 0 (λ q. not (memb p (rowOf S N q))) r j b (ap not h))
-
-  -- each names a row with p
-  pub partners-walked : ((j : ℕ) → j < length r → memb p (rowOf S N (getD r j 0)) ≡ true) → anyb (λ q. not (adjoins (graphOf S N) q p)) (rowOf S N p) ≡ false
-  unfolding adjoins
-  partners-walked h = rw (sym e) (any-walked 0 (λ q. not (memb p (rowOf S N q))) r (λ j b. ap not (h j b)))

@@ -1,15 +1,15 @@
 // The adjacency test: whether a start list of n + 1 words and a neighbour list are a legal graph. Nothing is lent, nothing is written.
 ghost use mathlib.Core.Path.{_≡_};
-ghost use mathlib.Core.Bool.{true, not};
+ghost use mathlib.Core.Bool.{true};
 ghost use Prim.Native.Nat.{_≤_};
 ghost use lib.ListN.{length};
 ghost use lib.Dec.{leb, ltb};
-ghost use Rattle.basis.specs.Lists.{anyb, chainb, memb};
-ghost use Rattle.spec.specs.Graph.{adjoins, graphOf, rowOf, refuses1, refuses2, badRow, refuses3, refuses4};
+ghost use Rattle.basis.specs.Lists.{chainb, memb};
+ghost use Rattle.spec.specs.Graph.{graphOf, refuses1, refuses2, badRow, refuses3, refuses4};
 ghost use Rattle.spec.specs.CallsLevels.{adjacencyAnswer};
 ghost use Rattle.laws.specs.Legal.{Node, Starts};
 ghost use Rattle.graph.specs.Answer.{meaning};
-ghost use Rattle.graph.specs.Facts.{Rows};
+ghost use Rattle.graph.specs.Facts.{Rows, lowerPairs};
 
 mod answer;
 pub mod legal;
@@ -121,39 +121,42 @@ fn holds(row: &[u16], p: usize) -> bool
     false
 }
 
-// Whether an entry of row p lacks its partner: it names a row that doesn't hold p.
-fn lacks_partner(starts: &[u16], neighbours: &[u16], p: usize) -> bool
+// How many entries of row p are under p and have their partner: the row they name holds p. The row rises, so the first that is not under p ends the walk.
+fn lower_pairs(starts: &[u16], neighbours: &[u16], p: usize) -> usize
     requires { ⌜ Rows (now starts) (now neighbours) ⌝ }
     requires { ⌜ Node (graphOf (now starts) (now neighbours)) p ⌝ }
-    ensures { λ r. ⌜ r ≡ anyb (λ q. not (adjoins (graphOf (now (starts .entry)) (now (neighbours .entry))) q p)) (rowOf (now (starts .entry)) (now (neighbours .entry)) p) ⌝ }
+    ensures { λ r. ⌜ r ≡ lowerPairs (graphOf (now (starts .entry)) (now (neighbours .entry))) p ⌝ }
 {
     let row = legal::row(starts, neighbours, p);
+    let mut pairs = 0;
     let mut j = 0;
     while j < row.len() {
         let q = row[j] as usize;
+        if q >= p {
+            return pairs;
+        }
         let partners = legal::row(starts, neighbours, q);
-        if holds(partners, p) {} else {
-            return true;
+        if holds(partners, p) {
+            pairs += 1;
         }
         j += 1;
     }
-    false
+    pairs
 }
 
-// 4: a row's entry lacks its partner.
+// 4: a row's entry lacks its partner. Of the two entries of a pair one is under its row's number, so one is lacking exactly if the pairs fall short of half of the entries.
 fn lacks_partners(starts: &[u16], neighbours: &[u16]) -> bool
     requires { ⌜ Rows (now starts) (now neighbours) ⌝ }
     ensures { λ r. ⌜ r ≡ refuses4 (graphOf (now (starts .entry)) (now (neighbours .entry))) ⌝ }
 {
     let n = starts.len() - 1;
+    let mut pairs = 0;
     let mut p = 0;
     while p < n {
         p += 1;
-        if lacks_partner(starts, neighbours, p) {
-            return true;
-        }
+        pairs += lower_pairs(starts, neighbours, p);
     }
-    false
+    2 * pairs < neighbours.len()
 }
 
 // The entry point: "Tests run in that order", and each may lean on those before it.

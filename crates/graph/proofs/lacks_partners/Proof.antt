@@ -1,57 +1,57 @@
--- `graph::lacks_partners` meets its contract: in the first p rows no partner is missing.
+-- `graph::lacks_partners` meets its contract: the pairs of the first p rows are counted.
 -- Assumes nothing.
-use Prim.Native.Nat.{ℕ, _+_, _-_, _≤_, _<_}
-use mathlib.Core.Bool.{Bool, false, not}
-use mathlib.Core.List.{List}
-use mathlib.Core.Path.{_≡_, refl, sym, _∙_}
+use Prim.Native.Nat.{_+_, _-_, _≤_}
+use mathlib.Core.Path.{_≡_, refl}
 use native.Mathlib.Omega.{arith}
-use borrow.Author.Count.{below-more}
 use denote.Ref.{now}
-use Rattle.basis.specs.Lists.{anyb}
-use Rattle.spec.specs.Graph.{adjoins, sizeOf, rowOf, graphOf, refuses4}
-use Rattle.laws.proofs.Legal.{nodes-at, nodes-walked}
+use Rattle.spec.specs.Graph.{sizeOf}
+use Rattle.graph.proofs.Counting.{firstPairs, pairs-next}
+use Rattle.graph.proofs.Pairs.{pairs-few, by-pairs}
 use Rattle.graph.proofs.lacks_partners.Statement.{statement}
 use Rattle.graph.proofs.lacks_partners.Tie as tie
 
--- an entry of row p lacks its partner
-abbrev lacks : List ℕ → List ℕ → ℕ → Bool
-lacks S N p = anyb (λ q. not (adjoins (graphOf S N) q p)) (rowOf S N p)
-
 abbrev Inv-loop : tie.InvT-loop
-Inv-loop starts neighbours n p₀ p = (p ≤ n) × (n ≡ sizeOf starts) × ((k : ℕ) → k < p → lacks starts neighbours (k + 1) ≡ false)
+Inv-loop starts neighbours n pairs₀ p₀ pairs p = (p ≤ n) × (n ≡ sizeOf starts) × (pairs ≡ firstPairs starts neighbours p)
 
 abbrev μ-loop : tie.MeasureT-loop
-μ-loop starts neighbours n p₀ p = n - p
-
--- at the loop's head: the two lists
-abbrev S : tie.At-loop Inv-loop μ-loop → List ℕ
-S l = now (l .before .before .before .args .starts)
-
-abbrev N : tie.At-loop Inv-loop μ-loop → List ℕ
-N l = now (l .before .before .before .args .neighbours)
+μ-loop starts neighbours n pairs₀ p₀ pairs p = n - p
 
 loop-holds : tie.Need-loop-holds Inv-loop μ-loop
-loop-holds c = (omega arith, refl, (λ k l. absurd (omega arith)))
+loop-holds c = (omega arith, refl, refl)
 
-lacks-partner-requires : tie.Need-lacks-partner-requires Inv-loop μ-loop
-lacks-partner-requires c κs = (c .before .before .before .before .pre, record { low = omega arith; high = omega arith })
+lower-pairs-requires : tie.Need-lower-pairs-requires Inv-loop μ-loop
+lower-pairs-requires c κs = (c .before .before .before .before .pre, record { low = omega arith; high = omega arith })
 
-returns : tie.Need-returns Inv-loop μ-loop
-unfolding refuses4
-returns c =
-    let l = c .before .before .before in
-    sym (nodes-at (graphOf (S l) (N l)) (lacks (S l) (N l)) (l .loop .p) (omega arith) (sym (c .before .lacks-partner .ensures) ∙ c .if1 .taken))
+-- what is counted after the next row
+more : (c : tie.After-lower-pairs Inv-loop μ-loop)
+    → let l = c .before .before in
+    let s = l .before .before .before in
+    l .loop .pairs + c .lower-pairs .result ≡ firstPairs (now (s .args .starts)) (now (s .args .neighbours)) (l .loop .p + 1)
+more c =
+    let l = c .before .before in
+    let s = l .before .before .before in
+    pairs-next (now (s .args .starts)) (now (s .args .neighbours)) (l .loop .p) (l .loop .pairs) (c .lower-pairs .result) (l .loop .inv .2) (c .lower-pairs .ensures)
+
+add-pairs : tie.Need-add-pairs Inv-loop μ-loop
+add-pairs c =
+    let l = c .before .before in
+    let s = l .before .before .before in
+    omega (arith, more c, pairs-few (s .pre) (l .loop .p + 1) (omega arith), s .pre .begin .small)
 
 loop-again : tie.Need-loop-again Inv-loop μ-loop
-loop-again c =
-    let l = c .before .before .before in
-    (omega arith, refl, below-more _ (l .loop .p) (l .loop .inv .2) (sym (c .before .lacks-partner .ensures) ∙ c .if1 .left))
+loop-again c = (omega arith, refl, more c)
 
-returns-2 : tie.Need-returns-2 Inv-loop μ-loop
-unfolding refuses4
-returns-2 c =
+mul-result : tie.Need-mul-result Inv-loop μ-loop
+mul-result c =
     let l = c .before in
-    sym (nodes-walked (graphOf (S l) (N l)) (lacks (S l) (N l)) (λ k b. l .loop .inv .2 k (omega arith)))
+    let s = l .before .before .before in
+    omega (arith, l .loop .inv .2, pairs-few (s .pre) (l .loop .p) (omega arith), s .pre .begin .small)
+
+returns : tie.Need-returns Inv-loop μ-loop
+returns c =
+    let l = c .before in
+    let s = l .before .before .before in
+    by-pairs (s .pre) (l .loop .p) (l .loop .pairs) (omega arith) (l .loop .inv .2)
 
 pub lacks-partners-spec : {M : Type 1} → statement M
 lacks-partners-spec =
@@ -62,8 +62,9 @@ lacks-partners-spec =
     (λ c. omega arith)
     loop-holds
     (λ c. omega arith)
-    lacks-partner-requires
-    returns
+    lower-pairs-requires
+    add-pairs
     (λ c. omega arith)
     loop-again
-    returns-2)
+    mul-result
+    returns)
