@@ -23,36 +23,14 @@ use Rattle.laws.proofs.Numberings.{numbering-length, order-length, orderOf-perm
 use Rattle.laws.proofs.Places.{start-next, place-split, placed-at, placed-has}
 use Rattle.laws.proofs.Renumber.{number-node, order-node, number-of-node, row-there, row-back, renumbered-size}
 use Rattle.marks.specs.Marks.{marked}
+use Rattle.marks.proofs.Marks.{mark-bit, zero-mark, zero-marked}
 use Rattle.eliminate.specs.Walk.{pair, stored, parentIn, placeIn, Reach, IsRow, Walk, Given, newGraph, rowAt, Done}
 use Rattle.eliminate.specs.declared.legal.Row.{Row}
 use Rattle.eliminate.proofs.Pass.{met-none, met-next, met-parents, met-all}
 use Rattle.eliminate.proofs.Walk.{stored-at, start-small}
 use Rattle.eliminate.proofs.Words.{word-set, word-other}
 
--- ---- marks as bits
-
-pub mark-bit : (bytes : List ℕ) (t : ℕ) → markAt bytes t ≡ bit (marked bytes t)
-unfolding marked markAt
-mark-bit bytes t = go (getD bytes (t / 8) 0 / 2 ^ (t % 8) % 2) (omega arith)
-  where
-    go : (m : ℕ) → m < 2 → m ≡ bit (eqb m 1)
-    go zero h = refl
-    go (suc zero) h = refl
-    go (suc (suc m)) h = absurd (omega arith)
-
-zero-byte : (n i : ℕ) → getD {A = ℕ} (replicate n 0) i 0 ≡ 0
-zero-byte zero zero = refl
-zero-byte zero (suc i) = refl
-zero-byte (suc n) zero = refl
-zero-byte (suc n) (suc i) = zero-byte n i
-
-zero-mark : (n t : ℕ) → markAt (replicate n 0) t ≡ 0
-unfolding markAt
-zero-mark n t = ap (λ (b : ℕ). b / 2 ^ (t % 8) % 2) (zero-byte n (t / 8)) ∙ ap (λ (b : ℕ). b % 2) (zero-div (2 ^ (t % 8)))
-
-zero-marked : (n t : ℕ) → marked (replicate n 0) t ≡ false
-unfolding marked
-zero-marked n t = ap (λ (m : ℕ). eqb m 1) (zero-mark n t)
+-- ---- how it begins
 
 zero-stored : (h : Graph) (n i k : ℕ) → stored h (replicate n 0) i k ≡ false
 unfolding stored

@@ -19,8 +19,9 @@ use Rattle.laws.specs.Legal.{LegalGraph}
 use Rattle.laws.proofs.Legal.{ofNode-at}
 use Rattle.laws.proofs.Marks.{profile-fits}
 use Rattle.laws.proofs.Places.{first-le, start-next, start-profile, place-make, place-below, place-inj}
-use Rattle.marks.specs.Marks.{marked, withMark}
+use Rattle.marks.specs.Marks.{marked, withMark, ones}
 use Rattle.marks.proofs.Marks.{mark-length, mark-other, mark-set}
+use Rattle.marks.proofs.Ones.{ones-more, ones-most}
 use Rattle.eliminate.specs.Walk.{pair, stored, parentIn, placeIn, Room, IsRow, Walk, InRow}
 use Rattle.eliminate.specs.Pass.{Met}
 use Rattle.eliminate.specs.declared.legal.Row.{Row}
@@ -118,6 +119,11 @@ walk-due w v = record {
   met = v;
 }
 
+-- so many marks are a number of 32 bits, with room for one more
+pub marks-few : {h : Graph} {o words bytes due : List ℕ} {b q : ℕ} → Walk h o words bytes b q due → ones bytes < 4294967295
+unfolding markByteCount
+marks-few {h} {bytes = bytes} w = omega (arith, ones-most bytes, w .room, profile-small h (w .few))
+
 -- p is due
 module _ {h : Graph} {o words bytes due : List ℕ} {row : Row} {p : ℕ} (R : IsRow h row) (w : Walk h o words bytes (row .q) (row .q) (p ∷ due)) where
   -- q is a number of 16 bits
@@ -149,10 +155,14 @@ module _ {h : Graph} {o words bytes due : List ℕ} {row : Row} {p : ℕ} (R : I
     parent-at = rw (lt-ltb p (row .q) less) (ofNode-at words p low)
 
     -- p was joined before
-    pub risen-joined : marked bytes (placeIn row p) ≡ true → Walk h o words bytes (row .q) (row .q) (row .q ∷ due)
-    risen-joined e = walk-due w (met-idle (w .legal) (row .q) (omega arith) (met-drop (w .legal) p (w .met) (λ l. here ∙ e)))
+    pub climbed-joined : marked bytes (placeIn row p) ≡ true → Walk h o words bytes (row .q) (row .q) due
+    climbed-joined e = walk-due w (met-drop (w .legal) p (w .met) (λ l. here ∙ e))
 
     module _ (e : marked bytes (placeIn row p) ≡ false) where
+      -- one mark more
+      pub one-more : ones (withMark bytes (placeIn row p)) ≡ suc (ones bytes)
+      one-more = ones-more bytes (placeIn row p) (room .fits) e
+
       has : hasPlace h (pair p (row .q)) ≡ true
       has = row-has R p inside
 

@@ -1,5 +1,6 @@
 // Functions on a legal adjacency and numbering: their callers have tested them, and the room.
 ghost use mathlib.Core.Path.{_≡_};
+ghost use mathlib.Core.Bool.{false};
 ghost use mathlib.Core.List.{List, _∷_, map};
 ghost use Prim.Native.Nat.{ℕ, suc, _≤_, _<_};
 ghost use lib.ListN.{length, replicate};
@@ -7,7 +8,7 @@ ghost use Rattle.spec.specs.Graph.{Graph, ofNode, sizeOf, graphOf};
 ghost use Rattle.spec.specs.Measures.{orderOf};
 ghost use Rattle.spec.specs.Store.{startOf, markByteCount, markBytes};
 ghost use Rattle.laws.specs.Legal.{Node};
-ghost use Rattle.marks.specs.Marks.{marked, withMark};
+ghost use Rattle.marks.specs.Marks.{marked, withMark, ones};
 ghost use Rattle.eliminate.specs.Walk.{placeIn, Room, IsRow, Walk, Risen, Climbed, Joined, Reach, Given, newGraph, rowAt, Done};
 use envelope::legal::first;
 use envelope::legal::number;
@@ -18,6 +19,12 @@ struct Row {
     q: usize,
     first: usize,
     start: u32,
+}
+
+// How far the pass has come: where the next row starts in the store, and how many pairs are marked.
+struct Progress {
+    start: u32,
+    count: u32,
 }
 
 // The place of the pair p < q.
@@ -44,15 +51,14 @@ fn join(bytes: &mut [u8], row: Row, p: usize)
     marks::legal::set(bytes, place(row, p));
 }
 
-// Joins p < q to q: the pair is marked, and q becomes the parent of p where it has none. Returns what is to be joined to q next: the parent of p, or q,
-// for nothing, where the pair was marked before or p had no parent.
+// Joins p < q to q, which it is not yet: the pair is marked, and q becomes the parent of p where it has none. Returns what is to be joined to q next: the
+// parent of p, or q, for nothing, where p had no parent.
 fn rise(scratch: &mut [u16], bytes: &mut [u8], row: Row, p: usize) -> usize
     requires { ⌜ ((h : Graph) × (o : List ℕ) × (due : List ℕ) × IsRow h row × Walk h o (now scratch) (now bytes) (row .q) (row .q) (p ∷ due)) × (p < row .q) ⌝ }
+    requires { ⌜ marked (now bytes) (placeIn row p) ≡ false ⌝ }
     ensures { λ r. ⌜ (p < r) × (r ≤ row .q) × Risen row p r (now (scratch .entry)) (now (bytes .entry)) (now (scratch .exit)) (now (bytes .exit)) ⌝ }
+    ensures { λ _. ⌜ now (bytes .exit) ≡ withMark (now (bytes .entry)) (placeIn row p) ⌝ }
 {
-    if joined(bytes, row, p) {
-        return row.q;
-    }
     join(bytes, row, p);
     let at = p - 1;
     let parent = wide(scratch[at]);
@@ -63,29 +69,49 @@ fn rise(scratch: &mut [u16], bytes: &mut [u8], row: Row, p: usize) -> usize
     parent
 }
 
-// Joins to q, where it is lower, the number `from`, its parent, the parent of that, and so on up to what is joined already.
-fn climb(scratch: &mut [u16], bytes: &mut [u8], row: Row, from: usize)
+// Joins to q, where it is lower, the number `from`, its parent, the parent of that, and so on up to what is joined already. `count` pairs are marked;
+// returns how many are then.
+fn climb(scratch: &mut [u16], bytes: &mut [u8], row: Row, from: usize, count: u32) -> u32
     requires { ⌜ ((h : Graph) × (o : List ℕ) × (due : List ℕ) × IsRow h row × Walk h o (now scratch) (now bytes) (row .q) (row .q) (from ∷ due)) ⌝ }
+    requires { ⌜ count ≡ ones (now bytes) ⌝ }
+    ensures { λ r. ⌜ r ≡ ones (now (bytes .exit)) ⌝ }
     ensures { λ _. ⌜ Climbed row from (now (scratch .entry)) (now (bytes .entry)) (now (scratch .exit)) (now (bytes .exit)) ⌝ }
 {
     let mut p = from;
+    let mut total = count;
     while p < row.q {
+        if joined(bytes, row, p) {
+            return total;
+        }
         p = rise(scratch, bytes, row, p);
+        total += 1;
     }
+    total
 }
 
-// Joins to q all of its lower neighbours; `adjacent` are the neighbours of the node that has the number q.
-fn join_edges(adjacent: &[u16], numbering: &[u16], scratch: &mut [u16], bytes: &mut [u8], row: Row)
+// Joins to q all of its lower neighbours; `adjacent` are the neighbours of the node that has the number q. Returns how many pairs are marked then.
+fn join_edges(
+    adjacent: &[u16],
+    numbering: &[u16],
+    scratch: &mut [u16],
+    bytes: &mut [u8],
+    row: Row,
+    count: u32,
+) -> u32
     requires { ⌜ Reach (now numbering) (now adjacent)
         × ((h : Graph) × (o : List ℕ) × IsRow h row × Walk h o (now scratch) (now bytes) (row .q) (row .q) (map (ofNode (now numbering)) (now adjacent))) ⌝ }
+    requires { ⌜ count ≡ ones (now bytes) ⌝ }
+    ensures { λ r. ⌜ r ≡ ones (now (bytes .exit)) ⌝ }
     ensures { λ _. ⌜ Joined row (map (ofNode (now (numbering .entry))) (now (adjacent .entry))) (now (scratch .entry)) (now (bytes .entry)) (now (scratch .exit)) (now (bytes .exit)) ⌝ }
 {
+    let mut total = count;
     let mut i = 0;
     while i < adjacent.len() {
         let b = wide(adjacent[i]);
-        climb(scratch, bytes, row, number(numbering, b));
+        total = climb(scratch, bytes, row, number(numbering, b), total);
         i += 1;
     }
+    total
 }
 
 // The row of a node's number.
@@ -100,7 +126,7 @@ fn row_of(starts: &[u16], neighbours: &[u16], numbering: &[u16], node: usize, st
     }
 }
 
-// Row q = done + 1: the lower neighbours of q are joined to it, and what they bring. Returns where the next row starts.
+// Row q = done + 1: the lower neighbours of q are joined to it, and what they bring.
 fn eliminate_row(
     starts: &[u16],
     neighbours: &[u16],
@@ -108,59 +134,69 @@ fn eliminate_row(
     scratch: &mut [u16],
     bytes: &mut [u8],
     done: usize,
-    start: u32,
-) -> u32
+    from: Progress,
+) -> Progress
     requires { ⌜ Given (now starts) (now neighbours) (now numbering)
         × Done (now starts) (now neighbours) (now numbering) (now scratch) (now bytes) done
         × (done < sizeOf (now starts))
-        × (start ≡ startOf (newGraph (now starts) (now neighbours) (now numbering)) (suc done)) ⌝ }
-    ensures { λ r. ⌜ r ≡ startOf (newGraph (now (starts .entry)) (now (neighbours .entry)) (now (numbering .entry))) (suc (suc done)) ⌝ }
+        × (from .start ≡ startOf (newGraph (now starts) (now neighbours) (now numbering)) (suc done)) ⌝ }
+    requires { ⌜ from .count ≡ ones (now bytes) ⌝ }
+    ensures { λ r. ⌜ r .start ≡ startOf (newGraph (now (starts .entry)) (now (neighbours .entry)) (now (numbering .entry))) (suc (suc done)) ⌝ }
+    ensures { λ r. ⌜ r .count ≡ ones (now (bytes .exit)) ⌝ }
     ensures { λ _. ⌜ Done (now (starts .entry)) (now (neighbours .entry)) (now (numbering .entry)) (now (scratch .exit)) (now (bytes .exit)) (suc done) ⌝ }
 {
     let node = wide(scratch[done]);
-    let row = row_of(starts, neighbours, numbering, node, start);
+    let row = row_of(starts, neighbours, numbering, node, from.start);
     let adjacent = graph::legal::row(starts, neighbours, node);
-    join_edges(adjacent, numbering, scratch, bytes, row);
+    let count = join_edges(adjacent, numbering, scratch, bytes, row, from.count);
     scratch[done] = 0;
-    place(row, row.q)
+    Progress {
+        start: place(row, row.q),
+        count,
+    }
 }
 
-// All rows in turn.
+// All rows in turn, where no pair is marked. Returns how many are then.
 fn pass(
     starts: &[u16],
     neighbours: &[u16],
     numbering: &[u16],
     scratch: &mut [u16],
     bytes: &mut [u8],
-)
+) -> u32
     requires { ⌜ Given (now starts) (now neighbours) (now numbering)
         × Done (now starts) (now neighbours) (now numbering) (now scratch) (now bytes) 0 ⌝ }
+    requires { ⌜ ones (now bytes) ≡ 0 ⌝ }
+    ensures { λ r. ⌜ r ≡ ones (now (bytes .exit)) ⌝ }
     ensures { λ _. ⌜ Done (now (starts .entry)) (now (neighbours .entry)) (now (numbering .entry)) (now (scratch .exit)) (now (bytes .exit)) (sizeOf (now (starts .entry))) ⌝ }
 {
     let n = numbering.len();
-    let mut start = 0;
+    let mut so_far = Progress { start: 0, count: 0 };
     let mut done = 0;
     while done < n {
-        start = eliminate_row(starts, neighbours, numbering, scratch, bytes, done, start);
+        so_far = eliminate_row(starts, neighbours, numbering, scratch, bytes, done, so_far);
         done += 1;
     }
+    so_far.count
 }
 
-// The marks of the store of a numbering, whose order is in scratch; that ends as zeros.
+// The marks of the store of a numbering, whose order is in scratch; that ends as zeros. Returns how many are 1: they are counted as they are set.
 pub fn mark(
     starts: &[u16],
     neighbours: &[u16],
     numbering: &[u16],
     scratch: &mut [u16],
     bytes: &mut [u8],
-)
+) -> u32
     requires { ⌜ Given (now starts) (now neighbours) (now numbering)
         × (now scratch ≡ orderOf (now numbering))
         × (length (now bytes) ≡ markByteCount (newGraph (now starts) (now neighbours) (now numbering))) ⌝ }
+    ensures { λ r. ⌜ r ≡ ones (now (bytes .exit)) ⌝ }
     ensures { λ _. ⌜ now (bytes .exit) ≡ markBytes (newGraph (now (starts .entry)) (now (neighbours .entry)) (now (numbering .entry))) ⌝ }
     ensures { λ _. ⌜ now (scratch .exit) ≡ replicate (sizeOf (now (starts .entry))) 0 ⌝ }
 {
     marks::legal::clear(bytes, bytes.len());
-    pass(starts, neighbours, numbering, scratch, bytes);
+    let count = pass(starts, neighbours, numbering, scratch, bytes);
     words::legal::clear(scratch, scratch.len());
+    count
 }

@@ -36,19 +36,3 @@ pow-other j k h =
         let e : j ≡ suc (w .0) + k = omega arith in
         ap (λ (x : ℕ). 2 ^ x / 2 ^ k % 2) e ∙ ap (λ (x : ℕ). x / 2 ^ k % 2) (pow-add 2 (suc (w .0)) k)
         ∙ ap (λ (x : ℕ). x % 2) (shl-shr (2 ^ suc (w .0)) k) ∙ ap (λ (x : ℕ). x % 2) (pow-suc 2 (w .0)) ∙ mul-mod-left (2 ^ w .0) 2
-
--- the k lowest bits, added up
-unfoldable pub lowBits : ℕ → ℕ → ℕ
-lowBits zero x = 0
-lowBits (suc k) x = lowBits k x + x / 2 ^ k % 2
-
-ones-low : (k x : ℕ) → ones x ≡ lowBits k x + ones (x / 2 ^ k)
-unfolding lowBits
-ones-low zero x = omega (arith, ap ones (div-one x))
-ones-low (suc k) x =
-    omega (arith, ones-low k x, ones-step (x / 2 ^ k), ap ones (shr-shr x k 1), ap (λ (j : ℕ). ones (x / 2 ^ j)) (add-one k))
-
--- the ones of a byte are its eight bits
-pub ones-byte : (x : ℕ) → x < 256 → ones x ≡ lowBits 8 x
-unfolding ones
-ones-byte x h = ones-low 8 x ∙ ap (λ (y : ℕ). lowBits 8 x + ones y) (div-eq-of-lt h) ∙ add-zero (lowBits 8 x)

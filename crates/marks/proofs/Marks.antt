@@ -1,19 +1,47 @@
 -- The bytes as a set of places: after place t is marked the set is the old one with t, and nothing else changes. Assumes nothing.
-use mathlib.Core.Path.{_≡_, ap}
-use mathlib.Core.Bool.{_||_}
+use mathlib.Core.Path.{_≡_, refl, ap, _∙_}
+use mathlib.Core.Bool.{false, _||_}
 use mathlib.Core.List.{List}
-use Prim.Native.Nat.{ℕ, _/_, _%_, _^_, _<_}
-use native.Mathlib.Nat.{max-zero}
+use Prim.Native.Nat.{ℕ, zero, suc, _/_, _%_, _^_, _<_}
+use native.Mathlib.Nat.{max-zero, zero-div}
 use native.Mathlib.Omega.{arith}
 use lib.Bits.{bitOr}
 use lib.Dec.{eqb}
-use lib.ListN.{length, getD, length-set}
+use lib.ListN.{length, getD, replicate, length-set}
 use lib.Seq.{getD-set-same, getD-set-other}
 use borrow.Author.Tests.{eq-eqb, eqb-true, eqb-false}
+use Rattle.basis.specs.Lists.{bit}
 use Rattle.basis.proofs.Logic.{by-test}
 use Rattle.spec.specs.Store.{markAt}
 use Rattle.marks.specs.Marks.{marked, withMark}
 use Rattle.marks.proofs.Bits.{or-bit, pow-bit, pow-other}
+
+-- a mark is the bit of its place in the set
+pub mark-bit : (bytes : List ℕ) (t : ℕ) → markAt bytes t ≡ bit (marked bytes t)
+unfolding marked markAt
+mark-bit bytes t = go (getD bytes (t / 8) 0 / 2 ^ (t % 8) % 2) (omega arith)
+  where
+    go : (m : ℕ) → m < 2 → m ≡ bit (eqb m 1)
+    go zero h = refl
+    go (suc zero) h = refl
+    go (suc (suc m)) h = absurd (omega arith)
+
+-- no place is marked in bytes 0
+zero-byte : (n i : ℕ) → getD {A = ℕ} (replicate n 0) i 0 ≡ 0
+zero-byte zero zero = refl
+zero-byte zero (suc i) = refl
+zero-byte (suc n) zero = refl
+zero-byte (suc n) (suc i) = zero-byte n i
+
+pub zero-mark : (n t : ℕ) → markAt (replicate n 0) t ≡ 0
+unfolding markAt
+zero-mark n t = ap (λ (b : ℕ). b / 2 ^ (t % 8) % 2) (zero-byte n (t / 8)) ∙ ap (λ (b : ℕ). b % 2) (zero-div (2 ^ (t % 8)))
+
+pub zero-marked : (n t : ℕ) → marked (replicate n 0) t ≡ false
+unfolding marked
+zero-marked n t = ap (λ (m : ℕ). eqb m 1) (zero-mark n t)
+
+-- ---- with one place more
 
 -- as many bytes
 pub mark-length : (l : List ℕ) (t : ℕ) → length (withMark l t) ≡ length l

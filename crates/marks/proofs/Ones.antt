@@ -1,67 +1,59 @@
--- The marks of all bytes, counted byte by byte. Assumes nothing.
-use mathlib.Core.Path.{_≡_, sym, ap, ap₂, _∙_}
-use mathlib.Core.List.{List}
-use Prim.Native.Nat.{ℕ, zero, suc, _+_, _*_, _/_, _%_, _^_, _≤_, _<_}
-use native.Mathlib.Nat.{add-zero, add-comm}
+-- How many places are marked: none at first, one more with each that was not. Assumes nothing.
+use mathlib.Core.Path.{_≡_, refl, ap, _∙_}
+use mathlib.Core.Logic.{⊎-elim}
+use mathlib.Core.Bool.{false}
+use mathlib.Core.List.{List, [], _∷_, map}
+use Prim.Native.Nat.{ℕ, zero, suc, _+_, _*_, _/_, _≤_, _<_}
 use native.Mathlib.Omega.{arith}
-use lib.Count as machine
-use lib.ListN.{getD}
-use Rattle.basis.proofs.Lists.{sum-step}
+use lib.ListN.{length, replicate}
+use Rattle.basis.specs.Lists.{bit, upFrom, sum}
+use Rattle.basis.proofs.Count.{bit-most}
+use Rattle.basis.proofs.Lists.{upFrom-in, sum-cong, sum-step}
+use Rattle.basis.proofs.Logic.{lt-or-le}
 use Rattle.spec.specs.Store.{markAt}
-use Rattle.marks.specs.Marks.{marksBelow, Counted}
-use Rattle.marks.proofs.Bits.{lowBits, ones-byte}
+use Rattle.marks.specs.Marks.{marked, withMark, ones}
+use Rattle.marks.proofs.Marks.{mark-bit, zero-mark, mark-length, mark-here, mark-other}
 
-module _ (l : List ℕ) where
-  below-bits : (j k : ℕ) → k ≤ 8 → marksBelow l (8 * j + k) ≡ marksBelow l (8 * j) + lowBits k (getD l j 0)
-  unfolding lowBits markAt
-  below-bits j zero h = rw (add-zero (8 * j)) (omega arith)
-  below-bits j (suc k) h =
-      ap (marksBelow l) next
-      ∙ sum-step (markAt l) 0 (8 * j + k)
-      ∙ omega (arith, below-bits j k (omega arith), ap₂ (λ (x y : ℕ). getD l x 0 / 2 ^ y % 2) at-byte at-bit)
-    where
-      next : 8 * j + suc k ≡ suc (8 * j + k)
-      next = omega arith
+-- ---- sums of marks
 
-      at-byte : (0 + (8 * j + k)) / 8 ≡ j
-      at-byte = omega arith
+-- a sum that is greater by one in one place
+sum-raised : (f h : ℕ → ℕ) (t k : ℕ) → t < k → h t ≡ suc (f t) → ((u : ℕ) → (u ≡ t → ⊥) → h u ≡ f u)
+    → sum (map h (upFrom 0 k)) ≡ suc (sum (map f (upFrom 0 k)))
+sum-raised f h t zero l here others = absurd (omega arith)
+sum-raised f h t (suc k) l here others =
+    ⊎-elim
+    (λ (b : t < k). omega (arith, sum-step f 0 k, sum-step h 0 k, others (0 + k) (λ z. omega arith), sum-raised f h t k b here others))
+    (λ (b : k ≤ t).
+    let e : 0 + k ≡ t = omega arith in
+    let same = sum-cong h f (upFrom 0 k) (λ u m. others u (λ z. omega (arith, upFrom-in 0 k u m .1))) in
+    omega (arith, sum-step f 0 k, sum-step h 0 k, ap f e, ap h e, here, same))
+    (lt-or-le t k)
 
-      at-bit : (0 + (8 * j + k)) % 8 ≡ k
-      at-bit = omega arith
+-- a sum of bits
+sum-bits : (f : ℕ → ℕ) → ((u : ℕ) → f u ≤ 1) → (a k : ℕ) → sum (map f (upFrom a k)) ≤ k
+sum-bits f b a zero = omega arith
+sum-bits f b a (suc k) = omega (arith, b a, sum-bits f b (suc a) k)
 
-  -- one byte more
-  pub below-byte : (j : ℕ) → getD l j 0 < 256 → Counted l j 1 (getD l j 0)
-  below-byte j h =
-      ap (marksBelow l) eight ∙ below-bits j 8 (omega arith) ∙ ap (λ (x : ℕ). marksBelow l (8 * j) + x) (sym (ones-byte (getD l j 0) h))
-    where
-      eight : 8 * (j + 1) ≡ 8 * j + 8
-      eight = omega arith
+sum-none : (l : List ℕ) → sum (map (λ (t : ℕ). 0) l) ≡ 0
+sum-none [] = refl
+sum-none (x ∷ l) = omega (arith, sum-none l)
 
-  -- digits above others are counted apart
-  counted-cat : (n i k m a b : ℕ) → a < 2 ^ n → Counted l i k a → Counted l (i + k) m b → Counted l i (k + m) (a + b * 2 ^ n)
-  counted-cat n i k m a b h low high =
-      ap (marksBelow l) both ∙ high ∙ omega (arith, low, machine.ones-cat n b a h, ap machine.ones (add-comm a (b * 2 ^ n)))
-    where
-      both : 8 * (i + (k + m)) ≡ 8 * (i + k + m)
-      both = omega arith
+-- ---- their number
 
-  -- four bytes as one number, and eight
-  pub counted-four : (i : ℕ) → ((j : ℕ) → getD l j 0 < 256)
-      → Counted l i 4 (getD l i 0 + getD l (i + 1) 0 * 256 + getD l (i + 2) 0 * 65536 + getD l (i + 3) 0 * 16777216)
-  counted-four i small =
-      counted-cat 24 i 3 1 (getD l i 0 + getD l (i + 1) 0 * 256 + getD l (i + 2) 0 * 65536) (getD l (i + 3) 0) c
-      (counted-cat 16 i 2 1 (getD l i 0 + getD l (i + 1) 0 * 256) (getD l (i + 2) 0) b
-      (counted-cat 8 i 1 1 (getD l i 0) (getD l (i + 1) 0) a (below-byte i (small i)) (below-byte (i + 1) (small (i + 1)))) (below-byte (i + 2) (small (i + 2))))
-      (below-byte (i + 3) (small (i + 3)))
-    where
-      a : getD l i 0 < 256
-      a = small i
+-- none
+pub ones-none : (n : ℕ) → ones (replicate n 0) ≡ 0
+unfolding ones
+ones-none n = sum-cong (markAt (replicate n 0)) (λ t. 0) (upFrom 0 (8 * length (replicate n 0))) (λ t m. zero-mark n t) ∙ sum-none (upFrom 0 (8 * length (replicate n 0)))
 
-      b : getD l i 0 + getD l (i + 1) 0 * 256 < 65536
-      b = omega (arith, a, small (i + 1))
+-- one more
+pub ones-more : (l : List ℕ) (t : ℕ) → t / 8 < length l → marked l t ≡ false → ones (withMark l t) ≡ suc (ones l)
+unfolding ones
+ones-more l t fits e =
+    ap (λ (k : ℕ). sum (map (markAt (withMark l t)) (upFrom 0 (8 * k)))) (mark-length l t)
+    ∙ sum-raised (markAt l) (markAt (withMark l t)) t (8 * length l) (omega arith)
+    (omega (arith, mark-here l t fits, mark-bit l t, ap bit e)) (mark-other l t fits)
 
-      c : getD l i 0 + getD l (i + 1) 0 * 256 + getD l (i + 2) 0 * 65536 < 16777216
-      c = omega (arith, b, small (i + 2))
-
-  pub counted-eight : (i a b : ℕ) → a < 4294967296 → Counted l i 4 a → Counted l (i + 4) 4 b → Counted l i 8 (a + b * 4294967296)
-  counted-eight i a b h low high = counted-cat 32 i 4 4 a b h low high
+-- no more than there are places
+pub ones-most : (l : List ℕ) → ones l ≤ 8 * length l
+unfolding ones
+ones-most l = sum-bits (markAt l) (λ t. omega (arith, mark-bit l t, bit-most (marked l t))) 0 (8 * length l)

@@ -1,10 +1,9 @@
 -- Mark bytes as a set of places. Assumes nothing.
 use mathlib.Core.Path.{_≡_}
-use Prim.Native.Nat.{ℕ, _+_, _*_, _/_, _%_, _^_}
+use Prim.Native.Nat.{ℕ, _*_, _/_, _%_, _^_}
 use mathlib.Core.Bool.{Bool}
 use mathlib.Core.List.{List, map}
 use lib.Bits.{bitOr}
-use lib.Count as machine
 use lib.Dec.{eqb}
 use lib.ListN.{length, getD, set}
 use Rattle.basis.specs.Lists.{upFrom, sum}
@@ -18,14 +17,6 @@ marked bytes t = eqb (markAt bytes t) 1
 unfoldable pub withMark : List ℕ → ℕ → List ℕ
 withMark bytes t = set bytes (t / 8) (bitOr (getD bytes (t / 8) 0) (2 ^ (t % 8)))
 
--- the marks of the first k places, added up
-abbrev pub marksBelow : List ℕ → ℕ → ℕ
-marksBelow bytes k = sum (map (markAt bytes) (upFrom 0 k))
-
 -- how many places the set has
 unfoldable pub ones : List ℕ → ℕ
-ones bytes = marksBelow bytes (8 * length bytes)
-
--- x has as many binary digits 1 as there are marks in the k bytes from i on
-abbrev pub Counted : List ℕ → ℕ → ℕ → ℕ → Type 0
-Counted bytes i k x = marksBelow bytes (8 * (i + k)) ≡ marksBelow bytes (8 * i) + machine.ones x
+ones bytes = sum (map (markAt bytes) (upFrom 0 (8 * length bytes)))

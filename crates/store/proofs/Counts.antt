@@ -54,13 +54,9 @@ module _ (g : Graph) where
 -- ---- the newly joined pairs
 
 module _ {S N x : List ℕ} (Γ : Given S N x) where
-  -- the profile is a word of 32 bits with room to spare, and so are the marks
+  -- the profile is a word of 32 bits with room to spare
   pub profile-few : {p : ℕ} → p ≡ profile (newGraph S N x) → p ≤ 16777216
   profile-few e = omega (arith, profile-small (newGraph S N x) (omega (arith, renumbered-size (Γ .graph) x (Γ .numbering), Γ .starts .few)))
-
-  pub bytes-few : {l : List ℕ} → l ≡ markBytes (newGraph S N x) → length l < 536870912
-  unfolding markByteCount
-  bytes-few e = omega (arith, ap length e, bytes-length (newGraph S N x), profile-few refl)
 
   -- the marks are the new pairs and the edges, which are half of the entries
   pub new-edges : markCount (newGraph S N x) ≡ newCount (newGraph S N x) + length N / 2

@@ -37,8 +37,7 @@ fn mark(
         × (now (scratch .exit) ≡ replicate (sizeOf (now (starts .entry))) 0)
         × (now (bytes .exit) ≡ markBytes (newGraph (now (starts .entry)) (now (neighbours .entry)) (now (numbering .entry)))) ⌝ }
 {
-    eliminate::legal::mark(starts, neighbours, numbering, scratch, bytes);
-    let marked = marks::legal::count(bytes);
+    let marked = eliminate::legal::mark(starts, neighbours, numbering, scratch, bytes);
     let edges = (neighbours.len() / 2) as u32;
     Counts {
         marked: marked,

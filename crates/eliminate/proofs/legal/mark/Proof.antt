@@ -3,23 +3,30 @@ use mathlib.Core.Path.{refl, ap, _∙_}
 use Prim.Native.Nat.{ℕ}
 use native.Mathlib.Omega.{arith}
 use borrow.Author.Needs.{needs}
-use lib.ListN.{replicate}
+use lib.ListN.{length, replicate}
 use Rattle.eliminate.proofs.Rows.{rows-none, rows-words, rows-bytes}
 use Rattle.eliminate.proofs.legal.mark.Statement.{statement}
 use Rattle.eliminate.proofs.legal.mark.Tie as tie
 use Rattle.laws.proofs.Lent.{zeroed-all}
+use Rattle.marks.specs.Marks.{ones}
+use Rattle.marks.proofs.Ones.{ones-none}
 
 pass-requires : tie.Need-pass-requires
 pass-requires c κs =
     let k = c .before .before .before .before .before .before .before .before .before .before .before .pre in
-    (k .0, rows-none (k .0) _ _ (k .1) (c .before .before .before .before .clear .ensures ∙ zeroed-all _ (c .before .before .before .before .before .before .before .before .before .before .before .args .bytes .now) refl ∙ ap (λ (m : ℕ). replicate m 0) (k .2)))
+    let b = c .before .before .before .before .before .before .before .before .before .before .before .args .bytes .now in
+    let e = c .before .before .before .before .clear .ensures ∙ zeroed-all _ b refl in
+    ((k .0, rows-none (k .0) _ _ (k .1) (e ∙ ap (λ (m : ℕ). replicate m 0) (k .2))), ap ones e ∙ ones-none (length b))
 
 returns : tie.Need-returns
 returns c =
     let k = c .before .before .before .before .before .before .before .before .before .before .before .before .before .before .before .before .before .before .before .before .pre in
-    let w = c .before .before .before .before .before .before .before .before .pass .ensures in (
-      rows-bytes (k .0) w (λ i. omega (arith, c .before .before .before .before .slice-known5 .given i)),
-      c .before .before .clear2 .ensures ∙ zeroed-all _ (c .before .before .before .before .before .before .before .before .pass .last .1 .1 .1 .0) refl ∙ ap (λ (m : ℕ). replicate m 0) (rows-words (k .0) w),
+    let e = c .before .before .before .before .before .before .before .before .pass .ensures in (
+      e .0,
+      (
+        rows-bytes (k .0) (e .1) (λ i. omega (arith, c .before .before .before .before .slice-known5 .given i)),
+        c .before .before .clear2 .ensures ∙ zeroed-all _ (c .before .before .before .before .before .before .before .before .pass .last .1 .1 .1 .0) refl ∙ ap (λ (m : ℕ). replicate m 0) (rows-words (k .0) (e .1)),
+      ),
     )
 
 pub mark-spec : {M : Type 1} → statement M
