@@ -13,11 +13,21 @@ use Rattle.basis.specs.Lists.{anyb}
 use Rattle.basis.proofs.Logic.{or-none, lt-or-le}
 use Rattle.spec.specs.Refusal.{refuse, _orElse_}
 use Rattle.spec.specs.Graph.{outside}
-use Rattle.spec.specs.Mesh.{nodeCount, repeats, badNodes, elementRefusal, elementsRefusal, elementsIn, elements}
+use Rattle.spec.specs.Mesh.{kindTable, nodeCount, repeats, badNodes, elementRefusal, elementsRefusal, elementsIn, elements}
 use Rattle.laws.proofs.Refused.{or-else-zero, refuse-zero}
 use Rattle.elements.proofs.Remains.{drop-next}
 
 -- ---- one element
+
+-- a node count is 10 at most
+pub count-most : (k : ℕ) → nodeCount k ≤ 10
+unfolding nodeCount kindTable
+count-most k = below 10 kindTable refl k
+  where
+    below : (m : ℕ) (l : List ℕ) → anyb (ltb m) l ≡ false → (i : ℕ) → getD l i 0 ≤ m
+    below m [] e i = omega arith
+    below m (x ∷ l) e zero = ltb-false m x (or-none (ltb m x) (anyb (ltb m) l) e .0)
+    below m (x ∷ l) e (suc i) = below m l (or-none (ltb m x) (anyb (ltb m) l) e .1) i
 
 -- tests in order, grouped the other way
 pub in-order : (a b c : ℕ) → (a orElse b) orElse c ≡ a orElse b orElse c

@@ -8,14 +8,14 @@ ghost use Rattle.spec.specs.Mesh.{nodeCount, elementRefusal, elementsRefusal};
 pub mod nodes;
 
 // The node count by kind; there is no kind 0.
-const NODE_COUNTS: [usize; 11] = [0, 2, 3, 4, 4, 5, 6, 8, 6, 8, 10];
+const NODE_COUNTS: [u8; 11] = [0, 2, 3, 4, 4, 5, 6, 8, 6, 8, 10];
 
 // The node count of a kind, 0 for an unknown kind.
 pub fn node_count(kind: u16) -> usize
     ensures { λ r. ⌜ r ≡ nodeCount kind ⌝ }
 {
     let k = words::wide(kind);
-    if k < 11 { NODE_COUNTS[k] } else { 0 }
+    if k < 11 { NODE_COUNTS[k] as usize } else { 0 }
 }
 
 // Whether the kind is unknown.

@@ -2,20 +2,19 @@
 use mathlib.Core.Path.{_≡_, refl, ap}
 use mathlib.Core.Bool.{Bool, true, false, not, _&&_, _||_}
 use mathlib.Core.List.{List, [], _∷_, map}
-use Prim.Native.Nat.{ℕ, zero, suc, _+_, _*_, _≤_, _<_}
+use Prim.Native.Nat.{ℕ, _+_, _*_, _≤_, _<_}
 use native.Mathlib.Nat.{add-mul, one-mul, mul-le-mul, mul-le-mul-right}
 use native.Mathlib.Omega.{arith}
 use lib.ListN.{length, getD, take, drop, length-drop}
 use lib.Seq.{length-take-le}
-use lib.Dec.{eqb, ltb}
-use borrow.Author.Tests.{ltb-false}
-use Rattle.basis.specs.Lists.{bit, anyb, memb, countb, upFrom, sum}
+use lib.Dec.{eqb}
+use Rattle.basis.specs.Lists.{bit, memb, countb, upFrom, sum}
 use Rattle.basis.proofs.Count.{length-filter, count-mono, count-cong, count-none, upFrom-once}
 use Rattle.basis.proofs.Lists.{memb-here, upFrom-in, sum-mono, sum-add}
-use Rattle.basis.proofs.Logic.{by-test, and-split, or-right, or-none, eqb-sym}
+use Rattle.basis.proofs.Logic.{by-test, and-split, or-right, eqb-sym}
 use Rattle.spec.specs.Graph.{degree}
-use Rattle.spec.specs.Mesh.{kindTable, nodeCount, elements, joins, entryCount}
-use Rattle.elements.proofs.Elements.{refusalFrom, refusal-none, elements-next, elements-over}
+use Rattle.spec.specs.Mesh.{nodeCount, elements, joins, entryCount}
+use Rattle.elements.proofs.Elements.{count-most, refusalFrom, refusal-none, elements-next, elements-over}
 use Rattle.incidence.proofs.Passes.{sound-of}
 use Rattle.spec.specs.CallsMesh.{graphOfElements}
 use Rattle.incidence.specs.Cells.{share}
@@ -99,16 +98,6 @@ entries-most n ws =
     )
 
 -- ---- element by element
-
--- a node count is 10 at most
-count-most : (k : ℕ) → nodeCount k ≤ 10
-unfolding nodeCount kindTable
-count-most k = below 10 kindTable refl k
-  where
-    below : (m : ℕ) (l : List ℕ) → anyb (ltb m) l ≡ false → (i : ℕ) → getD l i 0 ≤ m
-    below m [] e i = omega arith
-    below m (x ∷ l) e zero = ltb-false m x (or-none (ltb m x) (anyb (ltb m) l) e .0)
-    below m (x ∷ l) e (suc i) = below m l (or-none (ltb m x) (anyb (ltb m) l) e .1) i
 
 pub square-most : (k : ℕ) → nodeCount k * nodeCount k ≤ 100
 square-most k = mul-le-mul (count-most k) (count-most k)
