@@ -8,7 +8,7 @@ use native.Mathlib.Omega.{arith}
 use lib.ListN.{length, getD, take, drop, length-drop, drop-of-length-le}
 use lib.Seq.{take-all, take-length, drop-drop}
 use lib.Dec.{eqb, ltb}
-use borrow.Author.Tests.{ltb-false}
+use borrow.Author.Tests.{eqb-false, ltb-false}
 use Rattle.basis.specs.Lists.{anyb}
 use Rattle.basis.proofs.Logic.{or-none, lt-or-le}
 use Rattle.spec.specs.Refusal.{refuse, _orElse_}
@@ -76,6 +76,11 @@ record-fits n kind ws G = ltb-false (length ws) (nodeCount kind) (G .fits)
 
 pub good-fits : (n kind : ℕ) (ws : List ℕ) → elementRefusal 9 n kind ws ≡ 0 → nodeCount kind ≤ length ws
 good-fits n kind ws e = record-fits n kind ws (good-of 9 n kind ws (omega arith) e)
+
+pub good-some : (n kind : ℕ) (ws : List ℕ) → elementRefusal 9 n kind ws ≡ 0 → 1 ≤ nodeCount kind
+good-some n kind ws e =
+    let z : nodeCount kind ≡ 0 → ⊥ = eqb-false (nodeCount kind) 0 (good-of 9 n kind ws (omega arith) e .known) in
+    omega arith
 
 pub good-inside : (n kind : ℕ) (ws : List ℕ) → elementRefusal 9 n kind ws ≡ 0 → anyb (outside n) (take (nodeCount kind) ws) ≡ false
 unfolding badNodes

@@ -1,25 +1,26 @@
--- The entries of a mesh are at most the squares of its elements' node counts, added up. Assumes nothing.
-use mathlib.Core.Path.{_≡_, refl, ap}
-use mathlib.Core.Bool.{Bool, true, false, not, _&&_, _||_}
+-- The entries of a mesh are at most the ordered pairs of its elements' nodes, added up. Assumes nothing.
+use mathlib.Core.Path.{_≡_, refl, ap, _∙_}
+use mathlib.Core.Bool.{Bool, true, false, not, _&&_, _||_, and-comm, and-false, and-or-distrib-left}
 use mathlib.Core.List.{List, [], _∷_, map}
-use Prim.Native.Nat.{ℕ, _+_, _*_, _≤_, _<_}
+use Prim.Native.Nat.{ℕ, _+_, _*_, _-_, _≤_, _<_}
 use native.Mathlib.Nat.{add-mul, one-mul, mul-le-mul, mul-le-mul-right}
 use native.Mathlib.Omega.{arith}
 use lib.ListN.{length, getD, take, drop, length-drop}
 use lib.Seq.{length-take-le}
 use lib.Dec.{eqb}
-use Rattle.basis.specs.Lists.{bit, memb, countb, upFrom, sum}
-use Rattle.basis.proofs.Count.{length-filter, count-mono, count-cong, count-none, upFrom-once}
-use Rattle.basis.proofs.Lists.{memb-here, upFrom-in, sum-mono, sum-add}
-use Rattle.basis.proofs.Logic.{by-test, and-split, or-right, eqb-sym}
+use Rattle.basis.specs.Lists.{bit, anyb, memb, countb, upFrom, sum}
+use Rattle.basis.proofs.Count.{length-filter, count-cong, count-some, count-none, count-parted, upFrom-once}
+use Rattle.basis.proofs.Lists.{memb-here, upFrom-in, sum-cong, sum-mono, sum-add}
+use Rattle.basis.proofs.Logic.{by-test, and-make, or-right, eqb-self, eqb-sym}
 use Rattle.spec.specs.Graph.{degree}
 use Rattle.spec.specs.Mesh.{nodeCount, elements, joins, entryCount}
-use Rattle.elements.proofs.Elements.{count-most, refusalFrom, refusal-none, elements-next, elements-over}
+use Rattle.elements.proofs.Elements.{count-most, good-some, refusalFrom, refusal-none, elements-next, elements-over}
 use Rattle.incidence.proofs.Passes.{sound-of}
 use Rattle.spec.specs.CallsMesh.{graphOfElements}
-use Rattle.incidence.specs.Cells.{share}
-use Rattle.rows.specs.Rows.{entriesTo, squares}
+use Rattle.rows.specs.Rows.{entriesTo, orderedPairs}
 use Rattle.rows.proofs.Laying.{mesh-row, entries-all}
+
+-- ---- counts
 
 -- one or the other
 count-or : (s t : ℕ → Bool) (l : List ℕ) → countb (λ x. s x || t x) l ≤ countb s l + countb t l
@@ -42,97 +43,137 @@ count-memb n (x ∷ e) =
       upFrom-once 1 n x,
     )
 
--- the pairs of one element
-pairs-at : (n : ℕ) (e : List ℕ) (p : ℕ) → countb (λ q. memb p e && memb q e) (upFrom 1 n) ≤ bit (memb p e) * length e
-pairs-at n e p =
-    by-test (memb p e) (λ y. rw y (omega (arith, one-mul (length e), count-memb n e))) (λ y. rw y (omega (arith, count-none (λ q. false) (upFrom 1 n) (λ q m. refl))))
+-- ---- the pairs of one element
 
-pairs : (n : ℕ) (e ps : List ℕ) → sum (map (λ p. countb (λ q. memb p e && memb q e) (upFrom 1 n)) ps) ≤ countb (λ p. memb p e) ps * length e
-pairs n e [] = omega arith
-pairs n e (p ∷ ps) = omega (arith, pairs-at n e p, pairs n e ps, add-mul (bit (memb p e)) (countb (λ p. memb p e) ps) (length e))
+-- q stands beside p in this element
+abbrev beside : List ℕ → ℕ → ℕ → Bool
+beside e p q = not (eqb p q) && (memb p e && memb q e)
 
--- the pairs of all elements
-none : (n : ℕ) (ps : List ℕ) → sum (map (λ p. countb (share [] p) (upFrom 1 n)) ps) ≡ 0
-unfolding share
-none n [] = refl
-none n (p ∷ ps) = omega (arith, count-none (λ q. false) (upFrom 1 n) (λ q m. refl), none n ps)
-
-all-pairs : (n : ℕ) (els : List (List ℕ)) → sum (map (λ p. countb (share els p) (upFrom 1 n)) (upFrom 1 n)) ≤ squares els
-unfolding share squares
-all-pairs n [] = omega (arith, none n (upFrom 1 n))
-all-pairs n (e ∷ els) =
+-- of an element that holds p, all nodes but p
+count-others : (n : ℕ) (e : List ℕ) (p : ℕ) → memb p (upFrom 1 n) ≡ true → memb p e ≡ true → countb (λ q. memb q e && not (eqb p q)) (upFrom 1 n) ≤ length e - 1
+count-others n e p m y =
     omega (
       arith,
-      sum-mono (λ p. countb (share (e ∷ els) p) (upFrom 1 n)) (λ p. countb (λ q. memb p e && memb q e) (upFrom 1 n) + countb (share els p) (upFrom 1 n)) (upFrom 1 n)
-          (λ p. count-or (λ q. memb p e && memb q e) (share els p) (upFrom 1 n)),
-      sum-add (λ p. countb (λ q. memb p e && memb q e) (upFrom 1 n)) (λ p. countb (share els p) (upFrom 1 n)) (upFrom 1 n),
-      pairs n e (upFrom 1 n),
-      mul-le-mul-right (length e) (count-memb n e),
-      all-pairs n els,
+      count-memb n e,
+      count-parted (λ q. memb q e) (eqb p) (upFrom 1 n),
+      count-some (λ q. memb q e && eqb p q) (upFrom 1 n) p m (and-make y (eqb-self p)),
     )
 
--- a row has at most the nodes that share an element with its own
-row-most : (n : ℕ) (ws : List ℕ) (p : ℕ) → memb p (upFrom 1 n) ≡ true → degree (graphOfElements n ws) p ≤ countb (share (elements ws) p) (upFrom 1 n)
-unfolding degree joins share
-row-most n ws p m =
-    let u = upFrom-in 1 n p m in
-    omega (
+pairs-at : (n : ℕ) (e : List ℕ) (p : ℕ) → memb p (upFrom 1 n) ≡ true → countb (beside e p) (upFrom 1 n) ≤ bit (memb p e) * (length e - 1)
+pairs-at n e p m =
+    by-test (memb p e)
+    (λ y. omega (
       arith,
-      ap length (mesh-row n ws p (u .0) (omega (arith, u .1))),
-      length-filter (joins (elements ws) p) (upFrom 1 n),
-      count-mono (joins (elements ws) p) (share (elements ws) p) (upFrom 1 n) (λ q h. and-split (not (eqb p q)) (share (elements ws) p q) h .1),
-    )
+      count-cong (beside e p) (λ q. memb q e && not (eqb p q)) (upFrom 1 n) (λ q k. rw y (and-comm (not (eqb p q)) (memb q e))),
+      count-others n e p m y,
+      ap (λ b. bit b * (length e - 1)) y,
+      one-mul (length e - 1),
+    ))
+    (λ y. omega (arith, count-none (beside e p) (upFrom 1 n) (λ q k. rw y (and-false (not (eqb p q))))))
 
 sum-within : (f h : ℕ → ℕ) (l : List ℕ) → ((x : ℕ) → memb x l ≡ true → f x ≤ h x) → sum (map f l) ≤ sum (map h l)
 sum-within f h [] e = omega arith
 sum-within f h (x ∷ l) e = omega (arith, e x (memb-here x l), sum-within f h l (λ y m. e y (or-right (eqb y x) m)))
 
-pub entries-most : (n : ℕ) (ws : List ℕ) → entryCount (graphOfElements n ws) ≤ squares (elements ws)
+-- each number that passes counts m
+count-times : (t : ℕ → Bool) (m : ℕ) (l : List ℕ) → sum (map (λ x. bit (t x) * m) l) ≡ countb t l * m
+count-times t m [] = omega arith
+count-times t m (x ∷ l) = omega (arith, count-times t m l, add-mul (bit (t x)) (countb t l) m)
+
+pairs : (n : ℕ) (e : List ℕ) → sum (map (λ p. countb (beside e p) (upFrom 1 n)) (upFrom 1 n)) ≤ length e * (length e - 1)
+pairs n e =
+    omega (
+      arith,
+      sum-within (λ p. countb (beside e p) (upFrom 1 n)) (λ p. bit (memb p e) * (length e - 1)) (upFrom 1 n) (pairs-at n e),
+      count-times (λ p. memb p e) (length e - 1) (upFrom 1 n),
+      mul-le-mul-right (length e - 1) (count-memb n e),
+    )
+
+-- ---- the pairs of all elements
+
+none : (n : ℕ) (ps : List ℕ) → sum (map (λ p. countb (joins [] p) (upFrom 1 n)) ps) ≡ 0
+unfolding joins
+none n [] = refl
+none n (p ∷ ps) = omega (arith, count-none (joins [] p) (upFrom 1 n) (λ q m. and-false (not (eqb p q))), none n ps)
+
+-- a row by the first element, and by the others
+first-or : (n : ℕ) (e : List ℕ) (els : List (List ℕ)) (p : ℕ) → countb (joins (e ∷ els) p) (upFrom 1 n) ≤ countb (beside e p) (upFrom 1 n) + countb (joins els p) (upFrom 1 n)
+unfolding joins
+first-or n e els p =
+    omega (
+      arith,
+      count-cong (joins (e ∷ els) p) (λ q. beside e p q || joins els p q) (upFrom 1 n) (λ q m. and-or-distrib-left (not (eqb p q)) (memb p e && memb q e) (anyb (λ d. memb p d && memb q d) els)),
+      count-or (beside e p) (joins els p) (upFrom 1 n),
+    )
+
+all-pairs : (n : ℕ) (els : List (List ℕ)) → sum (map (λ p. countb (joins els p) (upFrom 1 n)) (upFrom 1 n)) ≤ orderedPairs els
+unfolding orderedPairs
+all-pairs n [] = omega (arith, none n (upFrom 1 n))
+all-pairs n (e ∷ els) =
+    omega (
+      arith,
+      sum-mono (λ p. countb (joins (e ∷ els) p) (upFrom 1 n)) (λ p. countb (beside e p) (upFrom 1 n) + countb (joins els p) (upFrom 1 n)) (upFrom 1 n) (first-or n e els),
+      sum-add (λ p. countb (beside e p) (upFrom 1 n)) (λ p. countb (joins els p) (upFrom 1 n)) (upFrom 1 n),
+      pairs n e,
+      all-pairs n els,
+    )
+
+-- a row has the nodes that join its own
+row-count : (n : ℕ) (ws : List ℕ) (p : ℕ) → memb p (upFrom 1 n) ≡ true → degree (graphOfElements n ws) p ≡ countb (joins (elements ws) p) (upFrom 1 n)
+unfolding degree
+row-count n ws p m =
+    let u = upFrom-in 1 n p m in
+    ap length (mesh-row n ws p (u .0) (omega (arith, u .1))) ∙ length-filter (joins (elements ws) p) (upFrom 1 n)
+
+pub entries-most : (n : ℕ) (ws : List ℕ) → entryCount (graphOfElements n ws) ≤ orderedPairs (elements ws)
 unfolding entriesTo
 entries-most n ws =
     omega (
       arith,
       entries-all n ws,
-      sum-within (degree (graphOfElements n ws)) (λ p. countb (share (elements ws) p) (upFrom 1 n)) (upFrom 1 n) (row-most n ws),
+      sum-cong (degree (graphOfElements n ws)) (λ p. countb (joins (elements ws) p) (upFrom 1 n)) (upFrom 1 n) (row-count n ws),
       all-pairs n (elements ws),
     )
 
 -- ---- element by element
 
-pub square-most : (k : ℕ) → nodeCount k * nodeCount k ≤ 100
-square-most k = mul-le-mul (count-most k) (count-most k)
+pub pairs-most : (k : ℕ) → nodeCount k * (nodeCount k - 1) ≤ 90
+pairs-most k = let h : nodeCount k - 1 ≤ 9 = omega (arith, count-most k) in mul-le-mul (count-most k) h
 
--- the squares so far, completed by those from place j on
-pub record Squaring (n : ℕ) (ws : List ℕ) (j total : ℕ) : Type 0 where
+-- the pairs so far, completed by those from place j on
+pub record Pairing (n : ℕ) (ws : List ℕ) (j total : ℕ) : Type 0 where
   pub few : n ≤ 4096
   pub small : total ≤ 32768
   pub good : refusalFrom n (drop j ws) ≡ 0
-  pub at : total + squares (elements (drop j ws)) ≡ squares (elements ws)
+  pub at : total + orderedPairs (elements (drop j ws)) ≡ orderedPairs (elements ws)
 
 module _ (n : ℕ) (ws : List ℕ) where
-  pub squaring-begin : n ≤ 4096 → refusalFrom n ws ≡ 0 → Squaring n ws 0 0
-  squaring-begin few e = record { few = few; small = omega arith; good = e; at = omega arith }
+  pub pairing-begin : n ≤ 4096 → refusalFrom n ws ≡ 0 → Pairing n ws 0 0
+  pairing-begin few e = record { few = few; small = omega arith; good = e; at = omega arith }
 
-  module _ (j total : ℕ) (S : Squaring n ws j total) where
-    pub squaring-within : j < length ws → j + 1 + nodeCount (getD ws j 0) ≤ length ws
-    squaring-within h = sound-of n ws j (S .few) h (S .good) .within
+  module _ (j total : ℕ) (P : Pairing n ws j total) where
+    pub pairing-some : j < length ws → 1 ≤ nodeCount (getD ws j 0)
+    pairing-some h = good-some n (getD ws j 0) (drop (j + 1) ws) (refusal-none n ws j h (P .good) .0)
 
-    pub squaring-step : j < length ws → total + nodeCount (getD ws j 0) * nodeCount (getD ws j 0) ≤ 32768
-        → Squaring n ws (j + 1 + nodeCount (getD ws j 0)) (total + nodeCount (getD ws j 0) * nodeCount (getD ws j 0))
-    unfolding squares
-    squaring-step h small = record {
-      few = S .few;
+    pub pairing-within : j < length ws → j + 1 + nodeCount (getD ws j 0) ≤ length ws
+    pairing-within h = sound-of n ws j (P .few) h (P .good) .within
+
+    pub pairing-step : j < length ws → total + nodeCount (getD ws j 0) * (nodeCount (getD ws j 0) - 1) ≤ 32768
+        → Pairing n ws (j + 1 + nodeCount (getD ws j 0)) (total + nodeCount (getD ws j 0) * (nodeCount (getD ws j 0) - 1))
+    unfolding orderedPairs
+    pairing-step h small = record {
+      few = P .few;
       small = small;
-      good = refusal-none n ws j h (S .good) .1;
-      at = omega (arith, S .at, ap squares (elements-next ws j h), ap (λ (k : ℕ). k * k) nodes);
+      good = refusal-none n ws j h (P .good) .1;
+      at = omega (arith, P .at, ap orderedPairs (elements-next ws j h), ap (λ (k : ℕ). k * (k - 1)) nodes);
     }
       where
         nodes : length (take (nodeCount (getD ws j 0)) (drop (j + 1) ws)) ≡ nodeCount (getD ws j 0)
-        nodes = length-take-le (nodeCount (getD ws j 0)) (drop (j + 1) ws) (omega (arith, squaring-within h, length-drop (j + 1) ws))
+        nodes = length-take-le (nodeCount (getD ws j 0)) (drop (j + 1) ws) (omega (arith, pairing-within h, length-drop (j + 1) ws))
 
-    pub squaring-done : length ws ≤ j → squares (elements ws) ≤ 32768
-    unfolding squares
-    squaring-done h = omega (arith, S .at, S .small, ap squares (elements-over ws j h), none-left)
+    pub pairing-done : length ws ≤ j → orderedPairs (elements ws) ≤ 32768
+    unfolding orderedPairs
+    pairing-done h = omega (arith, P .at, P .small, ap orderedPairs (elements-over ws j h), none-left)
       where
-        none-left : squares [] ≡ 0
+        none-left : orderedPairs [] ≡ 0
         none-left = refl

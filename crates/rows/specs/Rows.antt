@@ -1,5 +1,5 @@
 -- The rows of a mesh's graph, and what the first rows fill. Assumes nothing.
-use Prim.Native.Nat.{ℕ, _*_, _≤_, _<_}
+use Prim.Native.Nat.{ℕ, _*_, _-_, _≤_, _<_}
 use mathlib.Core.Path.{_≡_}
 use mathlib.Core.List.{List, map}
 use lib.ListN.{length}
@@ -14,9 +14,9 @@ use Rattle.rowset.specs.Set.{Empty}
 unfoldable pub entriesTo : Graph → ℕ → ℕ
 entriesTo g i = sum (map (degree g) (upFrom 1 i))
 
--- the squares of the elements' node counts, added up
-unfoldable pub squares : List (List ℕ) → ℕ
-squares els = sum (map (λ e. length e * length e) els)
+-- the ordered pairs of two nodes of an element, added up over the elements
+unfoldable pub orderedPairs : List (List ℕ) → ℕ
+orderedPairs els = sum (map (λ e. length e * (length e - 1)) els)
 
 -- the two lists hold the first i rows as far as they have room, and all else is as it was where the start of row 1 was written
 pub record Laid (g : Graph) (starts₀ neighbours₀ : List ℕ) (i : ℕ) (starts neighbours : List ℕ) : Type 0 where
