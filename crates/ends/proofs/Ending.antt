@@ -8,7 +8,7 @@ use lib.ListN.{length, take, drop, replicate, length-append, length-replicate}
 use lib.Dec.{ltb}
 use Rattle.basis.specs.Lists.{lastOr, memb}
 use Rattle.basis.proofs.Lists.{memb-here}
-use Rattle.spec.specs.Ends.{depthAt, widthAt, farthest, deeper, rootsFrom, roots, endsAt, ends}
+use Rattle.spec.specs.Ends.{depthAt, widthAt, farthest, rootsFrom, roots, endsAt, ends}
 use Rattle.spec.specs.Graph.{graphOf, sizeOf, graphRefusal, firstInE, ofNode}
 use Rattle.spec.specs.Levels.{levels, reached, part}
 use Rattle.laws.specs.Legal.{Node, LegalGraph}

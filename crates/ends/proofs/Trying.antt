@@ -26,7 +26,8 @@ use Rattle.search.specs.Queue.{Queued}
 use Rattle.search.specs.declared.shape.Rooted.{Rooted}
 use Rattle.search.proofs.Stores.{take-replicate, drop-replicate}
 use Rattle.search.proofs.Tallies.{width-most}
-use Rattle.ends.specs.Passes.{Least, half, Candidates, Tries}
+use Rattle.ends.specs.Passes.{Least, half, Candidates, narrowerOf, Tries}
+use Rattle.ends.specs.declared.shape.Tried.{Tried}
 use Rattle.ends.proofs.Areas.{slice-snoc, slice-split, second-lent, second-back, first-half, second-half}
 use Rattle.ends.proofs.Least.{least-one, least-new, least-old, chain-before, narrower-later}
 
@@ -61,8 +62,8 @@ queued-none n z =
       rest = drop-replicate n (n + n) 0 ∙ ap (λ (k : ℕ). replicate k 0) e;
     }
 
--- node is the narrowest before i, and the search from s, the last one tried, of `held` nodes, stands in the second 2n words
-pub record Trying (S N W₀ : List ℕ) (a b depth : ℕ) (W : List ℕ) (node : ℕ) (best : Rooted) (s held i : ℕ) : Type 0 where
+-- best is the narrowest before i, and the search from s, the last one tried, of `held` nodes, stands in the second 2n words
+pub record Trying (S N W₀ : List ℕ) (a b depth : ℕ) (W : List ℕ) (best : Tried) (s held i : ℕ) : Type 0 where
   pub legal : graphRefusal S N ≡ 0
   pub given : Candidates S N a b W₀
   pub full : length W ≡ length W₀
@@ -71,12 +72,13 @@ pub record Trying (S N W₀ : List ℕ) (a b depth : ℕ) (W : List ℕ) (node :
   pub to : i ≤ b
   pub flat : filterb (λ s. ltb depth (depthAt (graphOf S N) s)) (slice a i W₀) ≡ []
   pub holds : Queued (sizeOf S) held (drop (half S) W)
-  pub least : ((i ≡ a) × (best .width ≡ 65535))
-      ⊎ (Least (narrower (graphOf S N)) (slice a i W₀) node × (best ≡ rootedOf (levels (graphOf S N) node)) × Searched S N s (drop (half S) W))
+  pub no-deeper : best .deeper ≡ false
+  pub least : ((i ≡ a) × (best .search .width ≡ 65535))
+      ⊎ (Least (narrower (graphOf S N)) (slice a i W₀) (best .node) × (best .search ≡ rootedOf (levels (graphOf S N) (best .node))) × Searched S N s (drop (half S) W))
 
-pub trying-begin : {S N W : List ℕ} {a b : ℕ} (depth node : ℕ) {best : Rooted} (s : ℕ) → graphRefusal S N ≡ 0 → Candidates S N a b W → best .width ≡ 65535
-    → Trying S N W a b depth W node best s 0 a
-trying-begin {S} {N} {W} {a} depth node s z C e = record {
+pub trying-begin : {S N W : List ℕ} {a b : ℕ} (depth : ℕ) {best : Tried} (s : ℕ) → graphRefusal S N ≡ 0 → Candidates S N a b W
+    → best .deeper ≡ false → best .search .width ≡ 65535 → Trying S N W a b depth W best s 0 a
+trying-begin {S} {N} {W} {a} depth s z C f e = record {
   legal = z;
   given = C;
   full = refl;
@@ -85,10 +87,11 @@ trying-begin {S} {N} {W} {a} depth node s z C e = record {
   to = omega (arith, C .some);
   flat = ap (filterb (λ s. ltb depth (depthAt (graphOf S N) s))) (slice-empty a W);
   holds = queued-none (sizeOf S) (C .blank);
+  no-deeper = f;
   least = inl (refl, e);
 }
 
-module _ {S N W₀ : List ℕ} {a b depth : ℕ} {W : List ℕ} {node : ℕ} {best : Rooted} {s held i : ℕ} (I : Trying S N W₀ a b depth W node best s held i) where
+module _ {S N W₀ : List ℕ} {a b depth : ℕ} {W : List ℕ} {best : Tried} {s held i : ℕ} (I : Trying S N W₀ a b depth W best s held i) where
   abbrev test : ℕ → Bool
   test s = ltb depth (depthAt (graphOf S N) s)
 
@@ -173,17 +176,17 @@ module _ {S N W₀ : List ℕ} {a b depth : ℕ} {W : List ℕ} {node : ℕ} {be
             ∙ ap (λ (x : Bool). consIf x (getD W i 0) []) t
 
         -- the one found so far comes before it in E, so that the widths decide
-        by-width : Least (narrower (graphOf S N)) (slice a i W₀) node → best ≡ rootedOf (levels (graphOf S N) node)
-            → narrower (graphOf S N) (getD W i 0) node ≡ ltb (r .width) (best .width)
+        by-width : Least (narrower (graphOf S N)) (slice a i W₀) (best .node) → best .search ≡ rootedOf (levels (graphOf S N) (best .node))
+            → narrower (graphOf S N) (getD W i 0) (best .node) ≡ ltb (r .width) (best .search .width)
         unfolding widthAt
         by-width L q =
-            narrower-later (graphOf S N) node (getD W i 0)
-            (chain-before (E-order (graphOf S N)) (slice a i W₀) (getD W i 0) (slice (i + 1) b W₀) (sym (ap (chainb (beforeE (graphOf S N))) split) ∙ I .given .sorted) node (L .member))
+            narrower-later (graphOf S N) (best .node) (getD W i 0)
+            (chain-before (E-order (graphOf S N)) (slice a i W₀) (getD W i 0) (slice (i + 1) b W₀) (sym (ap (chainb (beforeE (graphOf S N))) split) ∙ I .given .sorted) (best .node) (L .member))
             ∙ (λ j. ltb (width-is j) (sym (ap (λ x. x .width) q) j))
 
-        next : {node′ held′ : ℕ} {best′ : Rooted} → held′ ≡ r .reached → Least (narrower (graphOf S N)) (slice a i W₀ ++ (getD W i 0 ∷ [])) node′
-            → best′ ≡ rootedOf (levels (graphOf S N) node′) → Trying S N W₀ a b depth (putMid (half S) (length W - half S) W X) node′ best′ (getD W i 0) held′ (i + 1)
-        next eh L q = rw (second-back (half S) W size X) record {
+        next : {held′ : ℕ} {t : Tried} → held′ ≡ r .reached → t .deeper ≡ false → Least (narrower (graphOf S N)) (slice a i W₀ ++ (getD W i 0 ∷ [])) (t .node)
+            → t .search ≡ rootedOf (levels (graphOf S N) (t .node)) → Trying S N W₀ a b depth (putMid (half S) (length W - half S) W X) t (getD W i 0) held′ (i + 1)
+        next eh f L q = rw (second-back (half S) W size X) record {
           legal = I .legal;
           given = I .given;
           full = omega (arith, length-append (take (half S) W) X, front, P .holds .full, I .given .full);
@@ -192,18 +195,9 @@ module _ {S N W₀ : List ℕ} {a b depth : ℕ} {W : List ℕ} {node : ℕ} {be
           to = omega arith;
           flat = flat-next;
           holds = rw (second-half (half S) (take (half S) W) X front, eh ∙ ap (λ x. x .reached) e) (P .holds);
+          no-deeper = f;
           least = inr (rw snoc L, q, rw (second-half (half S) (take (half S) W) X front) P);
         }
-
-        pub trying-new : {held′ : ℕ} → held′ ≡ r .reached → r .width < best .width
-            → Trying S N W₀ a b depth (putMid (half S) (length W - half S) W X) (getD W i 0) r (getD W i 0) held′ (i + 1)
-        trying-new eh w =
-            ⊎-elim
-            (λ p.
-            let z : slice a i W₀ ≡ [] = ap (λ (k : ℕ). slice a k W₀) (p .0) ∙ slice-empty a W₀ in
-            next eh (rw z (least-one (narrower (graphOf S N)) (getD W i 0))) e)
-            (λ p. next eh (least-new (narrower-order (graphOf S N)) (p .0) (getD W i 0) (by-width (p .0) (p .1) ∙ lt-ltb (r .width) (best .width) w)) e)
-            (I .least)
 
         narrow : r .width ≤ 4096
         unfolding widthAt
@@ -219,37 +213,53 @@ module _ {S N W₀ : List ℕ} {a b depth : ℕ} {W : List ℕ} {node : ℕ} {be
               starts-of (passed S N (I .legal)) .few,
             )
 
-        pub trying-old : {held′ : ℕ} → held′ ≡ r .reached → best .width ≤ r .width
-            → Trying S N W₀ a b depth (putMid (half S) (length W - half S) W X) node best (getD W i 0) held′ (i + 1)
-        trying-old eh w =
+        -- it is narrower
+        new : ltb (r .width) (best .search .width) ≡ true → Least (narrower (graphOf S N)) (slice a i W₀ ++ (getD W i 0 ∷ [])) (getD W i 0)
+        new w =
             ⊎-elim
-            (λ p. absurd (omega (arith, p .1, narrow)))
-            (λ p. next eh (least-old (narrower-order (graphOf S N)) (p .0) (getD W i 0) (by-width (p .0) (p .1) ∙ le-ltb (r .width) (best .width) w)) (p .1))
+            (λ p.
+            let z : slice a i W₀ ≡ [] = ap (λ (k : ℕ). slice a k W₀) (p .0) ∙ slice-empty a W₀ in
+            rw z (least-one (narrower (graphOf S N)) (getD W i 0)))
+            (λ p. least-new (narrower-order (graphOf S N)) (p .0) (getD W i 0) (by-width (p .0) (p .1) ∙ w))
             (I .least)
+
+        -- it is not, so that there is one before it
+        old : ltb (r .width) (best .search .width) ≡ false
+            → Least (narrower (graphOf S N)) (slice a i W₀ ++ (getD W i 0 ∷ [])) (best .node) × (best .search ≡ rootedOf (levels (graphOf S N) (best .node)))
+        old w =
+            ⊎-elim
+            (λ p. absurd (true≢false (sym (lt-ltb (r .width) (best .search .width) (omega (arith, p .1, narrow))) ∙ w)))
+            (λ p. (least-old (narrower-order (graphOf S N)) (p .0) (getD W i 0) (by-width (p .0) (p .1) ∙ w), p .1))
+            (I .least)
+
+        pub trying-next : {held′ : ℕ} {t : Tried} → held′ ≡ r .reached → t ≡ narrowerOf best (getD W i 0) r
+            → Trying S N W₀ a b depth (putMid (half S) (length W - half S) W X) t (getD W i 0) held′ (i + 1)
+        trying-next eh et =
+            rw et (by-test (ltb (r .width) (best .search .width)) (λ w. rw w (next eh refl (new w) e)) (λ w. rw w (next eh (I .no-deeper) (old w .0) (old w .1))))
 
   -- all are tried
   module _ (h : b ≤ i) where
-    at-end : Least (narrower (graphOf S N)) (slice a b W₀) node × (best ≡ rootedOf (levels (graphOf S N) node)) × Searched S N s (drop (half S) W)
+    at-end : Least (narrower (graphOf S N)) (slice a b W₀) (best .node) × (best .search ≡ rootedOf (levels (graphOf S N) (best .node))) × Searched S N s (drop (half S) W)
     at-end =
         let e : i ≡ b = omega (arith, I .to) in
         ⊎-elim (λ p. absurd (omega (arith, p .0, I .given .some))) (λ p. (rw e at (p .0), p .1, p .2)) (I .least)
 
-    pub end-node : (1 ≤ node) × (node ≤ sizeOf S)
-    end-node = I .given .nodes node (at-end .0 .member)
+    pub end-node : (1 ≤ best .node) × (best .node ≤ sizeOf S)
+    end-node = I .given .nodes (best .node) (at-end .0 .member)
 
-    pub end-few : length (part (graphOf S N) node) ≤ b - sizeOf S
-    end-few = I .given .few node (at-end .0 .member)
+    pub end-few : length (part (graphOf S N) (best .node)) ≤ b - sizeOf S
+    end-few = I .given .few (best .node) (at-end .0 .member)
 
     pub end-lent : Searched S N s lent
     end-lent = rw lent-is (at-end .2)
 
-    pub trying-done : {X : List ℕ} → Searched S N node X
-        → Tries S N (slice a b W₀) depth W₀ (putMid (half S) (length W - half S) W X) (record { deeper = false; node = node; search = best })
+    pub trying-done : {X : List ℕ} → Searched S N (best .node) X
+        → Tries S N (slice a b W₀) depth W₀ (putMid (half S) (length W - half S) W X) best
     trying-done {X} P =
         let e : i ≡ b = omega (arith, I .to) in
         rw (second-back (half S) W size X) record {
           same = first-half (half S) (take (half S) W) X front ∙ I .same;
-          deep = λ y. absurd (true≢false (sym y));
+          deep = λ y. absurd (true≢false (sym y ∙ I .no-deeper));
           flat = λ y. record {
             none = ap (λ (k : ℕ). filterb test (slice a k W₀)) (sym e) ∙ I .flat;
             least = at-end .0;

@@ -1,7 +1,7 @@
 -- What the functions of the end search ask and leave, on 4n words: the search from v in the first 2n, that from an s in the second.
 -- Assumes nothing.
 use mathlib.Core.Path.{_≡_}
-use mathlib.Core.Bool.{Bool, true, false}
+use mathlib.Core.Bool.{Bool, true, false, cond}
 use mathlib.Core.List.{List, [], _∷_}
 use Prim.Native.Nat.{ℕ, _+_, _-_, _≤_, _<_}
 use lib.ListN.{length, take, drop, replicate}
@@ -38,6 +38,10 @@ pub record Candidates (S N : List ℕ) (a b : ℕ) (W : List ℕ) : Type 0 where
   pub few : (q : ℕ) → memb q (slice a b W) ≡ true → length (part (graphOf S N) q) ≤ b - sizeOf S
   pub sorted : chainb (beforeE (graphOf S N)) (slice a b W) ≡ true
   pub blank : drop (half S) W ≡ replicate (half S) 0
+
+-- the s so far of least width, after the search r from the next s: a later s must be narrower
+abbrev pub narrowerOf : Tried → ℕ → Rooted → Tried
+narrowerOf best s r = cond (ltb (r .width) (best .search .width)) (record { deeper = false; node = s; search = r }) best
 
 -- t is the first of T that is deeper, and its search stands in the second 2n words
 pub record FirstDeeper (S N T : List ℕ) (depth : ℕ) (W : List ℕ) (t : Tried) : Type 0 where

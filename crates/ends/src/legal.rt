@@ -2,18 +2,18 @@
 // s of v's last level in the others. The words are 0 before, and afterwards they have the searches from v and from u.
 ghost use mathlib.Core.Path.{_≡_};
 ghost use mathlib.Core.List.{List, _++_};
-ghost use Prim.Native.Nat.{ℕ, _+_, _≤_, _<_};
-ghost use lib.ListN.{length, take, drop, replicate};
+ghost use Prim.Native.Nat.{ℕ, _+_, _≤_};
+ghost use lib.ListN.{length, drop, replicate};
 ghost use lib.Seq.{slice};
 ghost use Rattle.spec.specs.Graph.{graphOf, sizeOf, graphRefusal, firstInE};
-ghost use Rattle.spec.specs.Levels.{levels, part, reached};
-ghost use Rattle.spec.specs.Ends.{ends, farthest};
+ghost use Rattle.spec.specs.Levels.{levels, part};
+ghost use Rattle.spec.specs.Ends.{ends};
 ghost use Rattle.laws.specs.Legal.{Starts};
 ghost use Rattle.search.specs.Answer.{rootedOf, Searched};
 ghost use Rattle.search.specs.Queue.{Queued};
 ghost use Rattle.sorting.specs.Nodes.{Nodes};
 ghost use Rattle.ends.specs.Answer.{foundOf, Ended};
-ghost use Rattle.ends.specs.Passes.{Candidates, Tries, Area, Sorted, At, Passed, OnePart};
+ghost use Rattle.ends.specs.Passes.{Candidates, narrowerOf, Tries, Area, Sorted, At, Passed, OnePart};
 use crate::shape::Found;
 use crate::shape::Tried;
 use graph::legal::precedes;
@@ -102,9 +102,35 @@ fn probe_other(
     let _ = probe(starts, neighbours, u, most, held, work);
 }
 
+// The s of least width before the first is tried: wider than any search.
+const NONE_YET: Tried = Tried {
+    deeper: false,
+    node: 0,
+    search: Rooted {
+        depth: 0,
+        width: 65535,
+        reached: 0,
+        last: 0,
+    },
+};
+
+// The s so far of least width, after the search r from the next s: "ties by E", so that a later s must be narrower.
+fn narrower(best: Tried, s: u16, r: Rooted) -> Tried
+    ensures { λ t. ⌜ t ≡ narrowerOf best s r ⌝ }
+{
+    if r.width < best.search.width {
+        return Tried {
+            deeper: false,
+            node: s,
+            search: r,
+        };
+    }
+    best
+}
+
 // Steps 3 and 4 for the nodes S that stand in the words from a up to b, the queue's end, in E: stops at the first s deeper than `depth`.
-// If there is none, it is the s of least width, "ties by E": a later s must be narrower. Its search then stands in the second 2n words. A
-// search is wiped for the next one only: the s of least width is often the last, above all where S has one node.
+// If there is none, it is the s of least width. Its search then stands in the second 2n words. A search is wiped for the next one only: the
+// s of least width is often the last, above all where S has one node.
 fn try_each(
     starts: &[u16],
     neighbours: &[u16],
@@ -120,13 +146,7 @@ fn try_each(
     let n = starts.len() - 1;
     let half = n + n;
     let most = b - n;
-    let mut node = 0;
-    let mut best = Rooted {
-        depth: 0,
-        width: 65535,
-        reached: 0,
-        last: 0,
-    };
+    let mut best = NONE_YET;
     let mut s = 0;
     let mut held = 0;
     let mut i = a;
@@ -141,18 +161,12 @@ fn try_each(
             };
         }
         held = wide(r.reached);
-        if r.width < best.width {
-            node = s;
-            best = r;
-        }
+        best = narrower(best, s, r);
         i += 1;
     }
-    probe_other(starts, neighbours, s, node, most, held, &mut work[half..]);
-    Tried {
-        deeper: false,
-        node,
-        search: best,
-    }
+    let u = best.node;
+    probe_other(starts, neighbours, s, u, most, held, &mut work[half..]);
+    best
 }
 
 // "Take S in E": sorts the last level of the search r, at the end of its queue.

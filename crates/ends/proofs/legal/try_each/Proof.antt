@@ -1,6 +1,5 @@
 -- `ends::legal::try_each` meets its contract: the loop is `Trying.antt`'s. Assumes nothing.
 use mathlib.Core.Path.{refl, _∙_}
-use mathlib.Core.Logic.{⊎-elim}
 use Prim.Native.Nat.{_-_}
 use native.Mathlib.Omega.{arith}
 use lib.ListN.{length}
@@ -8,15 +7,15 @@ use borrow.Author.Needs.{needs}
 use borrow.Rule.Slice.PartMut.{same-len-mid}
 use Rattle.laws.proofs.Refused.{passed, starts-of}
 use Rattle.ends.specs.Passes.{half}
-use Rattle.ends.proofs.Trying.{Trying, trying-begin, size, fits, node-in, part-few, holds-lent, trying-deep, trying-new, trying-old, end-node, end-few, end-lent, trying-done}
+use Rattle.ends.proofs.Trying.{Trying, trying-begin, size, fits, node-in, part-few, holds-lent, trying-deep, trying-next, end-node, end-few, end-lent, trying-done}
 use Rattle.ends.proofs.legal.try_each.Statement.{statement}
 use Rattle.ends.proofs.legal.try_each.Tie as tie
 
 abbrev Inv-loop : tie.InvT-loop
-Inv-loop starts neighbours work₀ a b depth n half most node₀ best₀ s₀ held₀ i₀ work node best s held i = Trying starts neighbours work₀ a b depth work node best s held i
+Inv-loop starts neighbours work₀ a b depth n half most best₀ s₀ held₀ i₀ work best s held i = Trying starts neighbours work₀ a b depth work best s held i
 
 abbrev μ-loop : tie.MeasureT-loop
-μ-loop starts neighbours work₀ a b depth n half most node₀ best₀ s₀ held₀ i₀ work node best s held i = b - i
+μ-loop starts neighbours work₀ a b depth n half most best₀ s₀ held₀ i₀ work best s held i = b - i
 
 sub-n : tie.Need-sub-n Inv-loop μ-loop
 sub-n c = let s = c .before .before .before in omega (arith, starts-of (passed (s .args .starts .now) (s .args .neighbours .now) (s .pre .0)) .count)
@@ -28,7 +27,7 @@ sub-most : tie.Need-sub-most Inv-loop μ-loop
 sub-most c = let C = c .before .before .before .pre .1 in omega (arith, C .from, C .some)
 
 loop-holds : tie.Need-loop-holds Inv-loop μ-loop
-loop-holds c = let s = c .before .before .before in trying-begin (s .args .depth) 0 0 (s .pre .0) (s .pre .1) refl
+loop-holds c = let s = c .before .before .before in trying-begin (s .args .depth) 0 (s .pre .0) (s .pre .1) refl refl
 
 mul-s : tie.Need-mul-s Inv-loop μ-loop
 mul-s c = omega (arith, fits (c .before .loop .inv) (c .loop-test .taken))
@@ -70,22 +69,20 @@ returns c =
 wide-requires : tie.Need-wide-requires Inv-loop μ-loop
 wide-requires c κs = search needs
 
+narrower-requires : tie.Need-narrower-requires Inv-loop μ-loop
+narrower-requires c κs = search needs
+
 add-i : tie.Need-add-i Inv-loop μ-loop
-add-i c = omega (arith, fits (c .before .before .before .before .before .before .before .before .before .before .before .before .loop .inv) (c .before .before .before .before .before .before .before .before .before .before .before .loop-test .taken))
+add-i c = omega (arith, fits (c .before .before .before .before .before .before .before .before .before .before .loop .inv) (c .before .before .before .before .before .before .before .before .before .loop-test .taken))
 
 loop-less : tie.Need-loop-less Inv-loop μ-loop
-loop-less c = omega (arith, c .before .before .before .before .before .before .before .before .before .before .before .loop-test .taken)
+loop-less c = omega (arith, c .before .before .before .before .before .before .before .before .before .loop-test .taken)
 
 loop-again : tie.Need-loop-again Inv-loop μ-loop
 loop-again c =
-    let at = c .before .before .before .before .before .before .before .before in
-    let I = at .before .before .before .before .loop .inv in
-    let h = at .before .before .before .loop-test .taken in
-    let l = c .before .before .before .before .if1 .left in
-    let k = c .before .before .before .wide .ensures in
-    ⊎-elim (λ w. rw (w .1, w .2) (trying-new I h (at .probe .ensures .0) (at .probe .ensures .1) l k (w .0 .taken)))
-    (λ w. rw (w .1, w .2) (trying-old I h (at .probe .ensures .0) (at .probe .ensures .1) l k (w .0 .left)))
-    (c .if2 .came)
+    let at = c .before .before .before .before .before .before in
+    trying-next (at .before .before .before .before .loop .inv) (at .before .before .before .loop-test .taken) (at .probe .ensures .0) (at .probe .ensures .1)
+    (c .before .before .if1 .left) (c .before .wide .ensures) (c .narrower .ensures)
 
 mul-probe-other : tie.Need-mul-probe-other Inv-loop μ-loop
 mul-probe-other c = omega (arith, size (c .before .loop .inv))
@@ -138,6 +135,7 @@ try-each-spec =
     same-length
     returns
     wide-requires
+    narrower-requires
     add-i
     loop-less
     loop-again
