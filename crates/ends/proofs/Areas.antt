@@ -1,6 +1,5 @@
 -- Searches in areas: the parts of a list that are lent, and a search whose last level was put into another order. Assumes nothing.
 use mathlib.Core.Path.{_≡_, sym, ap, _∙_}
-use mathlib.Core.Bool.{true}
 use mathlib.Core.List.{List, [], _∷_, _++_, append-assoc, append-nil}
 use Prim.Native.Nat.{ℕ, _+_, _-_, _≤_, _<_}
 use native.Mathlib.Numerals.{add-one}
@@ -9,11 +8,9 @@ use lib.ListN.{length, take, drop, getD, length-append, length-drop, take-append
 use lib.Seq.{slice, take-suc, drop-cons, length-take-le, take-append-le, drop-append-le, take-take, drop-drop, take-at, drop-at, getD-take, take-all}
 use borrow.Rule.Slice.PartMut.{putMid, postOf, post-is, put-same, same-len-mid, mid-len}
 use lib.Dec.{eqb, ltb}
-use Rattle.basis.specs.Lists.{memb}
 use Rattle.basis.specs.Perm.{times, Perm}
 use Rattle.basis.proofs.Count.{count-append, bit-most}
-use Rattle.basis.proofs.Lists.{memb-append, memb-length}
-use Rattle.basis.proofs.Logic.{or-right}
+use Rattle.basis.proofs.Lists.{memb-drop, memb-length}
 use Rattle.basis.proofs.Perm.{perm-refl, perm-append, perm-trans, perm-memb, perm-length}
 use Rattle.spec.specs.Graph.{graphOf, sizeOf, graphRefusal, ofNode}
 use Rattle.spec.specs.Levels.{levels, reached, part}
@@ -76,9 +73,6 @@ module _ (m : ℕ) (X Y : List ℕ) (size : length X ≡ m) where
 
 pub slice-front : (a b : ℕ) (X Y : List ℕ) → b ≤ length X → slice a b (X ++ Y) ≡ slice a b X
 slice-front a b X Y h = ap (drop a) (take-append-le b X Y h)
-
-memb-drop : (q a : ℕ) (l : List ℕ) → memb q (drop a l) ≡ true → memb q l ≡ true
-memb-drop q a l m = sym (ap (memb q) (take-append-drop a l)) ∙ memb-append q (take a l) (drop a l) ∙ or-right (memb q (take a l)) m
 
 -- ---- the words of a search with another list X in the place of its last level
 

@@ -6,14 +6,14 @@ use mathlib.Core.List.{List, [], _∷_, _++_}
 use Prim.Native.Nat.{ℕ, _+_, _≤_, _<_}
 use native.Mathlib.Numerals.{add-one}
 use native.Mathlib.Omega.{arith}
-use lib.ListN.{length, take, drop, getD, take-append-drop}
+use lib.ListN.{length, take, getD}
 use lib.Seq.{take-suc, take-all}
 use lib.Dec.{eqb, ltb}
 use borrow.Author.Tests.{eqb-true, eqb-false}
 use Rattle.basis.specs.Lists.{chainb, headOr, memb}
 use Rattle.basis.specs.Perm.{Perm}
 use Rattle.basis.specs.Sorted.{Total}
-use Rattle.basis.proofs.Lists.{memb-here, memb-one, memb-append}
+use Rattle.basis.proofs.Lists.{memb-here, memb-one, memb-append, memb-take}
 use Rattle.basis.proofs.Logic.{by-test, clash, passes, or-split, or-left, or-right}
 use Rattle.basis.proofs.Perm.{perm-trans}
 use Rattle.basis.proofs.Sort.{chain-tail, chain-first}
@@ -81,9 +81,6 @@ pub record Running (S nodes : List ℕ) (first i : ℕ) : Type 0 where
   pub inside : Nodes (sizeOf S) nodes
   pub most : i ≤ length nodes
   pub on : (N : List ℕ) → Starts S N → Least (beforeE (graphOf S N)) (take i nodes) first
-
-memb-take : (q i : ℕ) (l : List ℕ) → memb q (take i l) ≡ true → memb q l ≡ true
-memb-take q i l m = sym (ap (memb q) (take-append-drop i l)) ∙ memb-append q (take i l) (drop i l) ∙ or-left (memb q (drop i l)) m
 
 take-more : (i : ℕ) (l : List ℕ) → i < length l → take (i + 1) l ≡ take i l ++ (getD l i 0 ∷ [])
 take-more i l h = ap (λ (m : ℕ). take m l) (add-one i) ∙ take-suc l i 0 h

@@ -12,7 +12,7 @@ use lib.Dec.{ltb}
 use borrow.Author.Tests.{lt-ltb, le-ltb}
 use borrow.Rule.Slice.PartMut.{putMid}
 use Rattle.basis.specs.Lists.{bit, chainb, filterb, memb, consIf}
-use Rattle.basis.proofs.Lists.{memb-here, memb-append}
+use Rattle.basis.proofs.Lists.{memb-here, memb-append, filter-append}
 use Rattle.basis.proofs.Logic.{by-test, or-right}
 use Rattle.spec.specs.Ends.{depthAt, widthAt, narrower}
 use Rattle.spec.specs.Graph.{graphOf, sizeOf, graphRefusal, beforeE, ofNode}
@@ -33,14 +33,7 @@ use Rattle.ends.proofs.Least.{least-one, least-new, least-old, chain-be
 
 -- a filter past elements that all fail
 filter-past : (t : ℕ → Bool) (xs ys : List ℕ) → filterb t xs ≡ [] → filterb t (xs ++ ys) ≡ filterb t ys
-filter-past t [] ys e = refl
-filter-past t (x ∷ xs) ys e =
-    by-test (t x)
-    (λ h. let z : _≡_ {A = List ℕ} (x ∷ filterb t xs) [] = rw h at e in absurd (never (x ∷ filterb t xs) refl z))
-    (λ h. rw h (filter-past t xs ys (rw h at e)))
-  where
-    never : (l : List ℕ) → l ≡ x ∷ filterb t xs → l ≡ [] → ⊥
-    never l p q = let n : length (x ∷ filterb t xs) ≡ 0 = ap length (sym p ∙ q) in omega arith
+filter-past t xs ys e = filter-append t xs ys ∙ ap (λ (l : List ℕ). l ++ filterb t ys) e
 
 zero-of : (n q : ℕ) → _≡_ {A = ℕ} (getD (replicate n 0) q 0) 0
 zero-of zero q = refl

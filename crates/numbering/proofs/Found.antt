@@ -8,18 +8,17 @@ use native.Mathlib.Numerals.{add-one}
 use native.Mathlib.Omega.{arith}
 use lib.ListN.{length, take, drop, length-append, length-map, take-append-drop}
 use lib.Seq.{take-all, take-suc, drop-cons}
-use lib.Dec.{eqb, ltb}
-use Rattle.basis.specs.Lists.{filterb, joinAll, memb, greatest, sum, position, chainb}
+use lib.Dec.{eqb}
+use Rattle.basis.specs.Lists.{filterb, joinAll, memb, greatest, sum, position}
 use Rattle.basis.specs.Perm.{times}
 use Rattle.basis.proofs.Count.{length-filter, count-append, count-length, memb-times, none-times}
 use Rattle.basis.proofs.Index.{greatest-le, position-left, position-right}
-use Rattle.basis.proofs.Lists.{map-map, map-append, map-cong, memb-append, join-make, join-last, join-append, sum-append}
+use Rattle.basis.proofs.Lists.{map-map, map-append, map-cong, memb-append, memb-take, join-make, join-last, join-append, sum-append}
 use Rattle.basis.proofs.Logic.{by-test, clash, fails, or-left, or-right, or-split, eqb-self}
 use Rattle.basis.proofs.Perm.{perm-length, perm-memb}
-use Rattle.basis.proofs.Sort.{chain-tail}
 use Rattle.spec.specs.Ends.{depthAt, ends}
 use Rattle.spec.specs.Graph.{Graph, nodes, ofNode}
-use Rattle.spec.specs.Levels.{levels, part, leads, leaders, parts}
+use Rattle.spec.specs.Levels.{part, leads, leaders, parts}
 use Rattle.spec.specs.Numbering.{PartResult, partResultBy, partResult, partResults, wholeOrder, wholeLevels}
 use Rattle.laws.specs.Legal.{Node, LegalGraph}
 use Rattle.laws.proofs.Ends.{ends-of}
@@ -44,17 +43,6 @@ take-map : {A B : Type 0} (f : A → B) (j : ℕ) (l : List A) → take j (map f
 take-map f zero l = refl
 take-map f (suc j) [] = refl
 take-map f (suc j) (x ∷ l) = ap (λ (t : List _). f x ∷ t) (take-map f j l)
-
-take-memb : (x j : ℕ) (l : List ℕ) → memb x (take j l) ≡ true → memb x l ≡ true
-take-memb x j l m = sym (ap (memb x) (take-append-drop j l)) ∙ memb-append x (take j l) (drop j l) ∙ or-left _ m
-
-pub drop-memb : (x j : ℕ) (l : List ℕ) → memb x (drop j l) ≡ true → memb x l ≡ true
-drop-memb x j l m = sym (ap (memb x) (take-append-drop j l)) ∙ memb-append x (take j l) (drop j l) ∙ or-right (memb x (take j l)) m
-
-pub rise-drop : (j : ℕ) (l : List ℕ) → chainb ltb l ≡ true → chainb ltb (drop j l) ≡ true
-rise-drop zero l e = e
-rise-drop (suc j) [] e = refl
-rise-drop (suc j) (x ∷ l) e = rise-drop j l (chain-tail ltb x l e)
 
 -- ---- one part more
 
@@ -126,7 +114,7 @@ module _ {g : Graph} (G : LegalGraph g) {j a : ℕ} (P : Walked g j a) (h : j < 
   pub order-size : length (wholeOrder (foundTo g j)) ≡ a
   unfolding wholeOrder parts
   order-size =
-      orders-length zs (λ y m. leaders-in g y (take-memb y j (leaders g) m) .0)
+      orders-length zs (λ y m. leaders-in g y (memb-take y j (leaders g) m) .0)
       ∙ sym (P .nodes ∙ ap (λ (l : List (List ℕ)). length (joinAll l)) (take-map (part g) j (leaders g)))
 
   -- no node of the part was passed
@@ -177,7 +165,7 @@ module _ {g : Graph} (G : LegalGraph g) {j a : ℕ} (P : Walked g j a) (h : j < 
   earlier : (q : ℕ) → Node g q → memb q (part g z) ≡ true → (y : ℕ) → memb y zs ≡ true → ofNode (partResult g y .levels) q ≡ 0
   unfolding wholeOrder
   earlier q N m y i =
-      let Y : Node g y = leaders-in g y (take-memb y j (leaders g) i) .0 in
+      let Y : Node g y = leaders-in g y (memb-take y j (leaders g) i) .0 in
       outside y Y q N
       (fails (memb q (part g y))
       (λ k.
@@ -186,6 +174,7 @@ module _ {g : Graph} (G : LegalGraph g) {j a : ℕ} (P : Walked g j a) (h : j < 
       ∙ join-make (λ x. partResult g x .order) zs y q i (perm-memb (part-perm G Y) q ∙ k))
       (order-new q m)))
 
+  -- so these have level 0 before their part comes
   none-yet : (q : ℕ) → Node g q → memb q (part g z) ≡ true → greatest (map (λ r. ofNode (r .levels) q) (foundTo g j)) ≡ 0
   none-yet q N m =
       omega (
@@ -193,11 +182,6 @@ module _ {g : Graph} (G : LegalGraph g) {j a : ℕ} (P : Walked g j a) (h : j < 
         ap greatest (map-map (λ r. ofNode (r .levels) q) (partResult g) zs),
         greatest-le (λ y. ofNode (partResult g y .levels) q) zs 0 (λ y i. omega (arith, earlier q N m y i)),
       )
-
-  -- so these have level 0 before their part comes
-  pub levels-new : (q : ℕ) → Node g q → memb q (part g z) ≡ true → ofNode (wholeLevels g (foundTo g j)) q ≡ 0
-  unfolding wholeLevels
-  levels-new q N m = ofNode-map g (λ z. greatest (map (λ r. ofNode (r .levels) z) (foundTo g j))) q N ∙ none-yet q N m
 
   pub levels-next : renewed g z (ofNode lv) (wholeLevels g (foundTo g j)) ≡ wholeLevels g (foundTo g (j + 1))
   unfolding renewed wholeLevels

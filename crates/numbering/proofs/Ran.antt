@@ -9,16 +9,17 @@ use lib.ListN.{length, getD, take, drop, replicate, length-append, length-map, l
 use lib.Seq.{slice, take-at, take-take, drop-at, drop-cons, getD-take, length-take-le}
 use lib.Dec.{eqb, ltb}
 use Rattle.basis.specs.Lists.{joinAll, memb, greatest, sum, position, upFrom, chainb}
-use Rattle.basis.proofs.Lists.{map-cong, upFrom-in, filter-in}
+use Rattle.basis.proofs.Lists.{map-cong, memb-drop, upFrom-in, filter-in}
 use Rattle.basis.proofs.Logic.{clash, fails, or-left, or-right, eqb-self}
 use Rattle.basis.proofs.Rise.{rise-head}
+use Rattle.basis.proofs.Sort.{chain-drop}
 use Rattle.spec.specs.Graph.{Graph, graphOf, sizeOf, graphRefusal, nodes, ofNode}
 use Rattle.spec.specs.Levels.{part, leads, leaders, parts}
 use Rattle.spec.specs.Measures.{numbersOf}
 use Rattle.spec.specs.Numbering.{PartResult, partResult, partResults, wholeOrder, wholeLevels, figuresOf, runOf, run}
 use Rattle.laws.specs.Legal.{Node, LegalGraph, Starts}
 use Rattle.laws.proofs.Legal.{ofNode-at, ofNode-map, by-node, length-nodes}
-use Rattle.laws.proofs.Levels.{part-node, part-self}
+use Rattle.laws.proofs.Levels.{part-self}
 use Rattle.laws.proofs.Parts.{leaders-in, leaders-rise, parts-apart}
 use Rattle.laws.proofs.Numberings.{number-of, numbers-length, order-memb}
 use Rattle.laws.proofs.Refused.{passed, starts-of, not-refused}
@@ -35,7 +36,7 @@ use Rattle.parts.proofs.Walk.{walk-begin, walk-end, walk-next, next-leads, next
 use Rattle.renumbering.specs.Part.{numberFrom, renewed, partFiguresOf}
 use Rattle.renumbering.specs.declared.shape.PartFigures.{PartFigures}
 use Rattle.numbering.specs.Ran.{foundTo, Ran, Summed}
-use Rattle.numbering.proofs.Found.{drop-memb, rise-drop, parts-most, sum-next, greatest-next, depth-few, passes-few, numbers-next, levels-new, levels-next, found-all, found-count}
+use Rattle.numbering.proofs.Found.{parts-most, sum-next, greatest-next, depth-few, passes-few, numbers-next, levels-next, found-all, found-count}
 
 module _ (S N : List ℕ) (legal : graphRefusal S N ≡ 0) where
   pub graph : LegalGraph (graphOf S N)
@@ -174,10 +175,10 @@ module _ {S N : List ℕ} {j a k w p : ℕ} {X L W : List ℕ} (R : Ran S N j a 
       omega (arith, rise-head z (drop (j + 1) (leaders (graphOf S N))) rises y i))
     where
       later : memb y (leaders (graphOf S N)) ≡ true
-      later = drop-memb y (j + 1) (leaders (graphOf S N)) i
+      later = memb-drop y (j + 1) (leaders (graphOf S N)) i
 
       rises : chainb ltb (z ∷ drop (j + 1) (leaders (graphOf S N))) ≡ true
-      rises = ap (chainb ltb) (sym left) ∙ rise-drop j (leaders (graphOf S N)) (leaders-rise (graphOf S N))
+      rises = ap (chainb ltb) (sym left) ∙ chain-drop ltb j (leaders (graphOf S N)) (leaders-rise (graphOf S N))
 
   -- the words that a search works in are 0
   front-blank : take (4 * n) W ≡ zeros
@@ -263,7 +264,7 @@ module _ {S N : List ℕ} {j a k w p : ℕ} {X L W : List ℕ} (R : Ran S N j a 
           sizes = λ y i.
               ap (λ (l : List ℕ). ofNode l y) x′
               ∙ ofNode-map (graphOf S N) (λ q. cond (memb q (part (graphOf S N) z)) (numberFrom a (partResult (graphOf S N) z .order) q) (ofNode X q)) y
-              (leaders-in (graphOf S N) y (drop-memb y (j + 1) (leaders (graphOf S N)) i) .0)
+              (leaders-in (graphOf S N) y (memb-drop y (j + 1) (leaders (graphOf S N)) i) .0)
               ∙ ap (λ (b : Bool). cond b (numberFrom a (partResult (graphOf S N) z .order) y) (ofNode X y)) (apart y i)
               ∙ R .sizes y (ap (memb y) left ∙ or-right (eqb y z) i);
           levels = l ∙ ap (λ (y : ℕ). renewed (graphOf S N) y (ofNode (partResult (graphOf S N) y .levels)) L) first-is
