@@ -259,8 +259,8 @@ module _ (g : Graph) (level : List ℕ) where
         settles = settle-step o (z ∷ []) r n (C .settles);
       }
 
-  -- and where none is left the level is numbered
-  pub cursor-done : {pre o r : List ℕ} → Cursor pre o (length o) r → ((q : ℕ) → memb q level ≡ true → 1 ≤ q) → leftFirst o ≡ 0 → o ≡ r
+  -- and where none is left the level is numbered, wherever the cursor is
+  pub cursor-done : {pre o r : List ℕ} {c : ℕ} → Cursor pre o c r → ((q : ℕ) → memb q level ≡ true → 1 ≤ q) → leftFirst o ≡ 0 → o ≡ r
   cursor-done {pre} {o} {r} C low e = sym (settle-done o r (left-none o low e) (C .settles))
 
   -- a level begins with what `from the level before` or v has given, and no cursor yet

@@ -190,7 +190,7 @@ fn resume(
 }
 
 // Numbers the rest of level i. Its nodes stand in the order from b on, up to t, where it ends. Leftovers come from the level's stack, on
-// which a node once numbered stays so.
+// which a node once numbered stays so. Where it has none the level is full, as most are, and the rows of its nodes are not read again.
 fn fill(
     starts: &[u16],
     neighbours: &[u16],
@@ -208,9 +208,13 @@ fn fill(
     requires { ⌜ ((P : List ℕ) × Fills (graphOf (now starts) (now neighbours)) n at t i b (now work) P) ⌝ }
     ensures { λ r. ⌜ ((P : List ℕ) → Fills (graphOf (now (starts .entry)) (now (neighbours .entry))) n at t i b (now (work .entry)) P → Became n (now (work .entry)) (filledIn (graphOf (now (starts .entry)) (now (neighbours .entry))) (ownLevels (graphOf (now (starts .entry)) (now (neighbours .entry))) P (drop at (now (work .entry)))) i (orderIn n t (now (work .entry)))) r (now (work .exit))) ⌝ }
 {
-    let mut e = spread(starts, neighbours, work, n, at, b, t, i);
     let top = work[n + n + n + (wide(i) - 1)];
-    let mut z = unmarked(work, n, top);
+    let left = unmarked(work, n, top);
+    if left == 0 {
+        return t;
+    }
+    let mut e = spread(starts, neighbours, work, n, at, b, t, i);
+    let mut z = unmarked(work, n, left);
     while z != 0 {
         e = resume(starts, neighbours, work, n, at, e, z, i);
         z = unmarked(work, n, z);
