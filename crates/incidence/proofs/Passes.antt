@@ -7,7 +7,7 @@ use Prim.Native.Nat.{ℕ, zero, suc, _+_, _*_, _≤_, _<_}
 use native.Mathlib.Omega.{arith}
 use lib.ListN.{length, getD, take, drop, replicate, length-drop, length-replicate, getD-replicate, List·getD-append, drop-of-length-le}
 use lib.Dec.{eqb, ltb}
-use borrow.Author.Tests.{eqb-false, ltb-false}
+use borrow.Author.Tests.{ne-eqb, eqb-false, ltb-false}
 use Rattle.basis.specs.Lists.{anyb, memb}
 use Rattle.basis.proofs.Index.{memb-getD}
 use Rattle.basis.proofs.Lists.{any-none}
@@ -69,6 +69,11 @@ module _ (at base rows : ℕ) (nodes before : List ℕ) (cell : ℕ) where
           ∙ ap (λ (x : List ℕ). E .hit k || memb (base + suc k) x) (sym (drop-next nodes j h))
           ∙ E .rest k l;
     }
+
+    -- a node whose place is past all rows
+    pub entering-past : j < length nodes → (row : ℕ) → ((k : ℕ) → k < rows → eqb (base + suc k) (getD nodes j 0) ≡ eqb k row) → rows ≤ row
+        → Entering at base rows nodes before cell (j + 1) after free
+    entering-past h row e past = entering-step h row e after free (entered-none (E .entered .cells) (λ k l. ne-eqb k row (λ s. absurd (omega (arith, s)))))
 
     pub entering-done : length nodes ≤ j → Entered at rows (λ k. memb (base + suc k) nodes) before cell after free
     entering-done h =

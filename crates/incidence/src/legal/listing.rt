@@ -9,14 +9,12 @@ ghost use Rattle.basis.specs.Lists.{memb};
 ghost use Rattle.spec.specs.Mesh.{elementsRefusal};
 ghost use Rattle.incidence.specs.Cells.{Cells, pushed, Entered, Listed};
 
-// The place of row p among the rows after base, `rows` for a row that is none of them.
-fn row_of(p: usize, base: usize, rows: usize) -> usize
-    ensures { λ r. ⌜ (r ≤ rows) × ((k : ℕ) → k < rows → eqb (base + suc k) p ≡ eqb k r) ⌝ }
+// The place of row p among those after base. The difference wraps: a row up to base gets a place past all rows, so one test tells. No word is
+// above 65,535, so a base up there is as good as that.
+fn row_of(p: u16, base: usize) -> usize
+    ensures { λ r. ⌜ ((k : ℕ) → k < 4096 → eqb (base + suc k) p ≡ eqb k r) ⌝ }
 {
-    if p <= base {
-        return rows;
-    }
-    words::smaller(p - base - 1, rows)
+    std::num::wrapping_sub_usize(words::wide(p), words::smaller(base, 65535) + 1)
 }
 
 // Puts a position in front of the list of a row, as this cell.
@@ -31,14 +29,11 @@ fn push(lists: &mut [u16], row: usize, rows: usize, cell: usize, at: u16)
     lists[row] = cell as u16;
 }
 
-// Enters a position in the list of a row, if it is one; returns the cell that is free then, 0 where the words are full.
+// Enters a position in the list of a row; returns the cell that is free then, 0 where the words are full.
 fn enter_row(lists: &mut [u16], row: usize, rows: usize, cell: usize, at: u16) -> usize
-    requires { ⌜ (length (now lists) ≤ 4096) × Cells rows (now lists) cell ⌝ }
+    requires { ⌜ (length (now lists) ≤ 4096) × Cells rows (now lists) cell × (row < rows) ⌝ }
     ensures { λ r. ⌜ ((r ≡ 0 → ⊥) → Entered at rows (λ k. eqb k row) (now (lists .entry)) cell (now (lists .exit)) r) ⌝ }
 {
-    if rows <= row {
-        return cell;
-    }
     let next = cell + 1;
     if lists.len() < rows + 2 * next {
         return 0;
@@ -47,7 +42,8 @@ fn enter_row(lists: &mut [u16], row: usize, rows: usize, cell: usize, at: u16) -
     next
 }
 
-// Enters the position of an element in the list of each of its nodes that is one of the rows after base.
+// Enters the position of an element in the list of each of its nodes that is one of the rows after base. Most nodes are none of them, in no
+// order that could be foreseen: one test passes them by.
 fn enter(lists: &mut [u16], nodes: &[u16], at: u16, base: usize, rows: usize, cell: usize) -> usize
     requires { ⌜ (length (now lists) ≤ 4096) × Cells rows (now lists) cell ⌝ }
     ensures { λ r. ⌜ ((r ≡ 0 → ⊥) → Entered at rows (λ k. memb (base + suc k) (now (nodes .entry))) (now (lists .entry)) cell (now (lists .exit)) r) ⌝ }
@@ -55,10 +51,12 @@ fn enter(lists: &mut [u16], nodes: &[u16], at: u16, base: usize, rows: usize, ce
     let mut free = cell;
     let mut j = 0;
     while j < nodes.len() {
-        let row = row_of(words::wide(nodes[j]), base, rows);
-        free = enter_row(lists, row, rows, free, at);
-        if free == 0 {
-            return 0;
+        let row = row_of(nodes[j], base);
+        if row < rows {
+            free = enter_row(lists, row, rows, free, at);
+            if free == 0 {
+                return 0;
+            }
         }
         j += 1;
     }

@@ -1,5 +1,5 @@
 -- `incidence::legal::listing::row_of` meets its contract. Assumes nothing.
-use Prim.Native.Nat.{ℕ, suc, _+_, _-_, _<_, min}
+use Prim.Native.Nat.{ℕ, suc, _+_, _%_, _^_, _<_, min}
 use mathlib.Core.Path.{_≡_, sym, ap, _∙_}
 use native.Mathlib.Omega.{arith}
 use borrow.Author.Needs.{needs}
@@ -9,25 +9,18 @@ use Rattle.basis.proofs.Logic.{by-test}
 use Rattle.incidence.proofs.legal.listing.row_of.Statement.{statement}
 use Rattle.incidence.proofs.legal.listing.row_of.Tie as tie
 
--- the row's place
-place : (p base rows k : ℕ) → base < p → k < rows → eqb (base + suc k) p ≡ eqb k (min (p - base - 1) rows)
-place p base rows k h l =
-    by-test (eqb k (min (p - base - 1) rows)) (λ e. eq-eqb (base + suc k) p (omega (arith, eqb-true k (min (p - base - 1) rows) e)) ∙ sym e)
-    (λ e. ne-eqb (base + suc k) p (λ s. eqb-false k (min (p - base - 1) rows) e (omega (arith, s))) ∙ sym e)
+-- a difference that wraps tells the place
+place : (p base r k : ℕ) → p < 65536 → k < 4096 → r < 2 ^ 64 → (r + (min base 65535 + 1)) % 2 ^ 64 ≡ p → eqb (base + suc k) p ≡ eqb k r
+place p base r k h l f w =
+    by-test (eqb k r) (λ e. eq-eqb (base + suc k) p (omega (arith, eqb-true k r e, w)) ∙ sym e)
+    (λ e. ne-eqb (base + suc k) p (λ s. eqb-false k r e (omega (arith, s, w))) ∙ sym e)
 
 returns : tie.Need-returns
 returns c =
-    let a = c .before .args in (
-      omega arith,
-      λ k l. ne-eqb (a .base + suc k) (a .p) (λ e. absurd (omega (arith, e))) ∙ sym (ne-eqb k (a .rows) (λ e. absurd (omega (arith, e)))),
-    )
-
-returns-2 : tie.Need-returns-2
-returns-2 c =
-    let a = c .before .before .args in (
-      omega (arith, c .smaller .ensures),
-      λ k l. place (a .p) (a .base) (a .rows) k (omega arith) l ∙ ap (eqb k) (sym (c .smaller .ensures)),
-    )
+    let a = c .before .before .before .args in
+    let d = c .wrapping-sub-usize in
+    λ k l.
+    place (a .p) (a .base) (d .result) k (c .before .before .before .fits .p .fits) l (d .ok) (ap (λ (m : ℕ). (d .result + (m + 1)) % 2 ^ 64) (sym (c .before .smaller .ensures)) ∙ d .ensures ∙ c .before .before .wide .ensures)
 
 pub row-of-spec : {M : Type 1} → statement M
-row-of-spec = tie.close (tie.spec returns (λ c. omega arith) (λ c. omega arith) (λ c. search needs) returns-2)
+row-of-spec = tie.close (tie.spec (λ c κs. search needs) (λ c κs. search needs) (λ c. omega (arith, c .smaller .ensures)) (λ c κs. search needs) returns)
