@@ -5,7 +5,7 @@ use mathlib.Core.List.{List, _∷_, _++_, map, append-assoc}
 use Prim.Native.Nat.{ℕ, suc, _+_, _-_, _*_, _≤_, _<_, max}
 use native.Mathlib.Numerals.{add-one}
 use native.Mathlib.Omega.{arith}
-use lib.ListN.{length, getD, take, drop, replicate, length-append, length-map, length-replicate, getD-replicate}
+use lib.ListN.{length, getD, set, take, drop, replicate, length-append, length-map, length-replicate, getD-replicate}
 use lib.Seq.{slice, take-at, take-take, drop-at, drop-cons, getD-take, length-take-le}
 use lib.Dec.{eqb, ltb}
 use Rattle.basis.specs.Lists.{joinAll, memb, greatest, sum, position, upFrom, chainb}
@@ -35,7 +35,9 @@ use Rattle.parts.proofs.Leads.{parts-length}
 use Rattle.parts.proofs.Walk.{walk-begin, walk-end, walk-next, next-leads, next-node, next-some, next-fits, scratch-first, scratch-part}
 use Rattle.renumbering.specs.Part.{numberFrom, renewed, partFiguresOf}
 use Rattle.renumbering.specs.declared.shape.PartFigures.{PartFigures}
-use Rattle.numbering.specs.Ran.{foundTo, Ran, Summed}
+use Rattle.renumbering.proofs.Single.{figures-one, numbers-one, levels-one}
+use Rattle.numbering.specs.Ran.{foundTo, added, Ran, Summed}
+use Rattle.numbering.specs.declared.legal.Tally.{Tally}
 use Rattle.numbering.proofs.Found.{parts-most, sum-next, greatest-next, depth-few, passes-few, numbers-next, levels-next, found-all, found-count}
 
 module _ (S N : List ℕ) (legal : graphRefusal S N ≡ 0) where
@@ -226,21 +228,19 @@ module _ {S N : List ℕ} {j a k w p : ℕ} {X L W : List ℕ} (R : Ran S N j a 
   pub few : n ≤ 4096
   few = starts S N (R .legal) .few
 
-  pub parts-few : j < 4096
+  parts-few : j < 4096
   parts-few = omega (arith, few, parts-most (graphOf S N), h)
 
-  module _ {f : PartFigures} {W′ : List ℕ} (e : W′ ≡ W) (f-is : f ≡ partFiguresOf (partResult (graphOf S N) (firstOf (sizeOf S) a (wordsOf (sizeOf S) W′)) .report)) where
-    first-is : firstOf (sizeOf S) a (wordsOf (sizeOf S) W′) ≡ z
-    first-is = ap (λ (l : List ℕ). firstOf n a (wordsOf n l)) e ∙ first-word
+  pub sums-fit : {t d e : ℕ} → t ≡ m → d ≤ 4096 → e ≤ 4096 → ((j < 4096) × (a + t ≤ 4096)) × ((k + d ≤ 4096 * 4096) × (p + e ≤ 4096 * 4096))
+  sums-fit s d e = ((parts-few, omega (arith, fits, few)), (omega (arith, R .few-levels, parts-few), omega (arith, R .few-passes, parts-few)))
 
-    figures-are : f ≡ partFiguresOf (partResult (graphOf S N) z .report)
-    figures-are = f-is ∙ ap (λ (x : ℕ). partFiguresOf (partResult (graphOf S N) x .report)) first-is
-
+  -- with the figures, numbers and levels that the definition gives it
+  module _ {f : PartFigures} (f-is : f ≡ partFiguresOf (partResult (graphOf S N) z .report)) where
     k-is : f .k ≡ partResult (graphOf S N) z .report .k
-    k-is = ap (λ (x : PartFigures). x .k) figures-are
+    k-is = ap (λ (x : PartFigures). x .k) f-is
 
     passes-are : f .passes ≡ partResult (graphOf S N) z .report .passes
-    passes-are = ap (λ (x : PartFigures). x .passes) figures-are
+    passes-are = ap (λ (x : PartFigures). x .passes) f-is
 
     pub k-few : f .k ≤ 4096
     k-few = omega (arith, k-is, depth-few G (R .walked) h, few)
@@ -248,30 +248,25 @@ module _ {S N : List ℕ} {j a k w p : ℕ} {X L W : List ℕ} (R : Ran S N j a 
     pub passes-low : f .passes ≤ 4096
     passes-low = omega (arith, passes-are, k-is, k-few, passes-few G (R .walked) h)
 
-    pub ran-step : {t w′ : ℕ} {X′ L′ : List ℕ} → t ≡ m → w′ ≡ max w (f .width)
-        → X′ ≡ renewed (graphOf S N) (firstOf (sizeOf S) a (wordsOf (sizeOf S) W′)) (numberFrom a (partResult (graphOf S N) (firstOf (sizeOf S) a (wordsOf (sizeOf S) W′)) .order)) X
-        → L′ ≡ renewed (graphOf S N) (firstOf (sizeOf S) a (wordsOf (sizeOf S) W′)) (ofNode (partResult (graphOf S N) (firstOf (sizeOf S) a (wordsOf (sizeOf S) W′)) .levels)) L
-        → Ran S N (j + 1) (a + t) (k + f .k) w′ (p + f .passes) X′ L′ W
+    pub ran-next : {t : ℕ} {X′ L′ : List ℕ} → t ≡ m → X′ ≡ renewed (graphOf S N) z (numberFrom a (partResult (graphOf S N) z .order)) X
+        → L′ ≡ renewed (graphOf S N) z (ofNode (partResult (graphOf S N) z .levels)) L
+        → Ran S N (j + 1) (a + t) (k + f .k) (max w (f .width)) (p + f .passes) X′ L′ W
     unfolding renewed
-    ran-step {t} {w′} {X′} {L′} t-is w-is x l =
-        let x′ : X′ ≡ renewed (graphOf S N) z (numberFrom a (partResult (graphOf S N) z .order)) X =
-        x ∙ ap (λ (y : ℕ). renewed (graphOf S N) y (numberFrom a (partResult (graphOf S N) y .order)) X) first-is in
+    ran-next {t} {X′} {L′} t-is x l =
         record {
           legal = R .legal;
           walked = subst (λ (y : ℕ). Walked (graphOf S N) (j + 1) (a + y)) (sym t-is) (walk-next G (R .walked) h);
-          room = ap length x′ ∙ length-map (nodes (graphOf S N)) (λ q. cond (memb q (part (graphOf S N) z)) (numberFrom a (partResult (graphOf S N) z .order) q) (ofNode X q)) ∙ length-nodes (graphOf S N);
-          numbers = λ q A i. ap (λ (y : List ℕ). ofNode y q) x′ ∙ numbers-next G (R .walked) h X (R .numbers) q A i;
+          room = ap length x ∙ length-map (nodes (graphOf S N)) (λ q. cond (memb q (part (graphOf S N) z)) (numberFrom a (partResult (graphOf S N) z .order) q) (ofNode X q)) ∙ length-nodes (graphOf S N);
+          numbers = λ q A i. ap (λ (y : List ℕ). ofNode y q) x ∙ numbers-next G (R .walked) h X (R .numbers) q A i;
           sizes = λ y i.
-              ap (λ (l : List ℕ). ofNode l y) x′
+              ap (λ (l : List ℕ). ofNode l y) x
               ∙ ofNode-map (graphOf S N) (λ q. cond (memb q (part (graphOf S N) z)) (numberFrom a (partResult (graphOf S N) z .order) q) (ofNode X q)) y
               (leaders-in (graphOf S N) y (memb-drop y (j + 1) (leaders (graphOf S N)) i) .0)
               ∙ ap (λ (b : Bool). cond b (numberFrom a (partResult (graphOf S N) z .order) y) (ofNode X y)) (apart y i)
               ∙ R .sizes y (ap (memb y) left ∙ or-right (eqb y z) i);
-          levels = l ∙ ap (λ (y : ℕ). renewed (graphOf S N) y (ofNode (partResult (graphOf S N) y .levels)) L) first-is
-              ∙ ap (renewed (graphOf S N) z (ofNode (partResult (graphOf S N) z .levels))) (R .levels)
-              ∙ levels-next G (R .walked) h;
+          levels = l ∙ ap (renewed (graphOf S N) z (ofNode (partResult (graphOf S N) z .levels))) (R .levels) ∙ levels-next G (R .walked) h;
           depths = omega (arith, R .depths, k-is, sum-next G (R .walked) h (λ r. r .report .k));
-          widest = w-is ∙ omega (arith, R .widest, ap (λ (x : PartFigures). x .width) figures-are, greatest-next G (R .walked) h (λ r. r .report .width));
+          widest = omega (arith, R .widest, ap (λ (x : PartFigures). x .width) f-is, greatest-next G (R .walked) h (λ r. r .report .width));
           passes = omega (arith, R .passes, passes-are, sum-next G (R .walked) h (λ r. r .report .passes));
           few-levels = omega (arith, R .few-levels, k-few);
           few-passes = omega (arith, R .few-passes, passes-low);
@@ -279,6 +274,41 @@ module _ {S N : List ℕ} {j a k w p : ℕ} {X L W : List ℕ} (R : Ran S N j a 
           full = R .full;
           blank = R .blank;
         }
+
+  -- a part of one node
+  module _ (one : 1 ≡ m) where
+    lone-figures : record { k = 1; width = 1; passes = 1 } ≡ partFiguresOf (partResult (graphOf S N) z .report)
+    lone-figures = figures-one G Z (sym one)
+
+    pub ran-lone : {q : ℕ} {X′ L′ : List ℕ} → q ≡ getD W (4 * n + a) 0 → X′ ≡ set X (q - 1) (a + 1) → L′ ≡ set L (q - 1) 1
+        → Ran S N (j + 1) (a + 1) (k + 1) (max w 1) (p + 1) X′ L′ W
+    ran-lone e x l =
+        let s = e ∙ lowest-is in
+        ran-next lone-figures one
+        (x ∙ ap (λ (y : ℕ). set X (y - 1) (a + 1)) s ∙ numbers-one G Z (sym one) a X (R .room))
+        (l ∙ ap (λ (y : ℕ). set L (y - 1) 1) s ∙ levels-one G Z (sym one) L (levels-size R))
+
+  -- any part, named by its first word
+  module _ {f : PartFigures} (f-is : f ≡ partFiguresOf (partResult (graphOf S N) (firstOf (sizeOf S) a (wordsOf (sizeOf S) W)) .report)) where
+    pub part-figures : f ≡ partFiguresOf (partResult (graphOf S N) z .report)
+    part-figures = f-is ∙ ap (λ (x : ℕ). partFiguresOf (partResult (graphOf S N) x .report)) first-word
+
+    pub ran-part : {t : ℕ} {X′ L′ : List ℕ} → t ≡ m
+        → X′ ≡ renewed (graphOf S N) (firstOf (sizeOf S) a (wordsOf (sizeOf S) W)) (numberFrom a (partResult (graphOf S N) (firstOf (sizeOf S) a (wordsOf (sizeOf S) W)) .order)) X
+        → L′ ≡ renewed (graphOf S N) (firstOf (sizeOf S) a (wordsOf (sizeOf S) W)) (ofNode (partResult (graphOf S N) (firstOf (sizeOf S) a (wordsOf (sizeOf S) W)) .levels)) L
+        → Ran S N (j + 1) (a + t) (k + f .k) (max w (f .width)) (p + f .passes) X′ L′ W
+    ran-part t-is x l =
+        ran-next part-figures t-is (x ∙ ap (λ (y : ℕ). renewed (graphOf S N) y (numberFrom a (partResult (graphOf S N) y .order)) X) first-word)
+        (l ∙ ap (λ (y : ℕ). renewed (graphOf S N) y (ofNode (partResult (graphOf S N) y .levels)) L) first-word)
+
+-- and as it is summed up
+pub ran-added : {S N : List ℕ} {a : ℕ} {X L W : List ℕ} (t : Tally) (m : ℕ) (f : PartFigures) {r : Tally} → a ≡ t .nodes → r ≡ added t m f
+    → Ran S N (t .parts + 1) (a + m) (t .levels + f .k) (max (t .width) (f .width)) (t .passes + f .passes) X L W
+    → (r .parts ≡ t .parts + 1) × Ran S N (r .parts) (r .nodes) (r .levels) (r .width) (r .passes) X L W
+ran-added {S} {N} {a} {X} {L} {W} t m f e s R =
+    let R′ : Ran S N (t .parts + 1) (t .nodes + m) (t .levels + f .k) (max (t .width) (f .width)) (t .passes + f .passes) X L W =
+    ran-at (ap (λ (x : ℕ). x + m) (sym e)) R in
+    (ap (λ (y : Tally). y .parts) s, subst (λ (y : Tally). Ran S N (y .parts) (y .nodes) (y .levels) (y .width) (y .passes) X L W) (sym s) R′)
 
 -- ---- after the last part
 

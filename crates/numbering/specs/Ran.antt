@@ -2,7 +2,7 @@
 use mathlib.Core.Path.{_≡_}
 use mathlib.Core.Bool.{true}
 use mathlib.Core.List.{List, _++_, map}
-use Prim.Native.Nat.{ℕ, suc, _*_, _≤_}
+use Prim.Native.Nat.{ℕ, suc, _+_, _*_, _≤_, max}
 use lib.ListN.{length, take, drop, replicate}
 use lib.Seq.{slice}
 use Rattle.basis.specs.Lists.{joinAll, memb, greatest, sum, position}
@@ -11,6 +11,8 @@ use Rattle.spec.specs.Levels.{part, leaders, parts}
 use Rattle.spec.specs.Numbering.{PartResult, Figures, partResult, wholeOrder, wholeLevels}
 use Rattle.laws.specs.Legal.{Node}
 use Rattle.parts.specs.Walked.{Walked}
+use Rattle.renumbering.specs.declared.shape.PartFigures.{PartFigures}
+use Rattle.numbering.specs.declared.legal.Tally.{Tally}
 
 -- what is found of the first j parts
 abbrev pub foundTo : Graph → ℕ → List PartResult
@@ -35,6 +37,16 @@ pub record Ran (S N : List ℕ) (j a k w p : ℕ) (X L W : List ℕ) : Type 0 wh
   pub words : W ≡ replicate (4 * sizeOf S) 0 ++ (joinAll (parts (graphOf S N)) ++ drop (5 * sizeOf S) W)
   pub full : 6 * sizeOf S ≤ length W
   pub blank : slice (5 * sizeOf S) (6 * sizeOf S) W ≡ replicate (sizeOf S) 0
+
+-- what is summed up, with one part of m nodes more
+abbrev pub added : Tally → ℕ → PartFigures → Tally
+added t m f = record {
+  parts = t .parts + 1;
+  nodes = t .nodes + m;
+  levels = t .levels + f .k;
+  width = max (t .width) (f .width);
+  passes = t .passes + f .passes;
+}
 
 -- what is summed up is that of the figures
 pub record Summed (F : Figures) (parts nodes levels width passes : ℕ) : Type 0 where

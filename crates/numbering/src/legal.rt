@@ -7,12 +7,14 @@ ghost use Rattle.spec.specs.Lent.{zeroed, wordsPerNode};
 ghost use Rattle.spec.specs.Levels.{parts};
 ghost use Rattle.spec.specs.Numbering.{run};
 ghost use Rattle.numbering.specs.Answer.{eight};
-ghost use Rattle.numbering.specs.Ran.{Ran, Summed};
+ghost use Rattle.numbering.specs.Ran.{added, Ran, Summed};
 use crate::answer::RunFigures;
 use levels::legal::WORDS_PER_NODE;
 use measures::legal::figures;
 use parts::legal::members;
+use renumbering::legal::number_lone;
 use renumbering::legal::number_part;
+use renumbering::shape::PartFigures;
 use words::legal::clear;
 use words::wide;
 
@@ -32,6 +34,21 @@ fn wider(a: u16, b: u16) -> u16
     if a < b { b } else { a }
 }
 
+// What is summed up with one part more, of m nodes.
+fn add_part(t: Tally, m: u16, f: PartFigures) -> Tally
+    requires { ⌜ (t .parts < 4096) × (t .nodes + m ≤ 4096) ⌝ }
+    requires { ⌜ (t .levels + f .k ≤ 4096 * 4096) × (t .passes + f .passes ≤ 4096 * 4096) ⌝ }
+    ensures { λ r. ⌜ r ≡ added t m f ⌝ }
+{
+    Tally {
+        parts: t.parts + 1,
+        nodes: t.nodes + m,
+        levels: t.levels + f.k as u32,
+        width: wider(t.width, f.width),
+        passes: t.passes + f.passes as u32,
+    }
+}
+
 // "take the next free numbers": one part more, whose size stands where its lowest node gets its number. The scratch is as before.
 fn next_part(
     starts: &[u16],
@@ -49,8 +66,18 @@ fn next_part(
 {
     let n = starts.len() - 1;
     let from = wide(t.nodes);
-    let lowest = scratch[4 * n + from];
-    let m = numbers[wide(lowest) - 1];
+    let lowest = wide(scratch[4 * n + from]);
+    let m = numbers[lowest - 1];
+    // A part of one node adds constants, so that the part after it waits for no word that is read here.
+    if m == 1 {
+        number_lone(numbers, levels, lowest, from);
+        let f = PartFigures {
+            k: 1,
+            width: 1,
+            passes: 1,
+        };
+        return add_part(t, 1, f);
+    }
     let f = number_part(
         starts,
         neighbours,
@@ -60,13 +87,7 @@ fn next_part(
         from,
         from + wide(m),
     );
-    Tally {
-        parts: t.parts + 1,
-        nodes: t.nodes + m,
-        levels: t.levels + f.k as u32,
-        width: wider(t.width, f.width),
-        passes: t.passes + f.passes as u32,
-    }
+    add_part(t, m, f)
 }
 
 // "Parts come in order of lowest old number". The scratch is as before.

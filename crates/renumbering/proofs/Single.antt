@@ -1,17 +1,16 @@
--- A part of one node: its order, its one level and its figures, from the laws of every part. Assumes nothing.
-use mathlib.Core.Path.{_≡_, refl, sym, ap, _∙_}
+-- A part of one node: its figures, its number and its one level, from the laws of every part. Assumes nothing.
+use mathlib.Core.Path.{_≡_, sym, ap, _∙_}
 use mathlib.Core.Bool.{true, false, cond}
-use mathlib.Core.List.{List, [], _∷_, map}
-use Prim.Native.Nat.{ℕ, suc, _+_, _-_, _*_, _≤_, _<_}
+use mathlib.Core.List.{List, [], _∷_}
+use Prim.Native.Nat.{ℕ, suc, _+_, _-_, _<_}
 use native.Mathlib.Omega.{arith}
-use lib.ListN.{length, getD, set, length-map, length-set, length-take}
-use lib.Seq.{slice, getD-take}
+use lib.ListN.{length, getD, set, length-map, length-set}
 use lib.Dec.{eqb}
 use borrow.Author.Tests.{eqb-true}
-use Rattle.basis.specs.Lists.{memb, upFrom}
+use Rattle.basis.specs.Lists.{memb}
 use Rattle.basis.proofs.Index.{times-only}
 use Rattle.basis.proofs.Lists.{memb-one}
-use Rattle.basis.proofs.Logic.{by-test, or-left, eqb-self}
+use Rattle.basis.proofs.Logic.{by-test, eqb-self}
 use Rattle.basis.proofs.Perm.{perm-length, perm-memb}
 use Rattle.spec.specs.Combined.{countAt, widthOf}
 use Rattle.spec.specs.Ends.{ends}
@@ -23,13 +22,10 @@ use Rattle.laws.specs.Structure.{LevelStructure}
 use Rattle.laws.proofs.Combined.{width-met}
 use Rattle.laws.proofs.Ends.{ends-of}
 use Rattle.laws.proofs.Legal.{length-nodes, ofNode-map, by-node}
+use Rattle.laws.proofs.Levels.{part-self}
 use Rattle.laws.proofs.Named.{part-levels, start-part, finish-part}
-use Rattle.laws.proofs.Parts.{part-inside}
 use Rattle.laws.proofs.Whole.{part-perm}
-use Rattle.combining.specs.Areas.{wordsOf}
-use Rattle.piecing.specs.Given.{firstOf}
 use Rattle.search.proofs.Tallies.{ofNode-set}
-use Rattle.levels.specs.Part.{PartGiven}
 use Rattle.renumbering.specs.Part.{numberFrom, renewed, partFiguresOf}
 use Rattle.renumbering.specs.declared.shape.PartFigures.{PartFigures}
 
@@ -39,34 +35,12 @@ alone z [] e m = absurd (omega arith)
 alone z (x ∷ []) e m = ap (λ (y : ℕ). y ∷ []) (sym (eqb-true z x (sym (memb-one z x) ∙ m)))
 alone z (x ∷ y ∷ l) e m = absurd (omega arith)
 
--- the word of the first member
-pub reads : {g : Graph} {from to : ℕ} (X : List ℕ) → PartGiven g from to (wordsOf (g .size) X) (slice (5 * g .size) (6 * g .size) X)
-    → 4 * g .size + from < length X
-reads {g} X P = omega (arith, P .words, P .order, P .most, length-take (5 * g .size) X)
-
-module _ {g : Graph} (G : LegalGraph g) {from to : ℕ} (X : List ℕ)
-    (P : PartGiven g from to (wordsOf (g .size) X) (slice (5 * g .size) (6 * g .size) X)) (one : to - from ≡ 1) where
-  abbrev z : ℕ
-  z = firstOf (g .size) from (wordsOf (g .size) X)
-
+module _ {g : Graph} (G : LegalGraph g) {z : ℕ} (Z : Node g z) (one : length (part g z) ≡ 1) where
   part-is : part g z ≡ z ∷ []
-  part-is = sym (P .members) ∙ ap (λ (k : ℕ). map (λ i. getD (wordsOf (g .size) X) (4 * g .size + i) 0) (upFrom from k)) one
-
-  inside : memb z (part g z) ≡ true
-  inside = ap (memb z) part-is ∙ or-left _ (eqb-self z)
-
-  Z : Node g z
-  Z = part-inside g z z inside
+  part-is = alone z (part g z) one (part-self G Z)
 
   only : (q : ℕ) → memb q (part g z) ≡ true → q ≡ z
   only q m = eqb-true q z (sym (ap (memb q) part-is ∙ memb-one q z) ∙ m)
-
-  -- the word that is read
-  pub first-is : getD X (4 * g .size + from) 0 ≡ z
-  first-is = sym (getD-take (5 * g .size) X (4 * g .size + from) 0 (omega (arith, P .order, P .most)))
-
-  pub first-node : {q : ℕ} → q ≡ getD X (4 * g .size + from) 0 → (1 ≤ q) × (q ≤ g .size)
-  first-node e = let s = e ∙ first-is in (omega (arith, Z .low), omega (arith, Z .high))
 
   -- ---- its levels: the first is the last
 
@@ -136,16 +110,12 @@ module _ {g : Graph} (G : LegalGraph g) {from to : ℕ} (X : List ℕ)
       miss q t = rw (member q, t)
 
   order-is : partResult g z .order ≡ z ∷ []
-  order-is = let p = part-perm G Z in alone z (partResult g z .order) (perm-length p ∙ ap length part-is) (perm-memb p z ∙ inside)
+  order-is = let p = part-perm G Z in alone z (partResult g z .order) (perm-length p ∙ one) (perm-memb p z ∙ part-self G Z)
 
-  pub numbers-one : {q : ℕ} (Y : List ℕ) → q ≡ getD X (4 * g .size + from) 0 → length Y ≡ g .size
-      → set Y (q - 1) (from + 1) ≡ renewed g z (numberFrom from (partResult g z .order)) Y
-  numbers-one Y e l =
-      ap (λ (q : ℕ). set Y (q - 1) (from + 1)) (e ∙ first-is)
-      ∙ put-one (numberFrom from (partResult g z .order)) Y (from + 1) l (ap (λ (o : List ℕ). numberFrom from o z) order-is ∙ rw (eqb-self z))
+  pub numbers-one : (a : ℕ) (X : List ℕ) → length X ≡ g .size → set X (z - 1) (a + 1) ≡ renewed g z (numberFrom a (partResult g z .order)) X
+  numbers-one a X l =
+      put-one (numberFrom a (partResult g z .order)) X (a + 1) l (ap (λ (o : List ℕ). numberFrom a o z) order-is ∙ rw (eqb-self z))
 
-  pub levels-one : {q : ℕ} (L : List ℕ) → q ≡ getD X (4 * g .size + from) 0 → length L ≡ g .size
-      → set L (q - 1) 1 ≡ renewed g z (ofNode (partResult g z .levels)) L
+  pub levels-one : (L : List ℕ) → length L ≡ g .size → set L (z - 1) 1 ≡ renewed g z (ofNode (partResult g z .levels)) L
   unfolding partResult partResultBy
-  levels-one L e l =
-      ap (λ (q : ℕ). set L (q - 1) 1) (e ∙ first-is) ∙ put-one (ofNode (partLevels g (ends g z))) L 1 l level-one
+  levels-one L l = put-one (ofNode (partLevels g (ends g z))) L 1 l level-one

@@ -1,8 +1,8 @@
 // One part of a legal graph, for a caller that has its members. The scratch has areas of n words: four to work in, the second of them for
 // the part's order, the members of the parts, and one for the part's levels by old number. Linear in the part's nodes and entries: nothing here is n.
 ghost use mathlib.Core.Path.{_≡_};
-ghost use Prim.Native.Nat.{_+_, _*_, _≤_};
-ghost use lib.ListN.{length, replicate};
+ghost use Prim.Native.Nat.{_+_, _-_, _*_, _≤_, _<_};
+ghost use lib.ListN.{length, replicate, set};
 ghost use lib.Seq.{sets, slice};
 ghost use Rattle.spec.specs.Graph.{graphOf, sizeOf, graphRefusal, ofNode};
 ghost use Rattle.spec.specs.Levels.{part};
@@ -52,8 +52,22 @@ fn give_levels(scratch: &mut [u16], levels: &mut [u16], n: usize, from: usize, t
     }
 }
 
-// The same by way of its ends, its combined levels and its order, whatever its size.
-fn number_large(
+// A part of one node, q: it gets the number after `from` and has one level, by the laws of every part (proofs, Single).
+pub fn number_lone(numbers: &mut [u16], levels: &mut [u16], q: usize, from: usize)
+    requires { ⌜ (1 ≤ q) × (q ≤ length (now numbers)) ⌝ }
+    requires { ⌜ length (now levels) ≡ length (now numbers) ⌝ }
+    requires { ⌜ (length (now numbers) ≤ 4096) × (from < 4096) ⌝ }
+    ensures { λ _. ⌜ now (numbers .exit) ≡ set (now (numbers .entry)) (q - 1) (from + 1) ⌝ }
+    ensures { λ _. ⌜ now (levels .exit) ≡ set (now (levels .entry)) (q - 1) 1 ⌝ }
+{
+    let number = from + 1;
+    numbers[q - 1] = number as u16;
+    levels[q - 1] = 1;
+}
+
+// The part whose members stand from..to: its nodes get the numbers after `from` in `numbers`, and their levels in `levels`, n words each by
+// old number. The scratch is as before.
+pub fn number_part(
     starts: &[u16],
     neighbours: &[u16],
     scratch: &mut [u16],
@@ -91,38 +105,4 @@ fn number_large(
         width: f.width,
         passes: f.passes,
     }
-}
-
-// The part whose members stand from..to: its nodes get the numbers after `from` in `numbers`, and their levels in `levels`, n words each by
-// old number. The scratch is as before. A part of one node has one level, and takes one pass.
-pub fn number_part(
-    starts: &[u16],
-    neighbours: &[u16],
-    scratch: &mut [u16],
-    numbers: &mut [u16],
-    levels: &mut [u16],
-    from: usize,
-    to: usize,
-) -> PartFigures
-    requires { ⌜ graphRefusal (now starts) (now neighbours) ≡ 0 ⌝ }
-    requires { ⌜ PartGiven (graphOf (now starts) (now neighbours)) from to (wordsOf (sizeOf (now starts)) (now scratch)) (slice (5 * sizeOf (now starts)) (6 * sizeOf (now starts)) (now scratch)) ⌝ }
-    requires { ⌜ (length (now numbers) ≡ sizeOf (now starts)) × (length (now levels) ≡ sizeOf (now starts)) ⌝ }
-    ensures { λ r. ⌜ r ≡ partFiguresOf (partResult (graphOf (now (starts .entry)) (now (neighbours .entry))) (firstOf (sizeOf (now (starts .entry))) from (wordsOf (sizeOf (now (starts .entry))) (now (scratch .entry)))) .report) ⌝ }
-    ensures { λ _. ⌜ now (scratch .exit) ≡ now (scratch .entry) ⌝ }
-    ensures { λ _. ⌜ now (numbers .exit) ≡ renewed (graphOf (now (starts .entry)) (now (neighbours .entry))) (firstOf (sizeOf (now (starts .entry))) from (wordsOf (sizeOf (now (starts .entry))) (now (scratch .entry)))) (numberFrom from (partResult (graphOf (now (starts .entry)) (now (neighbours .entry))) (firstOf (sizeOf (now (starts .entry))) from (wordsOf (sizeOf (now (starts .entry))) (now (scratch .entry)))) .order)) (now (numbers .entry)) ⌝ }
-    ensures { λ _. ⌜ now (levels .exit) ≡ renewed (graphOf (now (starts .entry)) (now (neighbours .entry))) (firstOf (sizeOf (now (starts .entry))) from (wordsOf (sizeOf (now (starts .entry))) (now (scratch .entry)))) (ofNode (partResult (graphOf (now (starts .entry)) (now (neighbours .entry))) (firstOf (sizeOf (now (starts .entry))) from (wordsOf (sizeOf (now (starts .entry))) (now (scratch .entry)))) .levels)) (now (levels .entry)) ⌝ }
-{
-    if to - from == 1 {
-        let n = starts.len() - 1;
-        let z = wide(scratch[4 * n + from]) - 1;
-        let number = from + 1;
-        numbers[z] = number as u16;
-        levels[z] = 1;
-        return PartFigures {
-            k: 1,
-            width: 1,
-            passes: 1,
-        };
-    }
-    number_large(starts, neighbours, scratch, numbers, levels, from, to)
 }

@@ -1,12 +1,12 @@
--- `numbering::legal::next_part` meets its contract. Assumes nothing.
-use mathlib.Core.Path.{refl, sym, ap, _∙_}
-use Prim.Native.Nat.{ℕ, _+_, _-_}
+-- `numbering::legal::next_part` meets its contract: a part of one node, and any other. Assumes nothing.
+use mathlib.Core.Path.{refl, sym, _∙_}
+use Prim.Native.Nat.{_-_}
 use native.Mathlib.Omega.{arith}
 use borrow.Author.Needs.{needs}
 use denote.Ref.{now}
 use lib.ListN.{getD}
 use Rattle.numbering.specs.Ran.{Ran}
-use Rattle.numbering.proofs.Ran.{starts, ran-at, words-size, fits, some, lowest-node, size-is, part-given, levels-size, few, parts-few, k-few, passes-low, ran-step}
+use Rattle.numbering.proofs.Ran.{starts, ran-at, words-size, fits, some, lowest-node, size-is, part-given, levels-size, few, sums-fit, k-few, passes-low, ran-lone, part-figures, ran-part, ran-added}
 use Rattle.numbering.proofs.legal.next_part.Statement.{statement}
 use Rattle.numbering.proofs.legal.next_part.Tie as tie
 
@@ -22,17 +22,17 @@ sub-n c = omega (arith, starts _ _ (c .before .before .before .before .before .p
 wide-requires : tie.Need-wide-requires
 wide-requires c κs = search needs
 
-mul-lowest : tie.Need-mul-lowest
-mul-lowest c = omega (arith, few (at c) (c .before .before .before .before .before .before .pre .0))
+mul-wide : tie.Need-mul-wide
+mul-wide c = omega (arith, few (at c) (c .before .before .before .before .before .before .pre .0))
 
-add-lowest : tie.Need-add-lowest
-add-lowest c = omega (arith, few (at c) (c .before .before .before .before .before .before .pre .0), fits (at c) (c .before .before .before .before .before .before .pre .0))
+add-wide : tie.Need-add-wide
+add-wide c = omega (arith, few (at c) (c .before .before .before .before .before .before .pre .0), fits (at c) (c .before .before .before .before .before .before .pre .0))
 
-mul-lowest-2 : tie.Need-mul-lowest-2
-mul-lowest-2 c = omega (arith, few (at c) (c .before .before .before .before .before .before .pre .0), fits (at c) (c .before .before .before .before .before .before .pre .0))
+mul-wide-2 : tie.Need-mul-wide-2
+mul-wide-2 c = omega (arith, few (at c) (c .before .before .before .before .before .before .pre .0), fits (at c) (c .before .before .before .before .before .before .pre .0))
 
-slice-read-lowest : tie.Need-slice-read-lowest
-slice-read-lowest c = omega (arith, fits (at (c .before)) (c .before .before .before .before .before .before .before .pre .0), some (at (c .before)) (c .before .before .before .before .before .before .before .pre .0), words-size (at (c .before)) (c .before .before .before .before .before .before .before .pre .0))
+slice-read-wide : tie.Need-slice-read-wide
+slice-read-wide c = omega (arith, fits (at (c .before)) (c .before .before .before .before .before .before .before .pre .0), some (at (c .before)) (c .before .before .before .before .before .before .before .pre .0), words-size (at (c .before)) (c .before .before .before .before .before .before .before .pre .0))
 
 wide-requires-2 : tie.Need-wide-requires-2
 wide-requires-2 c κs = search needs
@@ -47,47 +47,18 @@ slice-read-m : tie.Need-slice-read-m
 slice-read-m c =
     let l = lowest-node (at (c .before .before .before)) (c .before .before .before .before .before .before .before .before .before .pre .0) (c .before .wide2 .ensures) in omega (arith, l .0, l .1, c .before .before .before .before .before .before .before .before .before .pre .1 .room)
 
-wide-requires-3 : tie.Need-wide-requires-3
-wide-requires-3 c κs = search needs
+number-lone-requires : tie.Need-number-lone-requires
+number-lone-requires c κs =
+    let s = c .before .before .before .before .before .before .before .before .before .before .before .before in
+    let l = lowest-node (at (c .before .before .before .before .before .before)) (s .pre .0) (c .before .before .before .before .wide2 .ensures) in
+    let r = s .pre .1 .room in
+    ((l .0, omega (arith, l .1, r)), (levels-size (s .pre .1) ∙ sym r, (omega (arith, few (s .pre .1) (s .pre .0), r), omega (arith, few (at (c .before .before .before .before .before .before)) (s .pre .0), fits (at (c .before .before .before .before .before .before)) (s .pre .0), some (s .pre .1) (s .pre .0)))))
 
-add-number-part : tie.Need-add-number-part
-add-number-part c =
-    omega (arith, few (at (c .before .before .before .before .before .before .before)) (c .before .before .before .before .before .before .before .before .before .before .before .before .before .pre .0), fits (at (c .before .before .before .before .before .before .before)) (c .before .before .before .before .before .before .before .before .before .before .before .before .before .pre .0), c .wide3 .ensures, size-is (at (c .before .before .before .before .before .before .before)) (c .before .before .before .before .before .before .before .before .before .before .before .before .before .pre .0) (c .before .before .before .before .before .wide2 .ensures))
-
-number-part-requires : tie.Need-number-part-requires
-number-part-requires c κs =
-    let m = c .wide3 .ensures ∙ size-is (at (c .before .before .before .before .before .before .before)) (c .before .before .before .before .before .before .before .before .before .before .before .before .before .pre .0) (c .before .before .before .before .before .wide2 .ensures) in
-    (c .before .before .before .before .before .before .before .before .before .before .before .before .before .pre .1 .legal, (part-given (at (c .before .before .before .before .before .before .before)) (c .before .before .before .before .before .before .before .before .before .before .before .before .before .pre .0) m refl, (c .before .before .before .before .before .before .before .before .before .before .before .before .before .pre .1 .room, levels-size (c .before .before .before .before .before .before .before .before .before .before .before .before .before .pre .1))))
-
-add-t16 : tie.Need-add-t16
-add-t16 c = omega (arith, parts-few (at (c .before .before .before .before .before .before .before .before .before .before .before .before .before .before .before)) (c .before .before .before .before .before .before .before .before .before .before .before .before .before .before .before .before .before .before .before .before .before .pre .0))
-
-add-t24 : tie.Need-add-t24
-add-t24 c =
-    omega (
-      arith,
-      few (at (c .before .before .before .before .before .before .before .before .before .before .before .before .before .before .before .before)) (c .before .before .before .before .before .before .before .before .before .before .before .before .before .before .before .before .before .before .before .before .before .before .pre .0),
-      fits (at (c .before .before .before .before .before .before .before .before .before .before .before .before .before .before .before .before)) (c .before .before .before .before .before .before .before .before .before .before .before .before .before .before .before .before .before .before .before .before .before .before .pre .0),
-      c .before .before .before .before .before .before .before .before .before .before .before .before .before .before .before .before .wide .ensures,
-      size-is (at (c .before .before .before .before .before .before .before .before .before .before .before .before .before .before .before .before)) (c .before .before .before .before .before .before .before .before .before .before .before .before .before .before .before .before .before .before .before .before .before .before .pre .0) (c .before .before .before .before .before .before .before .before .before .before .before .before .before .before .wide2 .ensures),
-    )
-
-cast-t25 : tie.Need-cast-t25
-cast-t25 c = search needs
-
-add-t26 : tie.Need-add-t26
-add-t26 c =
-    omega (arith, c .before .before .before .before .before .before .before .before .before .before .before .before .before .before .before .before .before .before .before .before .before .before .before .before .pre .1 .few-levels, parts-few (at (c .before .before .before .before .before .before .before .before .before .before .before .before .before .before .before .before .before .before)) (c .before .before .before .before .before .before .before .before .before .before .before .before .before .before .before .before .before .before .before .before .before .before .before .before .pre .0), k-few (at (c .before .before .before .before .before .before .before .before .before .before .before .before .before .before .before .before .before .before)) (c .before .before .before .before .before .before .before .before .before .before .before .before .before .before .before .before .before .before .before .before .before .before .before .before .pre .0) refl (c .before .before .before .before .before .before .before .before .before .before .number-part .ensures .0))
-
-wider-requires : tie.Need-wider-requires
-wider-requires c κs = search needs
-
-cast-t28 : tie.Need-cast-t28
-cast-t28 c = search needs
-
-add-t29 : tie.Need-add-t29
-add-t29 c =
-    omega (arith, c .before .before .before .before .before .before .before .before .before .before .before .before .before .before .before .before .before .before .before .before .before .before .before .before .before .before .before .pre .1 .few-passes, parts-few (at (c .before .before .before .before .before .before .before .before .before .before .before .before .before .before .before .before .before .before .before .before .before)) (c .before .before .before .before .before .before .before .before .before .before .before .before .before .before .before .before .before .before .before .before .before .before .before .before .before .before .before .pre .0), passes-low (at (c .before .before .before .before .before .before .before .before .before .before .before .before .before .before .before .before .before .before .before .before .before)) (c .before .before .before .before .before .before .before .before .before .before .before .before .before .before .before .before .before .before .before .before .before .before .before .before .before .before .before .pre .0) refl (c .before .before .before .before .before .before .before .before .before .before .before .before .before .number-part .ensures .0))
+add-part-requires : tie.Need-add-part-requires
+add-part-requires c κs =
+    let s = c .before .before .before .before .before .before .before .before .before .before .before .before .before .before .before .before .before in
+    let one = sym (c .before .before .before .before .before .before .before .if1 .taken) ∙ size-is (at (c .before .before .before .before .before .before .before .before .before .before .before)) (s .pre .0) (c .before .before .before .before .before .before .before .before .before .wide2 .ensures) in
+    sums-fit (s .pre .1) (s .pre .0) one (omega arith) (omega arith)
 
 same-length : tie.Need-same-length
 same-length c = search needs
@@ -95,16 +66,52 @@ same-length c = search needs
 same-length-2 : tie.Need-same-length-2
 same-length-2 c = search needs
 
+returns : tie.Need-returns
+returns c =
+    let s = c .before .before .before .before .before .before .before .before .before .before .before .before .before .before .before .before .before .before in
+    let one = sym (c .before .before .before .before .before .before .before .before .if1 .taken) ∙ size-is (at (c .before .before .before .before .before .before .before .before .before .before .before .before)) (s .pre .0) (c .before .before .before .before .before .before .before .before .before .before .wide2 .ensures) in
+    let r = ran-lone (at (c .before .before .before .before .before .before .before .before .before .before .before .before)) (s .pre .0) one (c .before .before .before .before .before .before .before .before .before .before .wide2 .ensures) (c .before .before .before .before .before .number-lone .ensures .0) (c .before .before .before .before .before .number-lone .ensures .1) in
+    let q = ran-added (s .args .t) 1 (record { k = 1; width = 1; passes = 1 }) (c .before .before .before .before .before .before .before .before .before .before .before .before .wide .ensures) (c .add-part .ensures) r in
+    (q .0, (q .1, refl))
+
+wide-requires-3 : tie.Need-wide-requires-3
+wide-requires-3 c κs = search needs
+
+add-number-part : tie.Need-add-number-part
+add-number-part c =
+    let s = c .before .before .before .before .before .before .before .before .before .before .before .before .before .before in
+    omega (arith, few (at (c .before .before .before .before .before .before .before .before)) (s .pre .0), fits (at (c .before .before .before .before .before .before .before .before)) (s .pre .0), c .wide3 .ensures, size-is (at (c .before .before .before .before .before .before .before .before)) (s .pre .0) (c .before .before .before .before .before .before .wide2 .ensures))
+
+number-part-requires : tie.Need-number-part-requires
+number-part-requires c κs =
+    let s = c .before .before .before .before .before .before .before .before .before .before .before .before .before .before in
+    let m = c .wide3 .ensures ∙ size-is (at (c .before .before .before .before .before .before .before .before)) (s .pre .0) (c .before .before .before .before .before .before .wide2 .ensures) in
+    (s .pre .1 .legal, (part-given (at (c .before .before .before .before .before .before .before .before)) (s .pre .0) m refl, (s .pre .1 .room, levels-size (s .pre .1))))
+
+add-part-requires-2 : tie.Need-add-part-requires-2
+add-part-requires-2 c κs =
+    let s = c .before .before .before .before .before .before .before .before .before .before .before .before .before .before .before .before .before .before .before .before .before in
+    let m = size-is (at (c .before .before .before .before .before .before .before .before .before .before .before .before .before .before .before)) (s .pre .0) (c .before .before .before .before .before .before .before .before .before .before .before .before .before .wide2 .ensures) in
+    let f = part-figures (at (c .before .before .before .before .before .before .before .before .before .before .before .before .before .before .before)) (s .pre .0) (c .before .before .before .before .before .before .number-part .ensures .0) in
+    sums-fit (s .pre .1) (s .pre .0) m (k-few (s .pre .1) (s .pre .0) f) (passes-low (s .pre .1) (s .pre .0) f)
+
 same-length-3 : tie.Need-same-length-3
 same-length-3 c = search needs
 
-returns : tie.Need-returns
-returns c =
-    let s = c .before .before .before .before .before .before .before .before .before .before .before .before .before .before .before .before .before .before .before .before .before .before .before .before .before .before .before in
-    let f = c .before .before .before .before .before .before .before .before .before .before .before .before .before .number-part .ensures in
-    let m = size-is (at (c .before .before .before .before .before .before .before .before .before .before .before .before .before .before .before .before .before .before .before .before .before)) (s .pre .0) (c .before .before .before .before .before .before .before .before .before .before .before .before .before .before .before .before .before .before .before .wide2 .ensures) in
-    let r = ran-step (at (c .before .before .before .before .before .before .before .before .before .before .before .before .before .before .before .before .before .before .before .before .before)) (s .pre .0) refl (f .0) m (c .before .before .wider .ensures) (f .1 .1 .0) (f .1 .1 .1) in
-    (refl, (ran-at (ap (λ (x : ℕ). x + getD (now (s .args .numbers)) (c .before .before .before .before .before .before .before .before .before .before .before .before .before .before .before .before .before .before .before .wide2 .result - 1) 0) (sym (c .before .before .before .before .before .before .before .before .before .before .before .before .before .before .before .before .before .before .before .before .before .wide .ensures))) r, f .1 .0))
+same-length-4 : tie.Need-same-length-4
+same-length-4 c = search needs
+
+same-length-5 : tie.Need-same-length-5
+same-length-5 c = search needs
+
+returns-2 : tie.Need-returns-2
+returns-2 c =
+    let s = c .before .before .before .before .before .before .before .before .before .before .before .before .before .before .before .before .before .before .before .before .before .before in
+    let f = c .before .before .before .before .before .before .before .number-part .ensures in
+    let m = size-is (at (c .before .before .before .before .before .before .before .before .before .before .before .before .before .before .before .before)) (s .pre .0) (c .before .before .before .before .before .before .before .before .before .before .before .before .before .before .wide2 .ensures) in
+    let r = ran-part (at (c .before .before .before .before .before .before .before .before .before .before .before .before .before .before .before .before)) (s .pre .0) (f .0) m (f .1 .1 .0) (f .1 .1 .1) in
+    let q = ran-added (s .args .t) (getD (now (s .args .numbers)) (c .before .before .before .before .before .before .before .before .before .before .before .before .before .before .wide2 .result - 1) 0) (c .before .before .before .before .before .before .before .number-part .result) (c .before .before .before .before .before .before .before .before .before .before .before .before .before .before .before .before .wide .ensures) (c .add-part2 .ensures) r in
+    (q .0, (q .1, f .1 .0))
 
 pub next-part-spec : {M : Type 1} → statement M
 next-part-spec =
@@ -112,25 +119,24 @@ next-part-spec =
     (tie.spec
     sub-n
     wide-requires
-    mul-lowest
-    add-lowest
-    mul-lowest-2
-    slice-read-lowest
+    mul-wide
+    add-wide
+    mul-wide-2
+    slice-read-wide
     wide-requires-2
     sub-m
     mul-m
     slice-read-m
+    number-lone-requires
+    add-part-requires
+    same-length
+    same-length-2
+    returns
     wide-requires-3
     add-number-part
     number-part-requires
-    add-t16
-    add-t24
-    cast-t25
-    add-t26
-    wider-requires
-    cast-t28
-    add-t29
-    same-length
-    same-length-2
+    add-part-requires-2
     same-length-3
-    returns)
+    same-length-4
+    same-length-5
+    returns-2)

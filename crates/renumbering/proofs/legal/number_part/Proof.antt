@@ -1,5 +1,5 @@
--- `renumbering::legal::number_part` meets its contract: a part of one node at once, and else as `number_large` does. Assumes nothing.
-use mathlib.Core.Path.{refl}
+-- `renumbering::legal::number_part` meets its contract: its calls in their order. Assumes nothing.
+use mathlib.Core.Path.{ap}
 use Prim.Native.Nat.{_*_, _≤_}
 use native.Mathlib.Omega.{arith}
 use lib.Seq.{slice}
@@ -10,7 +10,7 @@ use Rattle.laws.specs.Legal.{LegalGraph}
 use Rattle.laws.proofs.Refused.{passed, starts-of, not-refused}
 use Rattle.combining.specs.Areas.{wordsOf}
 use Rattle.levels.specs.Part.{PartGiven}
-use Rattle.renumbering.proofs.Single.{first-node, figures-one, numbers-one, levels-one, reads}
+use Rattle.renumbering.proofs.Steps.{sequence-ok, number-ok, numbers-done, give-ok, scratch-done, levels-done, figures-done}
 use Rattle.renumbering.proofs.legal.number_part.Statement.{statement}
 use Rattle.renumbering.proofs.legal.number_part.Tie as tie
 
@@ -24,46 +24,63 @@ given : (s : tie.Start) → let n = sizeOf (now (s .args .starts)) in
     PartGiven (graphOf (now (s .args .starts)) (now (s .args .neighbours))) (s .args .from) (s .args .to) (wordsOf n (now (s .args .scratch))) (slice (5 * n) (6 * n) (now (s .args .scratch)))
 given s = s .pre .1 .0
 
-add-wide : tie.Need-add-wide
-add-wide c = let s = c .before .before .before .before .before .before in omega (arith, few s, given s .most, given s .order)
+sub-n : tie.Need-sub-n
+sub-n c = search needs
 
-mul-wide-2 : tie.Need-mul-wide-2
-mul-wide-2 c = let s = c .before .before .before .before .before .before in omega (arith, few s, given s .most, given s .order)
+sub-m : tie.Need-sub-m
+sub-m c = search needs
 
-slice-read-wide : tie.Need-slice-read-wide
-slice-read-wide c = let s = c .before .before .before .before .before .before .before in reads (now (s .args .scratch)) (given s)
+combine-part-requires : tie.Need-combine-part-requires
+combine-part-requires c κs = let s = c .before .before .before .before .before .before in (s .pre .0, given s)
 
--- the node that is read
-node : (c : tie.After-wide) → let s = c .before .before .before .before .before .before .before .before in (1 ≤ c .wide .result) × (c .wide .result ≤ sizeOf (now (s .args .starts)))
-node c = let s = c .before .before .before .before .before .before .before .before in first-node (graph s) (now (s .args .scratch)) (given s) (c .before .before .if1 .taken) (c .wide .ensures)
+mul-sequence : tie.Need-mul-sequence
+mul-sequence c = let s = c .before .before .before .before .before .before .before .before .before .before in omega (arith, few s)
 
-sub-z : tie.Need-sub-z
-sub-z c = node c .0
+mul-sequence-2 : tie.Need-mul-sequence-2
+mul-sequence-2 c = let s = c .before .before .before .before .before .before .before .before .before .before in omega (arith, few s)
 
-cast-numbers : tie.Need-cast-numbers
-cast-numbers c = let s = c .before .before .before .before .before .before .before .before in omega (arith, few s, given s .most, given s .order)
+add-sequence : tie.Need-add-sequence
+add-sequence c = let s = c .before .before .before .before .before .before .before .before .before .before in omega (arith, few s, given s .most, given s .order)
 
-mul-numbers : tie.Need-mul-numbers
-mul-numbers c = let s = c .before .before .before .before .before .before .before .before in omega (arith, few s, node c .1)
+sequence-requires : tie.Need-sequence-requires
+sequence-requires c κs =
+    let s = c .before .before .before .before .before .before .before .before .before .before in
+    let f = c .before .before .before .combine-part .ensures in
+    (s .pre .0, sequence-ok (graph s) (few s) (now (s .args .scratch)) (given s) (f .1) (ap (λ r. r .k) (f .0)) (ap (λ r. r .v) (f .0)) (ap (λ r. r .u) (f .0)))
 
-slice-write-numbers : tie.Need-slice-write-numbers
-slice-write-numbers c = let s = c .before .before .before .before .before .before .before .before in omega (arith, node c .0, node c .1, s .pre .1 .1 .0)
+give-numbers-requires : tie.Need-give-numbers-requires
+give-numbers-requires c κs =
+    let s = c .before .before .before .before .before .before .before .before .before .before .before .before .before .before .before in
+    number-ok (graph s) (few s) (now (s .args .scratch)) (given s) (c .before .before .before .before .before .before .before .before .combine-part .ensures .1) (c .before .before .before .before .sequence .ensures .1) (s .pre .1 .1 .0)
 
-mul-levels : tie.Need-mul-levels
-mul-levels c = let s = c .before .before .before .before .before .before .before .before in omega (arith, few s, node c .1)
+give-levels-requires : tie.Need-give-levels-requires
+give-levels-requires c κs =
+    let s = c .before .before .before .before .before .before .before .before .before .before .before .before .before .before .before .before .before .before .before .before .before .before in
+    let k = give-ok (graph s) (few s) (now (s .args .scratch)) (given s) (c .before .before .before .before .before .before .before .before .before .before .before .before .before .before .before .combine-part .ensures .1) (c .before .before .before .before .before .before .before .before .before .before .before .sequence .ensures .1) (c .before .before .before .before .before .before .give-numbers .ensures .0) in
+    (k .0, (k .1, s .pre .1 .1 .1))
 
-slice-write-levels : tie.Need-slice-write-levels
-slice-write-levels c = let s = c .before .before .before .before .before .before .before .before in omega (arith, node c .0, node c .1, s .pre .1 .1 .1)
+same-length : tie.Need-same-length
+same-length c = search needs
+
+same-length-2 : tie.Need-same-length-2
+same-length-2 c = search needs
+
+same-length-3 : tie.Need-same-length-3
+same-length-3 c = search needs
 
 returns : tie.Need-returns
 returns c =
-    let s = c .before .before .before .before .before .before .before .before in (
-      figures-one (graph s) (now (s .args .scratch)) (given s) (c .before .before .if1 .taken),
+    let s = c .before .before .before .before .before .before .before .before .before .before .before .before .before .before .before .before .before .before .before .before .before .before .before .before .before .before .before in
+    let f = c .before .before .before .before .before .before .before .before .before .before .before .before .before .before .before .before .before .before .before .before .combine-part .ensures in
+    let o = c .before .before .before .before .before .before .before .before .before .before .before .before .before .before .before .before .sequence .ensures .1 in
+    let p = c .before .before .before .before .before .before .before .before .before .before .before .give-numbers .ensures in
+    let q = c .before .before .before .before .give-levels .ensures in (
+      figures-done (graph s) (few s) (now (s .args .scratch)) (given s) (f .0),
       (
-        refl,
+        scratch-done (graph s) (few s) (now (s .args .scratch)) (given s) (f .1) o (p .0) (q .0),
         (
-          numbers-one (graph s) (now (s .args .scratch)) (given s) (c .before .before .if1 .taken) (now (s .args .numbers)) (c .wide .ensures) (s .pre .1 .1 .0),
-          levels-one (graph s) (now (s .args .scratch)) (given s) (c .before .before .if1 .taken) (now (s .args .levels)) (c .wide .ensures) (s .pre .1 .1 .1),
+          numbers-done (graph s) (few s) (now (s .args .scratch)) (given s) (f .1) o (now (s .args .numbers)) (s .pre .1 .1 .0) (p .1),
+          levels-done (graph s) (few s) (now (s .args .scratch)) (given s) (f .1) o (p .0) (now (s .args .levels)) (s .pre .1 .1 .1) (q .1),
         ),
       ),
     )
@@ -72,25 +89,16 @@ pub number-part-spec : {M : Type 1} → statement M
 number-part-spec =
     tie.close
     (tie.spec
-    (λ c. search needs)
-    (λ c. search needs)
-    (λ c. search needs)
-    add-wide
-    mul-wide-2
-    slice-read-wide
-    (λ c κs. search needs)
-    sub-z
-    (λ c. search needs)
-    cast-numbers
-    mul-numbers
-    slice-write-numbers
-    mul-levels
-    slice-write-levels
-    (λ c. search needs)
-    (λ c. search needs)
-    returns
-    (λ c κs. search needs)
-    (λ c. search needs)
-    (λ c. search needs)
-    (λ c. search needs)
-    (λ c. search needs))
+    sub-n
+    sub-m
+    combine-part-requires
+    mul-sequence
+    mul-sequence-2
+    add-sequence
+    sequence-requires
+    give-numbers-requires
+    give-levels-requires
+    same-length
+    same-length-2
+    same-length-3
+    returns)
