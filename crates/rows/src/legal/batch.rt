@@ -8,10 +8,22 @@ ghost use Rattle.rowset.specs.Set.{Empty};
 ghost use Rattle.incidence.specs.Cells.{Listed};
 ghost use Rattle.rows.specs.Rows.{entriesTo, Ready, Goes, Laid};
 
+// How many rows to try first, of those guessed: twice as many as had room last at most, or all where none had.
+fn to_try(guess: usize, last: usize) -> usize
+    requires { ⌜ last ≤ 4096 ⌝ }
+    ensures { λ r. ⌜ r ≤ guess ⌝ }
+{
+    if last == 0 {
+        return guess;
+    }
+    words::smaller(guess, 2 * last)
+}
+
 // Lists the elements of some rows after base, and returns of how many: 0 where not even one row has room, or positions don't fit a word.
-// A row takes a word, and two for each element: a guess by the elements that a row has in the mean.
-fn list_some(lists: &mut [u16], elements: &[u16], base: usize) -> usize
-    requires { ⌜ (length (now lists) ≤ 4096) × (base < length (now lists)) ⌝ }
+// A row takes a word, and two for each element: a guess by the elements that a row has in the mean. `last` is what this returned last: near a
+// node of very many elements, the guess would fail again.
+fn list_some(lists: &mut [u16], elements: &[u16], base: usize, last: usize) -> usize
+    requires { ⌜ (length (now lists) ≤ 4096) × (base < length (now lists)) × (last ≤ 4096) ⌝ }
     requires { ⌜ elementsRefusal (length (now elements)) (length (now lists)) (now elements) ≡ 0 ⌝ }
     ensures { λ r. ⌜ (base + r ≤ length (now (lists .entry))) × (1 ≤ r → Listed (now (elements .entry)) base r (now (lists .exit))) ⌝ }
 {
@@ -23,8 +35,8 @@ fn list_some(lists: &mut [u16], elements: &[u16], base: usize) -> usize
         return 0;
     }
     let mean = elements.len() / n;
-    let guess = n / (2 * mean + 2);
-    let most = words::smaller(words::smaller(guess, n - base), n - 2);
+    let rows = to_try(n / (2 * mean + 2), last);
+    let most = words::smaller(words::smaller(rows, n - base), n - 2);
     incidence::legal::listing::list_rows(lists, elements, base, most)
 }
 
@@ -103,8 +115,9 @@ pub(crate) fn all_rows(
     let n = lists.len();
     let mut to = 0;
     let mut base = 0;
+    let mut rows = 0;
     while base < n {
-        let rows = list_some(lists, elements, base);
+        rows = list_some(lists, elements, base, rows);
         to = some_rows(bits, lists, elements, base, rows, to, starts, neighbours);
         base += words::larger(rows, 1);
     }

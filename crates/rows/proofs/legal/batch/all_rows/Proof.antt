@@ -13,23 +13,23 @@ use Rattle.rows.proofs.legal.batch.all_rows.Statement.{statement}
 use Rattle.rows.proofs.legal.batch.all_rows.Tie as tie
 
 abbrev Inv-loop : tie.InvT-loop
-Inv-loop bits₀ lists₀ elements starts₀ neighbours₀ n to₀ base₀ bits lists starts neighbours to base =
-    (n ≡ length lists₀) × (base ≤ length lists₀) × (length lists ≡ length lists₀) × Filling (length lists₀) elements 0 starts₀ neighbours₀ bits starts neighbours to base
+Inv-loop bits₀ lists₀ elements starts₀ neighbours₀ n to₀ base₀ rows₀ bits lists starts neighbours to base rows =
+    (n ≡ length lists₀) × (base ≤ length lists₀) × (length lists ≡ length lists₀) × Filling (length lists₀) elements 0 starts₀ neighbours₀ bits starts neighbours to base × (rows ≤ 4096)
 
 abbrev μ-loop : tie.MeasureT-loop
-μ-loop bits₀ lists₀ elements starts₀ neighbours₀ n to₀ base₀ bits lists starts neighbours to base = n - base
+μ-loop bits₀ lists₀ elements starts₀ neighbours₀ n to₀ base₀ rows₀ bits lists starts neighbours to base rows = n - base
 
 loop-holds : tie.Need-loop-holds Inv-loop μ-loop
 loop-holds c =
     let s = c .before .before .before .before .before in
     let a = s .args in
-    (refl, omega arith, refl, filling-begin (length (now (a .lists))) (now (a .elements)) 0 (now (a .bits)) (now (a .starts)) (now (a .neighbours)) 0 (s .pre) (to-none _))
+    (refl, omega arith, refl, filling-begin (length (now (a .lists))) (now (a .elements)) 0 (now (a .bits)) (now (a .starts)) (now (a .neighbours)) 0 (s .pre) (to-none _), omega arith)
 
 list-some-requires : tie.Need-list-some-requires Inv-loop μ-loop
 list-some-requires c κs =
     let i = c .before .before .loop .inv in
     let W = now (c .before .before .before .before .before .before .before .before .args .elements) in
-    ((omega (arith, i .2, i .3 .ready .few), omega (arith, i .2, i .0, c .before .loop-test .taken)), ap (λ (n : ℕ). elementsRefusal (length W) n W) (i .2) ∙ i .3 .ready .good)
+    ((omega (arith, i .2, i .3 .ready .few), omega (arith, i .2, i .0, c .before .loop-test .taken), i .4), ap (λ (n : ℕ). elementsRefusal (length W) n W) (i .2) ∙ i .3 .ready .good)
 
 -- the lists keep their number of words
 same : (c : tie.After-list-some Inv-loop μ-loop) → length (now (c .before .before .before .before .before .before .before .before .before .args .lists)) ≡ length (c .list-some .last .0)
@@ -73,6 +73,7 @@ loop-again c =
           (λ (n j : ℕ).
           Goes (graphOfElements n W) (l .loop .base) (l .loop .starts) (l .loop .neighbours) (l .loop .base + j) (k .last .1 .1 .1 .1 .1 .1 .0) (k .last .1 .1 .1 .1 .1 .1 .1 .0) (k .result))
           (sym (same d)) (sym (c .larger .ensures)) (k .ensures .1)),
+      omega (arith, next c, i .3 .ready .few),
     )
 
 returns : tie.Need-returns Inv-loop μ-loop
