@@ -1,17 +1,16 @@
 -- Test 4 by counting pairs of entries that are one another's partners: one is lacking exactly if the pairs fall short of half of the entries. Assumes nothing.
-use mathlib.Core.Path.{_≡_, refl, sym, ap, ap₂, _∙_}
-use mathlib.Core.Logic.{⊎-elim}
+use mathlib.Core.Path.{_≡_, refl, sym, ap, _∙_}
 use mathlib.Core.Bool.{Bool, true, false, not, _&&_}
-use mathlib.Core.List.{List, [], _∷_, map}
+use mathlib.Core.List.{List, map}
 use Prim.Native.Nat.{ℕ, zero, suc, _+_, _-_, _*_, _≤_}
 use native.Mathlib.Omega.{arith}
-use lib.Dec.{eqb, ltb}
+use lib.Dec.{ltb}
 use lib.ListN.{length, getD}
-use borrow.Author.Tests.{eqb-true, eqb-false, lt-ltb, le-ltb, ltb-true, ltb-false, not-false}
-use Rattle.basis.specs.Lists.{bit, anyb, countb, memb, upFrom, sum}
-use Rattle.basis.proofs.Count.{count-cong, count-sum, count-length, count-every, count-full}
-use Rattle.basis.proofs.Lists.{any-none, any-find, sum-cong, sum-add, sum-mono, sum-step}
-use Rattle.basis.proofs.Logic.{by-test, and-split, and-make, or-none, or-split, clash, fails, passes}
+use borrow.Author.Tests.{ltb-true, ltb-false, not-false}
+use Rattle.basis.specs.Lists.{anyb, countb, memb, upFrom, sum}
+use Rattle.basis.proofs.Count.{count-cong, count-parts, count-swap, count-length, count-every, count-full}
+use Rattle.basis.proofs.Lists.{any-none, any-fails, sum-cong, sum-add, sum-mono, sum-full, sum-step}
+use Rattle.basis.proofs.Logic.{by-test, and-split, and-make, passes}
 use Rattle.basis.proofs.Next.{sum-upto}
 use Rattle.basis.proofs.Perm.{once-count}
 use Rattle.basis.proofs.Rise.{rise-once}
@@ -21,50 +20,6 @@ use Rattle.laws.proofs.Legal.{node-in, in-nodes, nodes-once}
 use Rattle.laws.proofs.Refused.{degree-starts}
 use Rattle.graph.specs.Facts.{Rows, lowerPairs}
 use Rattle.graph.proofs.Counting.{firstPairs}
-
--- ---- counting pairs by the first and by the second
-
-sum-none : (l : List ℕ) → sum (map (λ (p : ℕ). 0) l) ≡ 0
-sum-none [] = refl
-sum-none (x ∷ l) = omega (arith, sum-none l)
-
-pub count-swap : (t : ℕ → ℕ → Bool) (ps qs : List ℕ)
-    → sum (map (λ q. countb (λ p. t p q) ps) qs) ≡ sum (map (λ p. countb (λ q. t p q) qs) ps)
-count-swap t ps [] = sym (sum-none ps)
-count-swap t ps (q ∷ qs) =
-    ap₂ _+_ (count-sum (λ p. t p q) ps) (count-swap t ps qs) ∙ sym (sum-add (λ p. bit (t p q)) (λ p. countb (λ q. t p q) qs) ps)
-
--- the numbers of a list that pass, below q and above it, where q is none of them
-pub count-parts : (t : ℕ → Bool) (q : ℕ) (l : List ℕ) → memb q l ≡ false
-    → countb t l ≡ countb (λ p. t p && ltb p q) l + countb (λ p. t p && ltb q p) l
-count-parts t q [] e = refl
-count-parts t q (p ∷ l) e =
-    let w = or-none (eqb q p) (memb q l) e in
-    let d = eqb-false q p (w .0) in
-    let ih = count-parts t q l (w .1) in
-    by-test (ltb p q)
-    (λ a. let l = ltb-true p q a in rw (a, le-ltb q p (omega arith)) (omega (arith, ih, yes (t p), no (t p))))
-    (λ a. let l = ltb-false p q a in rw (a, lt-ltb q p (omega arith)) (omega (arith, ih, yes (t p), no (t p))))
-  where
-    yes : (b : Bool) → bit (b && true) ≡ bit b
-    yes true = refl
-    yes false = refl
-
-    no : (b : Bool) → bit (b && false) ≡ 0
-    no true = refl
-    no false = refl
-
--- equal sums of terms of which one bounds the other: the terms are equal
-sum-full : (f h : ℕ → ℕ) (l : List ℕ) → ((x : ℕ) → f x ≤ h x) → sum (map f l) ≡ sum (map h l)
-    → (x : ℕ) → memb x l ≡ true → f x ≡ h x
-sum-full f h [] b e x m = clash m refl
-sum-full f h (y ∷ l) b e x m =
-    ⊎-elim (λ a. let q = eqb-true x y a in rw q (omega (arith, b y, sum-mono f h l b)))
-    (λ r. sum-full f h l b (omega (arith, b y, sum-mono f h l b)) x r) (or-split (eqb x y) (memb x l) m)
-
--- a test that no element passes
-any-fails : (t : ℕ → Bool) (l : List ℕ) → ((x : ℕ) → memb x l ≡ true → t x ≡ false) → anyb t l ≡ false
-any-fails t l h = fails (anyb t l) (λ e. let w = any-find t l e in clash (w .2) (h (w .0) (w .1)))
 
 -- ---- the entries of two lists
 

@@ -1,15 +1,15 @@
 -- The two counts of the elimination: the ones of the mark bytes, and these less the edges. Assumes nothing.
-use mathlib.Core.Path.{_≡_, refl, sym, ap, _∙_}
+use mathlib.Core.Path.{_≡_, sym, ap, _∙_}
 use mathlib.Core.List.{List, [], _∷_, map, append-nil}
 use Prim.Native.Nat.{ℕ, zero, suc, _+_, _-_, _*_, _/_, _≤_, _<_}
 use native.Mathlib.Omega.{arith}
 use lib.ListN.{length, getD}
 use Rattle.basis.specs.Lists.{sum, upFrom}
-use Rattle.basis.proofs.Lists.{upFrom-in, sum-cong, sum-shift}
+use Rattle.basis.proofs.Lists.{upFrom-in, sum-cong, sum-none, sum-shift}
 use Rattle.spec.specs.CallsStore.{EliminationFigures, eliminationFigures}
 use Rattle.spec.specs.Graph.{Graph}
 use Rattle.spec.specs.Measures.{profile}
-use Rattle.spec.specs.Store.{marks, markCount, newCount, markByteCount, markBytes, markAt}
+use Rattle.spec.specs.Store.{marks, markCount, newCount, markBytes, markAt}
 use Rattle.laws.proofs.ByTest.{renumbered-legal}
 use Rattle.laws.proofs.Marks.{marks-length, bytes-length, bytes-mark, profile-fits, mark-new}
 use Rattle.laws.proofs.Renumber.{renumbered-size}
@@ -20,12 +20,8 @@ use Rattle.store.proofs.Degrees.{edges-listed}
 
 -- ---- a list added up by index, past its end too
 
-none-left : (a k : ℕ) → sum (map (λ t. getD {A = ℕ} [] t 0) (upFrom a k)) ≡ 0
-none-left a zero = refl
-none-left a (suc k) = omega (arith, none-left (suc a) k)
-
 sum-getD : (l : List ℕ) (k : ℕ) → length l ≤ k → sum (map (λ t. getD l t 0) (upFrom 0 k)) ≡ sum l
-sum-getD [] k h = none-left 0 k
+sum-getD [] k h = sum-none (upFrom 0 k)
 sum-getD (x ∷ l) zero h = absurd (omega arith)
 sum-getD (x ∷ l) (suc k) h =
     ap (λ (r : ℕ). x + r) (sum-shift (λ t. getD (x ∷ l) t 0) (λ t. getD l t 0) 1 0 k (λ i b. shift i) ∙ sum-getD l k (omega arith))

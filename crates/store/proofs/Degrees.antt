@@ -1,17 +1,16 @@
 -- The edges of a legal graph are half of its entries, whatever its numbering. Assumes nothing.
-use mathlib.Core.Path.{_≡_, refl, sym, ap, ap₂, _∙_}
-use mathlib.Core.Bool.{Bool, true, false, _&&_}
-use mathlib.Core.List.{List, [], _∷_, map}
-use Prim.Native.Nat.{ℕ, zero, suc, _+_, _-_, _*_, _/_, _≤_}
+use mathlib.Core.Path.{_≡_, refl, sym, ap, _∙_}
+use mathlib.Core.Bool.{Bool, true, _&&_, and-true}
+use mathlib.Core.List.{List, map}
+use Prim.Native.Nat.{ℕ, _+_, _*_, _/_}
 use native.Mathlib.Omega.{arith}
-use lib.Dec.{eqb, ltb}
-use lib.ListN.{length, getD}
-use borrow.Author.Tests.{eqb-false, lt-ltb, le-ltb, ltb-true, ltb-false}
-use Rattle.basis.specs.Lists.{bit, countb, memb, upFrom, sum}
+use lib.Dec.{ltb}
+use lib.ListN.{length}
+use Rattle.basis.specs.Lists.{countb, memb, sum}
 use Rattle.basis.specs.Perm.{Perm}
-use Rattle.basis.proofs.Count.{count-map, count-cong, count-sum}
-use Rattle.basis.proofs.Lists.{map-map, sum-cong, sum-add, sum-step}
-use Rattle.basis.proofs.Logic.{by-test, same, and-split, and-make, or-none}
+use Rattle.basis.proofs.Count.{count-map, count-cong, count-every, count-parts, count-swap}
+use Rattle.basis.proofs.Lists.{map-map, sum-cong, sum-add}
+use Rattle.basis.proofs.Logic.{same, and-split, and-make}
 use Rattle.basis.proofs.Perm.{perm-count, perm-sum, once-count}
 use Rattle.spec.specs.Graph.{Graph, nodes, adjoins, degree, sizeOf, graphOf, ofNode}
 use Rattle.spec.specs.Measures.{isNumbering, renumbered}
@@ -19,33 +18,14 @@ use Rattle.laws.specs.Legal.{Node, LegalGraph, Starts}
 use Rattle.laws.proofs.ByTest.{renumbered-legal}
 use Rattle.laws.proofs.Legal.{node-in, in-nodes, nodes-once, row-once, as-map}
 use Rattle.laws.proofs.Numberings.{numbering-length, numbering-perm}
-use Rattle.laws.proofs.Refused.{degree-starts}
 use Rattle.laws.proofs.Renumber.{renumbered-size, renumbered-adjoins}
-
--- ---- counting pairs by the first and by the second
-
-sum-none : (l : List ℕ) → sum (map (λ (p : ℕ). 0) l) ≡ 0
-sum-none [] = refl
-sum-none (x ∷ l) = omega (arith, sum-none l)
-
-pub count-swap : (t : ℕ → ℕ → Bool) (ps qs : List ℕ)
-    → sum (map (λ q. countb (λ p. t p q) ps) qs) ≡ sum (map (λ p. countb (λ q. t p q) qs) ps)
-count-swap t ps [] = sym (sum-none ps)
-count-swap t ps (q ∷ qs) =
-    ap₂ _+_ (count-sum (λ p. t p q) ps) (count-swap t ps qs) ∙ sym (sum-add (λ p. bit (t p q)) (λ p. countb (λ q. t p q) qs) ps)
-
--- the numbers of a list below q and above it, where q is none of them
-count-parts : (q : ℕ) (l : List ℕ) → memb q l ≡ false → length l ≡ countb (λ p. ltb p q) l + countb (λ p. ltb q p) l
-count-parts q [] e = refl
-count-parts q (p ∷ l) e =
-    let w = or-none (eqb q p) (memb q l) e in
-    let d = eqb-false q p (w .0) in
-    let ih = count-parts q l (w .1) in
-    by-test (ltb p q)
-    (λ a. let l = ltb-true p q a in rw (a, le-ltb q p (omega arith)) (omega arith))
-    (λ a. let l = ltb-false p q a in rw (a, lt-ltb q p (omega arith)) (omega arith))
+use Rattle.graph.proofs.Pairs.{entries}
 
 -- ---- lower and upper neighbours
+
+-- a length is a count of all
+all : (l : List ℕ) → length l ≡ countb (λ p. true) l
+all l = sym (count-every (λ p. true) l (λ p m. refl))
 
 module _ {h : Graph} (H : LegalGraph h) where
   -- a row, counted over all nodes
@@ -73,22 +53,17 @@ module _ {h : Graph} (H : LegalGraph h) where
       omega (
         arith,
         lower-upper,
-        sum-cong (λ q. length (h .row q)) (λ q. countb (λ p. ltb p q) (h .row q) + countb (λ p. ltb q p) (h .row q)) (nodes h) (λ q m. count-parts q (h .row q) (H .no-self q)),
+        sum-cong (λ q. length (h .row q)) (λ q. countb (λ p. ltb p q) (h .row q) + countb (λ p. ltb q p) (h .row q)) (nodes h)
+            (λ q m. all (h .row q) ∙ count-parts (λ p. true) q (h .row q) (H .no-self q)),
         sum-add (λ q. countb (λ p. ltb p q) (h .row q)) (λ q. countb (λ p. ltb q p) (h .row q)) (nodes h),
       )
 
   -- a degree, counted over all nodes
   degree-nodes : (q : ℕ) → degree h q ≡ countb (adjoins h q) (nodes h)
   unfolding degree
-  degree-nodes q = all (h .row q) ∙ row-nodes (λ p. true) q ∙ count-cong (λ p. adjoins h q p && true) (adjoins h q) (nodes h) (λ p m. plain (adjoins h q p))
-    where
-      all : (l : List ℕ) → length l ≡ countb (λ (p : ℕ). true) l
-      all [] = refl
-      all (x ∷ l) = omega (arith, all l)
-
-      plain : (b : Bool) → b && true ≡ b
-      plain true = refl
-      plain false = refl
+  degree-nodes q =
+      all (h .row q) ∙ row-nodes (λ p. true) q
+      ∙ count-cong (λ p. adjoins h q p && true) (adjoins h q) (nodes h) (λ p m. and-true (adjoins h q p))
 
 -- ---- degrees do not depend on the numbering
 
@@ -116,31 +91,7 @@ module _ {g : Graph} (G : LegalGraph g) (x : List ℕ) (ok : isNumbering (g .siz
       ∙ ap sum (map-map (degree (renumbered g x)) (ofNode x) (nodes g))
       ∙ sum-cong (λ a. degree (renumbered g x) (ofNode x a)) (degree g) (nodes g) (λ a m. degree-old a (node-in g a m))
 
--- ---- the entries of two lists
-
-module _ {S N : List ℕ} (T : Starts S N) where
-  entries-up : (k : ℕ) → k ≤ sizeOf S → sum (map (degree (graphOf S N)) (upFrom 1 k)) ≡ getD S k 0
-  entries-up zero h = sym (T .first)
-  entries-up (suc k) h =
-      sum-step (degree (graphOf S N)) 1 k
-      ∙ omega (
-        arith,
-        entries-up k (omega arith),
-        degree-starts S N T (suc k) (omega arith) h,
-        T .rise k (suc k) (omega arith) (omega (arith, T .count)),
-        ap (λ (j : ℕ). degree (graphOf S N) j) (one k),
-        ap (λ (j : ℕ). getD S j 0) (down k),
-      )
-    where
-      one : (k : ℕ) → 1 + k ≡ suc k
-      one k = omega arith
-
-      down : (k : ℕ) → suc k - 1 ≡ k
-      down k = omega arith
-
-  entries : sum (map (degree (graphOf S N)) (nodes (graphOf S N))) ≡ length N
-  unfolding nodes
-  entries = entries-up (sizeOf S) (omega arith) ∙ T .last
+-- ---- the edges of two lists
 
 -- the edges of the graph by its new numbers, each at its upper number, are half of the neighbour list
 pub edges-listed : {S N : List ℕ} → Starts S N → (G : LegalGraph (graphOf S N)) → (x : List ℕ) → isNumbering (sizeOf S) x ≡ true
