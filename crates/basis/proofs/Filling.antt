@@ -1,4 +1,4 @@
--- The numbers of 1..n that pass a test, stored one after another as a loop meets them. Assumes nothing.
+-- One number more of those that pass a test, stored where the others end. Assumes nothing.
 use mathlib.Core.Path.{_≡_, refl, sym, ap, ap₂, _∙_}
 use mathlib.Core.Bool.{Bool, true, false}
 use mathlib.Core.List.{List, [], _∷_, _++_, append-nil}
@@ -7,14 +7,10 @@ use native.Mathlib.Nat.{add-zero}
 use native.Mathlib.Omega.{arith}
 use lib.ListN.{length, set}
 use lib.Seq.{sets, length-sets}
+use Rattle.basis.specs.Filling.{Filling}
 use Rattle.basis.specs.Lists.{consIf, filterb, countb, upFrom}
 use Rattle.basis.proofs.Count.{length-filter, bit-one, bit-none}
 use Rattle.basis.proofs.Next.{sets-append, count-next, filter-next, count-upto}
-
--- those up to i are stored from `at` on, and end at `to`
-pub record Filling (t : ℕ → Bool) (at : ℕ) (before : List ℕ) (i : ℕ) (after : List ℕ) (to : ℕ) : Type 0 where
-  pub list : after ≡ sets before at (filterb t (upFrom 1 i))
-  pub end : to ≡ at + countb t (upFrom 1 i)
 
 module _ (t : ℕ → Bool) (at : ℕ) (before : List ℕ) where
   pub filling-begin : Filling t at before 0 before at

@@ -9,9 +9,10 @@ use lib.ListN.{length, getD, set}
 use lib.Seq.{sets}
 use lib.Dec.{ltb}
 use borrow.Author.Tests.{lt-ltb}
+use Rattle.basis.specs.Filling.{Filling}
 use Rattle.basis.specs.Lists.{upFrom}
 use Rattle.basis.proofs.Count.{length-filter, count-length}
-use Rattle.basis.proofs.Filling.{Filling, filling-begin, filling-length, filling-yes, filling-no}
+use Rattle.basis.proofs.Filling.{filling-begin, filling-length, filling-yes, filling-no}
 use Rattle.basis.proofs.Lists.{length-upFrom}
 use Rattle.spec.specs.Graph.{ofNode}
 use Rattle.laws.proofs.Legal.{ofNode-at}

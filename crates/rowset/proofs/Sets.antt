@@ -12,10 +12,11 @@ use lib.Pow.{shr-shr}
 use lib.Seq.{sets, getD-set-same, getD-set-other}
 use lib.Dec.{eqb}
 use borrow.Author.Tests.{eq-eqb, ne-eqb, eqb-true, eqb-false}
+use Rattle.basis.specs.Filling.{Filling}
 use Rattle.basis.specs.Lists.{memb, upFrom}
 use Rattle.basis.proofs.Count.{length-filter}
 use Rattle.basis.proofs.Logic.{by-test, or-none, lt-or-le}
-use Rattle.basis.proofs.Filling.{Filling, filling-begin, filling-yes, filling-no}
+use Rattle.basis.proofs.Filling.{filling-begin, filling-yes, filling-no}
 use Rattle.elements.proofs.Remains.{drop-next}
 use Rattle.rowset.specs.Set.{bitAt, has, inRow, members, Empty, Covered, Added, Wrote}
 use Rattle.rowset.proofs.Bits.{bit-zero, bit-or, bit-down, Lowest, lowest-in}

@@ -5,8 +5,8 @@ use mathlib.Core.Bool.{Bool, false, not, _&&_, _||_}
 use mathlib.Core.List.{List}
 use lib.ListN.{getD}
 use lib.Dec.{eqb}
+use Rattle.basis.specs.Filling.{Filling}
 use Rattle.basis.specs.Lists.{filterb, upFrom}
-use Rattle.basis.proofs.Filling.{Filling}
 
 -- bit k of a word, bit 0 lowest
 unfoldable pub bitAt : ℕ → ℕ → Bool
