@@ -1,15 +1,15 @@
 -- The answer of the adjacency test: what the four tests make of it, and what a caller learns from it. Assumes nothing.
-use mathlib.Core.Path.{_≡_, refl, sym, ap, _∙_}
+use mathlib.Core.Path.{_≡_, sym, ap, _∙_}
 use mathlib.Core.Bool.{true, false}
 use mathlib.Core.List.{List}
-use Prim.Native.Nat.{ℕ, zero, suc, _≤_}
+use Prim.Native.Nat.{ℕ}
 use native.Mathlib.Omega.{arith}
 use Rattle.spec.specs.Refusal.{_orElse_}
 use Rattle.spec.specs.Lent.{accepted, refused, outcome}
 use Rattle.spec.specs.Graph.{graphOf, refuses1, refuses2, refuses3, refuses4, graphRefusal}
 use Rattle.spec.specs.CallsLevels.{adjacencyAnswer}
 use Rattle.laws.proofs.Lent.{outcome-accepted, outcome-refused}
-use Rattle.laws.proofs.Refused.{passed, starts-of, not-refused}
+use Rattle.laws.proofs.Refused.{or-else-first, passed, starts-of, not-refused}
 use Rattle.graph.specs.Answer.{meaning}
 use Rattle.graph.specs.Facts.{LegalLists, RefusedLists}
 use Rattle.graph.specs.declared.answer.Adjacency.{Adjacency}
@@ -60,11 +60,7 @@ refused-lists S N {r} {c} e h =
 
 -- so whatever a call tests after the two lists, it is refused by this number
 pub refused-first : {S N : List ℕ} {c : ℕ} → RefusedLists S N c → (d : ℕ) → graphRefusal S N orElse d ≡ c
-refused-first {S} {N} {c} h d = first (graphRefusal S N) (omega (arith, h .refusal, h .some)) ∙ h .refusal
-  where
-    first : (b : ℕ) → 1 ≤ b → b orElse d ≡ b
-    first zero l = absurd (omega arith)
-    first (suc b) l = refl
+refused-first {S} {N} {c} h d = or-else-first (graphRefusal S N) d (omega (arith, h .refusal, h .some)) ∙ h .refusal
 
 -- and after a legal graph the later tests decide
 pub legal-next : {S N : List ℕ} → LegalLists S N → (d : ℕ) → graphRefusal S N orElse d ≡ d

@@ -1,14 +1,17 @@
 -- Answers and lent buffers: what an accepted call says, and the words that it leaves. Assumes nothing.
 use mathlib.Core.Path.{_≡_, refl, sym, ap, _∙_}
+use mathlib.Core.Bool.{Bool, true, false, _||_}
 use mathlib.Core.List.{List, _++_, append-nil}
 use Prim.Native.Nat.{ℕ, zero, suc, _*_, _≤_}
 use native.Mathlib.Omega.{arith}
 use lib.ListN.{length, take, drop, replicate, length-replicate, drop-of-length-le}
 use lib.Seq.{take-at, drop-at}
+use lib.Dec.{eqb}
 use borrow.Author.Tests.{ne-eqb}
 use Rattle.spec.specs.CallsLevels.{partScratch}
 use Rattle.spec.specs.Graph.{sizeOf}
-use Rattle.spec.specs.Lent.{Outcome, accepted, refused, outcome, filled, zeroed, scratchAfter, wordsPerNode}
+use Rattle.spec.specs.Lent.{accepted, refused, outcome, filled, zeroed, scratchAfter, wordsPerNode}
+use Rattle.spec.specs.Refusal.{refuse}
 
 -- an outcome that is accepted was not refused, and has the values asked for
 pub outcome-accepted : {A : Type 0} (c : ℕ) (a b : A) → outcome c a ≡ accepted b → (c ≡ 0) × (a ≡ b)
@@ -75,3 +78,16 @@ scratch-refused (suc d) c S W e l = rw (ne-eqb (suc d) 0 (λ q. omega arith))
 pub scratch-accepted : (code : ℕ) (S W : List ℕ) → code ≡ 0 → zeroed (wordsPerNode * sizeOf S) W ≡ partScratch code S W
 unfolding partScratch scratchAfter
 scratch-accepted code S W e = rw e
+
+-- ---- the scratch of a call that is given a mesh: 11 is found after its words were used
+
+-- refused by another number: untouched
+pub scratch-kept : (code c n : ℕ) (W : List ℕ) → code ≡ c → 1 ≤ c → (c ≡ 11 → ⊥) → W ≡ scratchAfter (eqb code 0 || eqb code 11) n W
+unfolding scratchAfter
+scratch-kept code c n W e l other = rw (e, ne-eqb c 0 (omega arith), ne-eqb c 11 other)
+
+-- by 11, or accepted: 0
+pub scratch-zeroed : (code : ℕ) (b : Bool) (n : ℕ) (W : List ℕ) → code ≡ refuse b 11 → zeroed n W ≡ scratchAfter (eqb code 0 || eqb code 11) n W
+unfolding scratchAfter
+scratch-zeroed code true n W e = rw e
+scratch-zeroed code false n W e = rw e

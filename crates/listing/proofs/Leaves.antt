@@ -14,10 +14,10 @@ use Rattle.spec.specs.Mesh.{startList, neighbourList}
 use Rattle.spec.specs.Numbering.{run}
 use Rattle.spec.specs.File.{body, fileNodes, fileGraph, bodyRefusal, refusedLine, listing, output}
 use Rattle.spec.specs.CallsListing.{ListingBuffers, earlyRefusal, listingRefusal, listingText, textFits, listingAnswer, listingBytes, listingOutput, listingWords, listingStarts, listingNeighbours, listingNumbers, listingLevels, listingScratch}
-use Rattle.laws.proofs.Lent.{zeroed-behind}
+use Rattle.laws.proofs.Lent.{answer-refused, filled-refused, scratch-kept, zeroed-behind}
+use Rattle.laws.proofs.Refused.{or-else-first}
 use Rattle.levels.proofs.Scratch.{zeroed-again}
 use Rattle.reading.proofs.Early.{early-told}
-use Rattle.reading.proofs.Files.{outcome-kept, filled-kept, scratch-kept}
 use Rattle.listing.specs.Lent.{lent, Left}
 use Rattle.listing.proofs.Passed.{long}
 use Rattle.listing.proofs.Room.{bytes-suffice}
@@ -43,7 +43,7 @@ module _ (file : List ℕ) (b : ListingBuffers) where
     module _ {a : Outcome ℕ} {z : ℕ} {O : List ℕ} (l : Line c a z O) where
       answer-is : a ≡ listingAnswer file b
       unfolding listingAnswer
-      answer-is = l .answers ∙ outcome-kept c (length (listingText file b)) some ∙ ap (λ (r : ℕ). outcome r (length (listingText file b))) (sym e)
+      answer-is = l .answers ∙ answer-refused (listingRefusal file b) c (length (listingText file b)) e some
 
       bytes-are : z ≡ listingBytes file b
       unfolding listingBytes textFits
@@ -55,7 +55,7 @@ module _ (file : List ℕ) (b : ListingBuffers) where
 
     -- numbers and levels stay
     kept : (new old : List ℕ) → old ≡ filled (listingRefusal file b) new old
-    kept new old = filled-kept c new old some ∙ ap (λ (r : ℕ). filled r new old) (sym e)
+    kept new old = filled-refused (listingRefusal file b) c new old e some
 
   -- 12, 1 or 5: all else is untouched
   pub refused-early : {c z : ℕ} {a : Outcome ℕ} {O : List ℕ} → c ≡ earlyRefusal file b → (c ≡ 0 → ⊥) → Line c a z O
@@ -63,23 +63,18 @@ module _ (file : List ℕ) (b : ListingBuffers) where
   unfolding listingWords listingStarts listingNeighbours listingNumbers listingLevels listingScratch listingRefusal
   refused-early {c} e other l =
       let some : 1 ≤ c = omega arith in
-      let r : listingRefusal file b ≡ c = ap (λ (x : ℕ). x orElse bodyRefusal file) (sym e) ∙ first c some in
+      let r : listingRefusal file b ≡ c = ap (λ (x : ℕ). x orElse bodyRefusal file) (sym e) ∙ or-else-first c (bodyRefusal file) some in
       record {
         answers = answer-is r some l;
         writes = bytes-are r some l;
-        words = filled-kept c (body file) (b .words) some ∙ ap (λ (x : ℕ). filled x (body file) (b .words)) e;
+        words = filled-refused (earlyRefusal file b) c (body file) (b .words) (sym e) some;
         starts = kept r some (startList (fileGraph file)) (b .starts);
         neighbours = kept r some (neighbourList (fileGraph file)) (b .neighbours);
-        scratch = scratch-kept c _ (b .scratch) some (λ q. early-told file b .other (sym e ∙ q))
-            ∙ ap (λ (x : ℕ). scratchAfter (eqb x 0 || eqb x 11) (cond (eqb x 0) (wordsPerNode * fileNodes file) (fileNodes file)) (b .scratch)) (sym r);
+        scratch = scratch-kept (listingRefusal file b) c _ (b .scratch) r some (λ q. early-told file b .other (sym e ∙ q));
         numbers = kept r some (run (fileGraph file) .numbers) (b .numbers);
         levels = kept r some (run (fileGraph file) .levels) (b .levels);
         output = output-is r some l;
       }
-    where
-      first : (x : ℕ) → 1 ≤ x → x orElse bodyRefusal file ≡ x
-      first zero h = absurd (omega arith)
-      first (suc x) h = refl
 
   -- ---- the mesh is read
 

@@ -3,7 +3,7 @@
 use mathlib.Core.Path.{_≡_, refl, ap, _∙_}
 use mathlib.Core.Bool.{Bool, true, false}
 use mathlib.Core.List.{List}
-use Prim.Native.Nat.{ℕ, zero, suc, _+_, _*_, _≤_}
+use Prim.Native.Nat.{ℕ, zero, suc, _*_, _≤_}
 use native.Mathlib.Omega.{arith}
 use lib.ListN.{length, take, drop, length-append}
 use lib.Seq.{take-at}
@@ -12,11 +12,11 @@ use Rattle.basis.proofs.Logic.{or-neither}
 use Rattle.spec.specs.Refusal.{refuse, _orElse_}
 use Rattle.spec.specs.Lent.{wordsPerNode}
 use Rattle.spec.specs.Graph.{maxEntries}
-use Rattle.spec.specs.File.{fileNodes, fileGraph, headerRefusal, bodyRefusal, fileRefusal, listing, output, programOutput}
+use Rattle.spec.specs.File.{fileNodes, fileGraph, headerRefusal, bodyRefusal, fileRefusal, output, programOutput}
 use Rattle.spec.specs.CallsListing.{ListingBuffers, maxWords, outputRoom, shortBuffers, earlyRefusal, listingRefusal, listingText, textFits, listingBytes, listingOutput}
-use Rattle.laws.proofs.Refused.{or-else-zero}
+use Rattle.laws.proofs.Refused.{or-else-zero, or-else-has}
 use Rattle.reading.proofs.Early.{early-told}
-use Rattle.reading.proofs.Files.{or-else-has, header-good, body-refusal-most}
+use Rattle.reading.proofs.Files.{header-good, body-refusal-most}
 use Rattle.writing.proofs.Decimals.{four-digits}
 use Rattle.writing.proofs.Fits.{listing-fits}
 use Rattle.writing.proofs.Refusals.{refused-length}

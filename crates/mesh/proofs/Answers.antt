@@ -6,16 +6,16 @@ use Prim.Native.Nat.{ℕ, zero, suc, _≤_}
 use native.Mathlib.Omega.{arith}
 use lib.ListN.{length, take, drop, replicate}
 use lib.Seq.{length-take-le}
-use lib.Dec.{eqb, ltb, eqb·suc-zero}
-use borrow.Author.Tests.{ltb-false, ne-eqb}
+use lib.Dec.{eqb, ltb}
+use borrow.Author.Tests.{ltb-false}
 use Rattle.basis.specs.Lists.{overwrite}
-use Rattle.basis.proofs.Logic.{by-test}
 use Rattle.spec.specs.Refusal.{refuse, _orElse_}
-use Rattle.spec.specs.Lent.{Outcome, refused, accepted, outcome, filled, zeroed, scratchAfter, short}
+use Rattle.spec.specs.Lent.{Outcome, refused, accepted, outcome, filled, zeroed, short}
 use Rattle.spec.specs.Graph.{badSize, maxEntries}
 use Rattle.spec.specs.Mesh.{nodeCount, badNodes, elementRefusal, elementsRefusal, entryCount, startList, neighbourList, refuses11}
 use Rattle.spec.specs.CallsMesh.{graphOfElements, meshRefusal, meshAnswer, meshStarts, meshNeighbours, meshScratch}
-use Rattle.laws.proofs.Lent.{zeroed-is}
+use Rattle.laws.proofs.Lent.{answer-refused, filled-refused, scratch-kept, scratch-zeroed, zeroed-is}
+use Rattle.laws.proofs.Refused.{or-else-has, refuse-has}
 
 -- ---- the refusal, test by test
 
@@ -44,23 +44,23 @@ module _ (n : ℕ) (ws S N L : List ℕ) where
       by-entries e = rw (sized, room, e)
 
 -- elements are refused by 9 or 10 alone
-least : (a b m : ℕ) → a ≤ m → b ≤ m → (a orElse b) ≤ m
-least zero b m h l = l
-least (suc a) b m h l = h
-
-refuse-most : (t : Bool) (c m : ℕ) → c ≤ m → refuse t c ≤ m
-refuse-most true c m h = h
-refuse-most false c m h = omega arith
-
 pub elements-most : (f n : ℕ) (ws : List ℕ) → elementsRefusal f n ws ≤ 10
 unfolding elementsRefusal elementRefusal
 elements-most zero n ws = omega arith
 elements-most (suc f) n [] = omega arith
 elements-most (suc f) n (k ∷ ws) =
-    least (elementRefusal 9 n k ws) (elementsRefusal f n (drop (nodeCount k) ws)) 10
-    (least (refuse (eqb (nodeCount k) 0) 9) _ 10 (refuse-most (eqb (nodeCount k) 0) 9 10 (omega arith))
-    (least (refuse (ltb (length ws) (nodeCount k)) 9) _ 10 (refuse-most (ltb (length ws) (nodeCount k)) 9 10 (omega arith)) (refuse-most (badNodes n (take (nodeCount k) ws)) 10 10 (omega arith))))
+    or-else-has most (elementRefusal 9 n k ws) (elementsRefusal f n (drop (nodeCount k) ws))
+    (or-else-has most (refuse (eqb (nodeCount k) 0) 9) (refuse (ltb (length ws) (nodeCount k)) 9 orElse refuse (badNodes n (take (nodeCount k) ws)) 10)
+    (test (eqb (nodeCount k) 0) 9 (omega arith))
+    (or-else-has most (refuse (ltb (length ws) (nodeCount k)) 9) (refuse (badNodes n (take (nodeCount k) ws)) 10)
+    (test (ltb (length ws) (nodeCount k)) 9 (omega arith)) (test (badNodes n (take (nodeCount k) ws)) 10 (omega arith))))
     (elements-most f n (drop (nodeCount k) ws))
+  where
+    most : ℕ → Type 0
+    most c = c ≤ 10
+
+    test : (b : Bool) (c : ℕ) → c ≤ 10 → refuse b c ≤ 10
+    test b c h = refuse-has most b c h (omega arith)
 
 -- ---- what the call answers and leaves
 
@@ -72,9 +72,15 @@ pub record Ends (n : ℕ) (ws S N L : List ℕ) (answer : Outcome ℕ) (S′ N�
 
 -- refused before the entries are counted: all is untouched
 pub untouched : (n : ℕ) (ws S N L : List ℕ) (c : ℕ) → meshRefusal n ws S N L ≡ c → 1 ≤ c → (c ≡ 11 → ⊥) → Ends n ws S N L (refused c) S N L
-unfolding meshAnswer meshStarts meshNeighbours meshScratch outcome filled scratchAfter
-untouched n ws S N L zero e h other = absurd (omega arith)
-untouched n ws S N L (suc c) e h other = record { answers = rw e; starts = rw e; neighbours = rw e; scratch = rw (e, ne-eqb (suc c) 11 other, eqb·suc-zero c) }
+unfolding meshAnswer meshStarts meshNeighbours meshScratch
+untouched n ws S N L c e h other =
+    let r = meshRefusal n ws S N L in
+    record {
+      answers = answer-refused r c _ e h;
+      starts = filled-refused r c _ S e h;
+      neighbours = filled-refused r c _ N e h;
+      scratch = scratch-kept r c n L e h other;
+    }
 
 -- the entries were counted: 11 or none, and the scratch is 0
 pub counted : (n : ℕ) (ws S N L : List ℕ) (answer : Outcome ℕ) (S′ N′ L′ : List ℕ)
@@ -83,12 +89,12 @@ pub counted : (n : ℕ) (ws S N L : List ℕ) (answer : Outcome ℕ) (S′ N′ 
     → S′ ≡ filled (refuse (refuses11 (graphOfElements n ws)) 11) (startList (graphOfElements n ws)) S
     → N′ ≡ filled (refuse (refuses11 (graphOfElements n ws)) 11) (neighbourList (graphOfElements n ws)) N
     → L′ ≡ zeroed n L → Ends n ws S N L answer S′ N′ L′
-unfolding meshAnswer meshStarts meshNeighbours meshScratch scratchAfter
+unfolding meshAnswer meshStarts meshNeighbours meshScratch
 counted n ws S N L answer S′ N′ L′ e a s t l = record {
   answers = rw e a;
   starts = rw e s;
   neighbours = rw e t;
-  scratch = by-test (refuses11 (graphOfElements n ws)) (λ b. rw (e, b) l) (λ b. rw (e, b) l);
+  scratch = l ∙ scratch-zeroed (meshRefusal n ws S N L) (refuses11 (graphOfElements n ws)) n L e;
 }
 
 -- ---- 11 is decided first

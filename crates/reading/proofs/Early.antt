@@ -2,7 +2,7 @@
 use mathlib.Core.Path.{_≡_, refl, sym, ap, _∙_, subst}
 use mathlib.Core.Bool.{Bool, true, false, _||_}
 use mathlib.Core.List.{List}
-use Prim.Native.Nat.{ℕ, zero, suc, _+_, _*_, _≤_, _<_}
+use Prim.Native.Nat.{ℕ, suc, _+_, _*_, _≤_, _<_}
 use lib.Dec.{ltb}
 use native.Mathlib.Omega.{arith}
 use borrow.Author.Tests.{lt-ltb, le-ltb}
@@ -10,9 +10,10 @@ use Rattle.spec.specs.CallsListing.{ListingBuffers, shortBuffers, earlyRefusal}
 use Rattle.spec.specs.File.{fileNodes, badHeader, headerRefusal}
 use Rattle.spec.specs.Graph.{badSize}
 use Rattle.spec.specs.Refusal.{refuse, _orElse_}
+use Rattle.laws.proofs.Refused.{or-else-first, or-else-has}
 use Rattle.reading.specs.Lent.{lengthsOf, listsShort, buffersShort}
 use Rattle.reading.specs.declared.answer.Lengths.{Lengths}
-use Rattle.reading.proofs.Files.{Told, told, or-else-has}
+use Rattle.reading.proofs.Files.{Told, told}
 
 -- ---- a product of which one side is known
 
@@ -72,11 +73,9 @@ module _ (file : List ℕ) (b : ListingBuffers) where
       (told (shortBuffers (fileNodes file) b) 5 (omega arith) (λ e. omega arith))
 
   pub early-header : {c : ℕ} → c ≡ headerRefusal file → (c ≡ 0 → ⊥) → c ≡ earlyRefusal file b
-  early-header {c} e h = go c h ∙ ap (λ (x : ℕ). x orElse refuse (listsShort (fileNodes file) (lengthsOf b) || buffersShort (fileNodes file) (lengthsOf b)) 5) e ∙ sym early-is
-    where
-      go : (x : ℕ) → (x ≡ 0 → ⊥) → x ≡ x orElse refuse (listsShort (fileNodes file) (lengthsOf b) || buffersShort (fileNodes file) (lengthsOf b)) 5
-      go zero z = absurd (z refl)
-      go (suc x) z = refl
+  early-header {c} e h =
+      let rest = refuse (listsShort (fileNodes file) (lengthsOf b) || buffersShort (fileNodes file) (lengthsOf b)) 5 in
+      sym (or-else-first c rest (omega arith)) ∙ ap (λ (x : ℕ). x orElse rest) e ∙ sym early-is
 
   module _ (good : headerRefusal file ≡ 0) {n : ℕ} (n-is : n ≡ fileNodes file) {l : Lengths} (l-is : lengthsOf b ≡ l) where
     -- the two groups as they were tested

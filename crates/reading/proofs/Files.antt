@@ -1,21 +1,21 @@
 -- What a file is refused by after its header, test by test, and its graph. Assumes nothing.
-use mathlib.Core.Path.{_≡_, refl, sym, ap, _∙_}
-use mathlib.Core.Bool.{Bool, true, false, _||_}
+use mathlib.Core.Path.{_≡_, sym, ap, _∙_}
+use mathlib.Core.Bool.{Bool, false}
 use mathlib.Core.List.{List, [], _∷_}
 use Prim.Native.Nat.{ℕ, zero, suc, _+_, _*_, _≤_, _<_}
 use native.Mathlib.Omega.{arith}
 use lib.ListN.{length, take, drop}
-use lib.Dec.{eqb, ltb, eqb·suc-zero}
-use borrow.Author.Tests.{lt-ltb, le-ltb, ltb-false, ne-eqb}
+use lib.Dec.{eqb, ltb}
+use borrow.Author.Tests.{lt-ltb, le-ltb, ltb-false}
 use Rattle.basis.proofs.Logic.{or-none}
 use Rattle.spec.specs.Refusal.{refuse, _orElse_}
-use Rattle.spec.specs.Lent.{refused, accepted, outcome, filled, zeroed, scratchAfter}
+use Rattle.spec.specs.Lent.{refused, accepted, outcome}
 use Rattle.spec.specs.Graph.{Graph, badSize}
 use Rattle.spec.specs.Mesh.{nodeCount, badNodes, elementRefusal, elementsRefusal, meshGraph, refuses11}
 use Rattle.spec.specs.CallsMesh.{graphOfElements}
 use Rattle.spec.specs.File.{fileNodes, fileElements, body, badHeader, countedRefusal, wordsTaken, leftOver, fileGraph, headerRefusal, bodyRefusal}
-use Rattle.laws.proofs.Lent.{outcome-accepted, outcome-refused}
-use Rattle.laws.proofs.Refused.{or-else-zero, refuse-zero}
+use Rattle.laws.proofs.Lent.{outcome-accepted, outcome-refused, answer-refused}
+use Rattle.laws.proofs.Refused.{or-else-zero, refuse-zero, or-else-first, or-else-has, refuse-has}
 use Rattle.elements.proofs.Elements.{in-order}
 use Rattle.reading.specs.Words.{wordsRefusal}
 use Rattle.reading.proofs.Bytes.{body-length, header-whole}
@@ -52,14 +52,11 @@ module _ (bs : List ℕ) where
   -- an element is refused
   pub by-element : (r : ℕ) → refused r ≡ outcome (countedRefusal (fileElements bs) (fileNodes bs) (body bs)) (wordsTaken (fileElements bs) (body bs))
       → refused r ≡ outcome (wordsRefusal bs) (length (body bs))
-  unfolding wordsRefusal outcome
+  unfolding wordsRefusal
   by-element r e =
       let w = outcome-refused counted r taken (sym e) in
-      ap refused (sym (w .0)) ∙ first counted (omega (arith, w .0, w .1))
-    where
-      first : (c : ℕ) → 1 ≤ c → refused c ≡ outcome (c orElse refuse (leftOver bs) 12) (length (body bs))
-      first zero h = absurd (omega arith)
-      first (suc c) h = refl
+      let first = or-else-first counted (refuse (leftOver bs) 12) (omega (arith, w .0, w .1)) in
+      answer-refused (wordsRefusal bs) r (length (body bs)) (first ∙ w .0) (w .1)
 
   module _ (t : ℕ) (e : accepted t ≡ outcome (countedRefusal (fileElements bs) (fileNodes bs) (body bs)) (wordsTaken (fileElements bs) (body bs))) where
     both : (countedRefusal (fileElements bs) (fileNodes bs) (body bs) ≡ 0) × (wordsTaken (fileElements bs) (body bs) ≡ t)
@@ -80,15 +77,6 @@ module _ (bs : List ℕ) where
     by-none h = rw (both .0, le-ltb (9 + 2 * taken) (length bs) (omega (arith, both .1)))
 
 -- ---- after the words: 11 or none
-
--- a property that the number of each test has, and 0, is one of the refusal
-pub or-else-has : (P : ℕ → Type 0) (a b : ℕ) → P a → P b → P (a orElse b)
-or-else-has P zero b h l = l
-or-else-has P (suc a) b h l = h
-
-pub refuse-has : (P : ℕ → Type 0) (t : Bool) (c : ℕ) → P c → P 0 → P (refuse t c)
-refuse-has P true c h l = h
-refuse-has P false c h l = l
 
 -- one of the table's numbers, or 0, but not 11
 pub record Told (c : ℕ) : Type 0 where
@@ -133,11 +121,8 @@ module _ (bs : List ℕ) where
   pub words-refused : (r : ℕ) → refused r ≡ outcome (wordsRefusal bs) (length (body bs)) → (bodyRefusal bs ≡ r) × (1 ≤ r) × (r ≡ 11 → ⊥)
   words-refused r e =
       let w = outcome-refused (wordsRefusal bs) r (length (body bs)) (sym e) in
-      (body-split ∙ first (wordsRefusal bs) (omega (arith, w .0, w .1)) ∙ w .0, w .1, λ z. words-told .other (w .0 ∙ z))
-    where
-      first : (c : ℕ) → 1 ≤ c → c orElse refuse (refuses11 (fileGraph bs)) 11 ≡ c
-      first zero h = absurd (omega arith)
-      first (suc c) h = refl
+      let first = or-else-first (wordsRefusal bs) (refuse (refuses11 (fileGraph bs)) 11) (omega (arith, w .0, w .1)) in
+      (body-split ∙ first ∙ w .0, w .1, λ z. words-told .other (w .0 ∙ z))
 
   module _ (t : ℕ) (e : accepted t ≡ outcome (wordsRefusal bs) (length (body bs))) where
     passed : (wordsRefusal bs ≡ 0) × (length (body bs) ≡ t)
@@ -182,25 +167,3 @@ module _ (bs : List ℕ) (e : bodyRefusal bs ≡ 0) where
 
   pub file-few : refuses11 (fileGraph bs) ≡ false
   file-few = refuse-zero (refuses11 (fileGraph bs)) 11 (omega arith) (tests .1)
-
--- ---- answer and buffers by the refusal's number
-
-pub outcome-kept : (c : ℕ) (a : ℕ) → 1 ≤ c → refused c ≡ outcome c a
-unfolding outcome
-outcome-kept zero a h = absurd (omega arith)
-outcome-kept (suc c) a h = refl
-
-pub filled-kept : (c : ℕ) (new old : List ℕ) → 1 ≤ c → old ≡ filled c new old
-unfolding filled
-filled-kept zero new old h = absurd (omega arith)
-filled-kept (suc c) new old h = refl
-
-pub scratch-kept : (c n : ℕ) (l : List ℕ) → 1 ≤ c → (c ≡ 11 → ⊥) → l ≡ scratchAfter (eqb c 0 || eqb c 11) n l
-unfolding scratchAfter
-scratch-kept zero n l h other = absurd (omega arith)
-scratch-kept (suc c) n l h other = rw (ne-eqb (suc c) 11 other, eqb·suc-zero c)
-
-pub scratch-zeroed : (b : Bool) (n : ℕ) (l : List ℕ) → zeroed n l ≡ scratchAfter (eqb (refuse b 11) 0 || eqb (refuse b 11) 11) n l
-unfolding scratchAfter
-scratch-zeroed true n l = refl
-scratch-zeroed false n l = refl

@@ -2,7 +2,7 @@
 use mathlib.Core.Path.{_≡_, refl, sym, ap, _∙_}
 use mathlib.Core.Bool.{Bool, true, false, not, _||_, cond}
 use mathlib.Core.List.{List, _++_}
-use Prim.Native.Nat.{ℕ, zero, suc, _≤_, _<_}
+use Prim.Native.Nat.{ℕ, _≤_, _<_}
 use native.Mathlib.Omega.{arith}
 use lib.Dec.{eqb}
 use lib.ListN.{length, take, drop, replicate}
@@ -18,15 +18,11 @@ use Rattle.spec.specs.Refusal.{refuse, _orElse_}
 use Rattle.spec.specs.Store.{markByteCount, markBytes}
 use Rattle.laws.proofs.Lent.{answer-refused, filled-refused, zeroed-is}
 use Rattle.laws.proofs.Numberings.{numbering-length}
-use Rattle.laws.proofs.Refused.{graph-refusal-most}
+use Rattle.laws.proofs.Refused.{or-else-first, graph-refusal-most}
 use Rattle.graph.specs.Facts.{LegalLists, RefusedLists}
 use Rattle.graph.proofs.Answers.{refused-first, legal-next}
 use Rattle.envelope.proofs.Lent.{length-orderOf}
 use Rattle.eliminate.specs.Walk.{newGraph}
-
-first-refuses : (c d : ℕ) → 1 ≤ c → c orElse d ≡ c
-first-refuses zero d h = absurd (omega arith)
-first-refuses (suc c) d h = refl
 
 -- ---- what a refusal by c leaves
 
@@ -103,7 +99,7 @@ pub answered-lists : (S N x C B : List ℕ) {c : ℕ} → RefusedLists S N c →
 unfolding eliminationRefusal measuresRefusal
 answered-lists S N x C B {c} F =
     untouched S N x C B c (F .some) (omega (arith, F .refusal, graph-refusal-most S N))
-    (ap (λ (d : ℕ). d orElse last) (refused-first F rest) ∙ first-refuses c last (F .some))
+    (ap (λ (d : ℕ). d orElse last) (refused-first F rest) ∙ or-else-first c last (F .some))
   where
     rest : ℕ
     rest = refuse (short C (sizeOf S)) 5 orElse refuse (not (isNumbering (sizeOf S) x)) 7

@@ -1,23 +1,22 @@
 -- `reading::legal::read_mesh` meets its contract. Assumes nothing.
 use Prim.Native.Nat.{ℕ, _≤_}
 use mathlib.Core.Path.{_≡_, refl, sym, ap, ap₂, _∙_}
-use mathlib.Core.Bool.{_||_}
 use mathlib.Core.List.{List}
 use native.Mathlib.Omega.{arith}
 use denote.Ref.{now}
 use borrow.Author.Needs.{needs}
 use lib.ListN.{length, take, drop}
 use lib.Seq.{length-take-le, take-at}
-use lib.Dec.{eqb}
 use Rattle.spec.specs.Refusal.{refuse}
-use Rattle.spec.specs.Lent.{accepted, outcome, filled, zeroed, scratchAfter}
+use Rattle.spec.specs.Lent.{accepted, outcome, filled, zeroed}
 use Rattle.spec.specs.Graph.{Graph}
 use Rattle.spec.specs.Mesh.{elementsRefusal, entryCount, startList, neighbourList, refuses11}
 use Rattle.spec.specs.CallsMesh.{graphOfElements}
-use Rattle.spec.specs.File.{fileNodes, body, fileGraph}
+use Rattle.spec.specs.File.{fileNodes, body, fileGraph, bodyRefusal}
+use Rattle.laws.proofs.Lent.{answer-refused, filled-refused, scratch-kept, scratch-zeroed}
 use Rattle.reading.specs.Answer.{tested}
 use Rattle.reading.specs.Words.{wordsRefusal}
-use Rattle.reading.proofs.Files.{header-good, words-refused, words-all, words-good, words-graph, words-pass, outcome-kept, filled-kept, scratch-kept, scratch-zeroed}
+use Rattle.reading.proofs.Files.{header-good, words-refused, words-all, words-good, words-graph, words-pass}
 use Rattle.reading.proofs.legal.read_mesh.Statement.{statement}
 use Rattle.reading.proofs.legal.read_mesh.Tie as tie
 
@@ -86,16 +85,15 @@ returns c =
     let s = start r in
     let W = bytes r in
     let c′ = c .before .answer .given .0 .0 in
-    let w = words-refused W c′ (sym (ap tested (c .before .answer .given .1)) ∙ r .read-elements .ensures .0) in
-    let e = sym (w .0) in (
-      outcome-kept c′ (entryCount (fileGraph W)) (w .1) ∙ ap (λ (n : ℕ). outcome n (entryCount (fileGraph W))) e,
+    let w = words-refused W c′ (sym (ap tested (c .before .answer .given .1)) ∙ r .read-elements .ensures .0) in (
+      answer-refused (bodyRefusal W) c′ (entryCount (fileGraph W)) (w .0) (w .1),
       (
         r .read-elements .ensures .1,
         (
-          filled-kept c′ (startList (fileGraph W)) (now (s .args .starts)) (w .1) ∙ ap (λ (n : ℕ). filled n (startList (fileGraph W)) (now (s .args .starts))) e,
+          filled-refused (bodyRefusal W) c′ (startList (fileGraph W)) (now (s .args .starts)) (w .0) (w .1),
           (
-            filled-kept c′ (neighbourList (fileGraph W)) (now (s .args .neighbours)) (w .1) ∙ ap (λ (n : ℕ). filled n (neighbourList (fileGraph W)) (now (s .args .neighbours))) e,
-            scratch-kept c′ (fileNodes W) (now (s .args .scratch)) (w .1) (w .2) ∙ ap (λ (n : ℕ). scratchAfter (eqb n 0 || eqb n 11) (fileNodes W) (now (s .args .scratch))) e,
+            filled-refused (bodyRefusal W) c′ (neighbourList (fileGraph W)) (now (s .args .neighbours)) (w .0) (w .1),
+            scratch-kept (bodyRefusal W) c′ (fileNodes W) (now (s .args .scratch)) (w .0) (w .1) (w .2),
           ),
         ),
       ),
@@ -109,7 +107,8 @@ returns-2 c =
     let W = bytes (read k) in
     let g = fileGraph W in
     let G = ap₂ graphOfElements (nodes (read k)) (part k) ∙ sym (words-graph W (size k) (told k)) in
-    let e = sym (words-pass W (size k) (told k) ∙ ap (λ (h : Graph). refuse (refuses11 h) 11) (sym (words-graph W (size k) (told k)))) in (
+    let passed = words-pass W (size k) (told k) ∙ ap (λ (h : Graph). refuse (refuses11 h) 11) (sym (words-graph W (size k) (told k))) in
+    let e = sym passed in (
       d .adjacency .ensures .0
           ∙ ap (λ (h : Graph). outcome (refuse (refuses11 h) 11) (entryCount h)) G
           ∙ ap (λ (n : ℕ). outcome n (entryCount g)) e,
@@ -125,8 +124,7 @@ returns-2 c =
                 ∙ ap (λ (n : ℕ). filled n (neighbourList g) (now (s .args .neighbours))) e,
             d .adjacency .ensures .1 .1 .1
                 ∙ ap (λ (n : ℕ). zeroed n (now (s .args .scratch))) (nodes (read k))
-                ∙ scratch-zeroed (refuses11 g) (fileNodes W) (now (s .args .scratch))
-                ∙ ap (λ (n : ℕ). scratchAfter (eqb n 0 || eqb n 11) (fileNodes W) (now (s .args .scratch))) e,
+                ∙ scratch-zeroed (bodyRefusal W) (refuses11 g) (fileNodes W) (now (s .args .scratch)) passed,
           ),
         ),
       ),
