@@ -3,7 +3,7 @@ use mathlib.Core.Path.{_≡_, refl, sym, ap, _∙_}
 use mathlib.Core.Logic.{_⊎_, inl, inr, ⊎-elim}
 use mathlib.Core.Bool.{Bool, true, false, true≢false}
 use mathlib.Core.List.{List, [], _∷_, _++_}
-use Prim.Native.Nat.{ℕ, zero, suc, _+_, _-_, _≤_, _<_}
+use Prim.Native.Nat.{ℕ, _+_, _-_, _≤_, _<_}
 use native.Mathlib.Nat.{le-refl}
 use native.Mathlib.Omega.{arith}
 use lib.ListN.{length, take, drop, getD, replicate, length-append, length-replicate}
@@ -19,6 +19,7 @@ use Rattle.spec.specs.Graph.{graphOf, sizeOf, graphRefusal, beforeE, ofNode}
 use Rattle.spec.specs.Levels.{levels, levelList, part, depth as deepness}
 use Rattle.laws.specs.Legal.{Node, LegalGraph}
 use Rattle.laws.proofs.Figures.{width-counts, length-levelList}
+use Rattle.laws.proofs.Legal.{ofNode-zeros}
 use Rattle.laws.proofs.Orders.{E-order, narrower-order}
 use Rattle.laws.proofs.Refused.{passed, starts-of, not-refused}
 use Rattle.search.specs.Answer.{rootedOf, Searched}
@@ -35,15 +36,6 @@ use Rattle.ends.proofs.Least.{least-one, least-new, least-old, chain-be
 filter-past : (t : ℕ → Bool) (xs ys : List ℕ) → filterb t xs ≡ [] → filterb t (xs ++ ys) ≡ filterb t ys
 filter-past t xs ys e = filter-append t xs ys ∙ ap (λ (l : List ℕ). l ++ filterb t ys) e
 
-zero-of : (n q : ℕ) → _≡_ {A = ℕ} (getD (replicate n 0) q 0) 0
-zero-of zero q = refl
-zero-of (suc n) zero = refl
-zero-of (suc n) (suc q) = zero-of n q
-
-no-level : (n q : ℕ) → ofNode (replicate n 0) q ≡ 0
-unfolding ofNode
-no-level n q = zero-of (suc n) q
-
 -- words that are 0 hold a search of no nodes
 queued-none : (n : ℕ) {W : List ℕ} → W ≡ replicate (n + n) 0 → Queued n 0 W
 queued-none n z =
@@ -51,7 +43,7 @@ queued-none n z =
     rw z record {
       full = length-replicate (n + n) 0;
       most = omega arith;
-      each = λ q. sym (ap (λ (l : List ℕ). bit (ltb 0 (ofNode l q))) (take-replicate n n 0) ∙ ap (λ (x : ℕ). bit (ltb 0 x)) (no-level n q));
+      each = λ q. sym (ap (λ (l : List ℕ). bit (ltb 0 (ofNode l q))) (take-replicate n n 0) ∙ ap (λ (x : ℕ). bit (ltb 0 x)) (ofNode-zeros n q));
       rest = drop-replicate n (n + n) 0 ∙ ap (λ (k : ℕ). replicate k 0) e;
     }
 

@@ -7,7 +7,7 @@ use native.Mathlib.Omega.{arith}
 use lib.ListN.{length, getD, take, drop, replicate, length-append, length-take, length-drop, length-map, length-replicate}
 use lib.Seq.{sets, slice, length-sets, length-slice, length-take-le, ext-getD, take-at, drop-at, take-take, getD-take, getD-drop}
 use Rattle.basis.specs.Lists.{memb, upFrom}
-use Rattle.basis.proofs.Index.{getD-map-upFrom, memb-getD}
+use Rattle.basis.proofs.Index.{getD-map-upFrom, memb-getD, zeros-at}
 use Rattle.basis.proofs.Lists.{memb-length, length-upFrom}
 use Rattle.spec.specs.Combined.{combined}
 use Rattle.spec.specs.Ends.{ends}
@@ -30,7 +30,6 @@ use Rattle.piecing.proofs.Finish.{merged-alone}
 use Rattle.piecing.proofs.Stores.{sets-behind, sets-at}
 use Rattle.levels.specs.Part.{PartGiven, partLevelsOf}
 use Rattle.levels.specs.declared.shape.PartLevels.{PartLevels}
-use Rattle.levels.proofs.OnePart.{zeros-at}
 use Rattle.levels.proofs.Scratch.{zero-front, behind-front, behind-sets, zeroed-again}
 
 module _ (S N : List ℕ) (p : ℕ) (W : List ℕ) (ok : graphRefusal S N ≡ 0) (range : (1 ≤ p) × (p ≤ sizeOf S))

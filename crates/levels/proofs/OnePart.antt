@@ -1,14 +1,14 @@
 -- One part: from its members to the searches from its ends, and from those to what `combine` asks. Assumes nothing.
-use mathlib.Core.Path.{_≡_, refl, sym, ap, _∙_, subst}
+use mathlib.Core.Path.{_≡_, sym, ap, _∙_, subst}
 use mathlib.Core.Bool.{true}
 use mathlib.Core.List.{List, _++_}
-use Prim.Native.Nat.{ℕ, zero, suc, _+_, _-_, _*_, _≤_, _<_}
+use Prim.Native.Nat.{ℕ, _+_, _-_, _*_, _≤_, _<_}
 use native.Mathlib.Omega.{arith}
 use lib.ListN.{length, getD, take, drop, replicate, length-append, length-take, length-drop, length-map, length-replicate, take-append-drop, List·getD-append}
 use lib.Seq.{slice, length-slice, ext-getD, take-append-le, take-take, getD-take, getD-drop}
 use borrow.Rule.Slice.PartMut.{postOf, mid-len}
 use Rattle.basis.specs.Lists.{memb, upFrom}
-use Rattle.basis.proofs.Index.{getD-map-upFrom}
+use Rattle.basis.proofs.Index.{getD-map-upFrom, zeros-at}
 use Rattle.basis.proofs.Lists.{map-cong, upFrom-in, length-upFrom}
 use Rattle.spec.specs.Combined.{combined, widthOf}
 use Rattle.spec.specs.Ends.{Ends, ends}
@@ -37,12 +37,6 @@ use Rattle.levels.specs.Part.{PartGiven, partLevelsOf}
 use Rattle.levels.specs.declared.shape.PartLevels.{PartLevels}
 use Rattle.levels.proofs.Firsts.{first-range, first-own, same-ends}
 use Rattle.levels.proofs.Scratch.{behind-front}
-
--- a word of zeros, or past them
-pub zeros-at : (k i : ℕ) → getD {A = ℕ} (replicate k 0) i 0 ≡ 0
-zeros-at zero i = refl
-zeros-at (suc k) zero = refl
-zeros-at (suc k) (suc i) = zeros-at k i
 
 -- the words of a search past its queue are 0
 past-queue : {n count : ℕ} {W : List ℕ} → Queued n count W → (i : ℕ) → n + count ≤ i → getD W i 0 ≡ 0

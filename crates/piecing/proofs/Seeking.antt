@@ -12,8 +12,8 @@ use lib.Dec.{eqb}
 use Rattle.basis.specs.Lists.{bit, filterb, consIf, countb, memb, upFrom}
 use Rattle.basis.specs.Perm.{times}
 use Rattle.basis.proofs.Count.{bit-one, count-append, length-filter, count-every, count-cong, count-parted, count-sub, filter-once, none-times}
-use Rattle.basis.proofs.Lists.{memb-append, memb-filter, filter-in, upFrom-in, filter-append}
-use Rattle.basis.proofs.Logic.{by-test, and-make, or-left, eqb-self}
+use Rattle.basis.proofs.Lists.{memb-take, memb-filter, filter-in, upFrom-in, filter-append}
+use Rattle.basis.proofs.Logic.{by-test, and-make, eqb-self}
 use Rattle.basis.proofs.Index.{memb-getD}
 use Rattle.combining.specs.Model.{written}
 use Rattle.piecing.specs.Seek.{at, looseAt, freshAt, one, Seek, Nodes, Pushed}
@@ -108,12 +108,9 @@ times-take k x l = ap (times x) (sym (take-append-drop k l)) ∙ count-append (e
 nodes-take : {n : ℕ} {row : List ℕ} (k : ℕ) → Nodes n row → Nodes n (take k row)
 nodes-take {n} {row} k N = record {
   once = λ x. omega (arith, times-take k x row, N .once x);
-  low = λ q m. N .low q (here q m);
-  high = λ q m. N .high q (here q m);
+  low = λ q m. N .low q (memb-take q k row m);
+  high = λ q m. N .high q (memb-take q k row m);
 }
-  where
-    here : (q : ℕ) → memb q (take k row) ≡ true → memb q row ≡ true
-    here q m = ap (memb q) (sym (take-append-drop k row)) ∙ memb-append q (take k row) (drop k row) ∙ or-left (memb q (drop k row)) m
 
 module _ {n : ℕ} {row W L : List ℕ} {tail : ℕ} {W′ L′ : List ℕ} {t k : ℕ} (I : Visiting n row W L tail W′ L′ t k) (h : k < length row) {v : ℕ} (e : v ≡ getD row k 0) where
   v-row : memb v row ≡ true

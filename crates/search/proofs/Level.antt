@@ -7,7 +7,7 @@ use Prim.Native.Nat.{ℕ, zero, suc, _+_, _-_, _≤_, _<_, max}
 use native.Mathlib.Nat.{le-refl}
 use native.Mathlib.Numerals.{add-one}
 use native.Mathlib.Omega.{arith}
-use lib.ListN.{length, set, replicate, length-replicate, getD-replicate}
+use lib.ListN.{length, set, replicate, length-replicate}
 use lib.Dec.{eqb, ltb}
 use borrow.Author.Tests.{eq-eqb, ne-eqb, eqb-true, lt-ltb}
 use Rattle.basis.specs.Lists.{bit, memb, greatest, countb}
@@ -23,8 +23,8 @@ use Rattle.laws.proofs.Refused.{passed, legal-graph}
 use Rattle.search.specs.Marks.{within, marked, found, rows}
 use Rattle.search.proofs.Marks.{times-none, times-gain, times-keep, greatest-marked, times-mark}
 use Rattle.search.proofs.Round.{readable, within-rows, placed, length-placed, placed-few, first-placed, round, placed-last}
-use Rattle.search.proofs.Tallies.{ofNode-set, times-set, times-zeros, times-rest, greatest-set, greatest-at, greatest-zeros, greatest-times, times-above, greatest-less, width-more, width-same, width-most}
-use Rattle.laws.proofs.Legal.{ofNode-at}
+use Rattle.search.proofs.Tallies.{ofNode-set, times-set, times-zeros, times-rest, greatest-set, greatest-zeros, greatest-times, times-above, greatest-less, width-more, width-same, width-most}
+use Rattle.laws.proofs.Legal.{ofNode-at, ofNode-zeros}
 
 -- The nodes up to level depth + 1 are placed in L, `before` of them up to level depth and `count` at the last; width is that of the first depth levels.
 pub record Level (S N : List ℕ) (root : ℕ) (L : List ℕ) (before count depth width : ℕ) : Type 0 where
@@ -159,15 +159,12 @@ module _ (S N : List ℕ) {root : ℕ} (z : graphRefusal S N ≡ 0) (M : Node (g
 
   -- the level of q is 1 at the root, and 0 elsewhere
   pub first-level : (q : ℕ) → ofNode (set zs (root - 1) 1) q ≡ cond (eqb q root) 1 0
-  first-level q = ofNode-set zs root 1 q (M .low) root-in ∙ ap (λ (x : ℕ). cond (eqb q root) 1 x) (none q)
-    where
-      none : (q : ℕ) → ofNode zs q ≡ 0
-      none q = let g = greatest-at zs q in omega (arith, greatest-zeros (sizeOf S))
+  first-level q = ofNode-set zs root 1 q (M .low) root-in ∙ ap (λ (x : ℕ). cond (eqb q root) 1 x) (ofNode-zeros (sizeOf S) q)
 
   pub first : Level S N root (set zs (root - 1) 1) 0 1 0 0
   unfolding widthOf
   first =
-      let e : ofNode zs root ≡ 0 = ofNode-at zs root (M .low) ∙ getD-replicate (sizeOf S) (root - 1) 0 0 (omega (arith, M .low, M .high)) in
+      let e : ofNode zs root ≡ 0 = ofNode-zeros (sizeOf S) root in
       let t : greatest zs ≡ 0 = greatest-zeros (sizeOf S) in
       let k : times 1 (set zs (root - 1) 1) + 0 ≡ times 1 zs + 1 =
       rw (sym (ofNode-at zs root (M .low)) ∙ e) at (times-set 1 zs (root - 1) 1 (omega (arith, root-in, M .low))) in

@@ -5,7 +5,7 @@ use mathlib.Core.List.{List, [], _∷_, map}
 use Prim.Native.Nat.{ℕ, suc, _+_, _-_, _≤_}
 use native.Mathlib.Numerals.{add-one}
 use native.Mathlib.Omega.{arith}
-use lib.ListN.{length, set, replicate, length-set, length-replicate, getD-replicate, length-map}
+use lib.ListN.{length, set, replicate, length-set, length-replicate, length-map}
 use lib.Dec.{eqb, leb, ltb}
 use borrow.Author.Tests.{eqb-true, ltb-true, ltb-false}
 use Rattle.basis.specs.Lists.{bit, memb, anyb, countb, greatest}
@@ -17,7 +17,7 @@ use Rattle.spec.specs.Graph.{Graph, graphOf, sizeOf, rowOf, nodes, adjoins, gra
 use Rattle.spec.specs.Levels.{levels, levelOf, levelList, depth, part}
 use Rattle.laws.specs.Legal.{Node, LegalGraph}
 use Rattle.laws.specs.Rooted.{upTo, beside}
-use Rattle.laws.proofs.Legal.{length-nodes, by-node, ofNode-map, ofNode-at}
+use Rattle.laws.proofs.Legal.{length-nodes, by-node, ofNode-map, ofNode-zeros}
 use Rattle.laws.proofs.Levels.{rooted, placed-node, levelList-at}
 use Rattle.laws.proofs.Figures.{length-levelList, reached-part, reached-count}
 use Rattle.laws.proofs.Refused.{passed, starts-of, legal-graph}
@@ -122,9 +122,8 @@ module _ (S N : List ℕ) (z : graphRefusal S N ≡ 0) {r : ℕ} (R : Node (grap
       let n : ℕ = sizeOf S in
       by-node g (set (replicate n 0) (r - 1) 1) (placed g r 1) (length-set (replicate n 0) (r - 1) 1 ∙ length-replicate n 0) (length-placed g r 1)
       (λ q M.
-      let zero-at : ofNode (replicate n 0) q ≡ 0 = ofNode-at (replicate n 0) q (M .low) ∙ getD-replicate n (q - 1) 0 0 (omega (arith, M .low, M .high)) in
       ofNode-set (replicate n 0) r 1 q (R .low) (omega (arith, R .high, length-replicate {A = ℕ} n 0))
-      ∙ ap (λ (x : ℕ). cond (eqb q r) 1 x) zero-at ∙ sym (placed-at g r 1 q M ∙ round-first G (rooted G R) q M))
+      ∙ ap (λ (x : ℕ). cond (eqb q r) 1 x) (ofNode-zeros n q) ∙ sym (placed-at g r 1 q M ∙ round-first G (rooted G R) q M))
 
   -- each later round, W the nodes of level i
   pub round : (W : List ℕ) (i : ℕ) → 1 ≤ i → ((q : ℕ) → memb q W ≡ eqb (ofNode (placed g r i) q) i)

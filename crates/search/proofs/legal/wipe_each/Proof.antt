@@ -5,7 +5,7 @@ use mathlib.Core.List.{List, [], _∷_, _++_}
 use Prim.Native.Nat.{ℕ, _+_, _-_, _≤_, _<_}
 use native.Mathlib.Numerals.{add-one}
 use native.Mathlib.Omega.{arith}
-use lib.ListN.{length, take, drop, getD, set, replicate, length-set, length-replicate, getD-replicate, take-append-drop, replicate-append-replicate}
+use lib.ListN.{length, take, drop, getD, set, replicate, length-set, length-replicate, take-append-drop, replicate-append-replicate}
 use lib.Seq.{slice, slice-cons, slice-empty, getD-drop, take-set-lt, drop-set-lt, take-suc-set}
 use lib.Dec.{eqb, ltb}
 use borrow.Author.Needs.{needs}
@@ -19,7 +19,7 @@ use Rattle.search.proofs.Stores.{write-front, write-behind, front-lengt
 use Rattle.search.proofs.Tallies.{ofNode-some, ofNode-set, levels-ext}
 use Rattle.search.proofs.legal.wipe_each.Statement.{statement}
 use Rattle.search.proofs.legal.wipe_each.Tie as tie
-use Rattle.laws.proofs.Legal.{ofNode-at}
+use Rattle.laws.proofs.Legal.{ofNode-zeros}
 
 -- at the loop's head: the queue from i up to count holds the nodes that have a level, and the others are 0
 record Wiping (n count : ℕ) (L Q : List ℕ) (i : ℕ) : Type 0 where
@@ -75,7 +75,7 @@ none-left n L l h =
     let z : ofNode L q ≡ 0 = by-test (ltb 0 (ofNode L q))
     (λ t. absurd (omega (arith, rw t at (h q))))
     (λ t. let m = ltb-false 0 (ofNode L q) t in omega arith) in
-    z ∙ sym (ofNode-at (replicate n 0) q a ∙ getD-replicate n (q - 1) 0 0 (omega arith)))
+    z ∙ sym (ofNode-zeros n q))
 
 done : {n count : ℕ} {L Q : List ℕ} {i : ℕ} → Wiping n count L Q i → count ≤ i → (L ≡ replicate n 0) × (Q ≡ replicate n 0)
 done {n} {count} {L} {Q} {i} I h =
