@@ -1,12 +1,12 @@
 -- A test over a list that is read by index, as a loop reads it: one index decides `anyb` and `chainb`, or all of them do. Assumes nothing.
-use mathlib.Core.Path.{_≡_, refl, sym}
+use mathlib.Core.Path.{_≡_, refl, sym, ap}
 use mathlib.Core.Bool.{Bool, true, false}
-use mathlib.Core.List.{List, [], _∷_}
+use mathlib.Core.List.{List, [], _∷_, _++_}
 use Prim.Native.Nat.{ℕ, zero, suc, _-_, _≤_, _<_}
 use native.Mathlib.Nat.{not-suc-le-zero}
 use native.Mathlib.Omega.{arith}
 use lib.ListN.{length, getD, take, drop}
-use lib.Seq.{take-nil, drop-nil, slice}
+use lib.Seq.{take-nil, drop-nil, take-append-le, slice}
 use Rattle.basis.specs.Lists.{anyb, chainb, headOr}
 use Rattle.basis.proofs.Logic.{clash, fails, and-split, and-make, or-left, or-right, or-neither}
 
@@ -64,3 +64,7 @@ part-slice zero t l = let q : t - 0 ≡ t = omega arith in rw q
 part-slice (suc f) zero l = let q : 0 - suc f ≡ 0 = omega arith in rw q (sym (drop-nil (suc f)))
 part-slice (suc f) (suc t) [] = take-nil (suc t - suc f)
 part-slice (suc f) (suc t) (x ∷ l) = let q : suc t - suc f ≡ t - f = omega arith in rw q (part-slice f t l)
+
+-- a slice of the front
+pub slice-front : {A : Type 0} (f t : ℕ) (xs ys : List A) → t ≤ length xs → slice f t (xs ++ ys) ≡ slice f t xs
+slice-front f t xs ys h = ap (drop f) (take-append-le t xs ys h)

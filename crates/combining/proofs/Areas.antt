@@ -22,6 +22,7 @@ use lib.Seq.{
   drop-set-lt,
   drop-set-add,
 }
+use Rattle.basis.proofs.Walk.{slice-front}
 use Rattle.combining.specs.Areas.{swapped, workOf, heldOf}
 
 -- ---- a slice's middle part, and a list behind another
@@ -39,9 +40,6 @@ slice-set-behind f t X i x h = ap (drop f) (take-set-le t X i x h)
 
 slice-set-in : (f t : ℕ) (X : List ℕ) (i x : ℕ) → f + i < t → slice f t (set X (f + i) x) ≡ set (slice f t X) i x
 slice-set-in f t X i x h = ap (drop f) (take-set-lt t X (f + i) x h) ∙ drop-set-add f (take t X) i x
-
-slice-front : (f t : ℕ) (X Y : List ℕ) → t ≤ length X → slice f t (X ++ Y) ≡ slice f t X
-slice-front f t X Y h = ap (drop f) (take-append-le t X Y h)
 
 getD-behind : (P Q : List ℕ) (m i : ℕ) → length P ≡ m → getD (P ++ Q) (m + i) 0 ≡ getD Q i 0
 getD-behind P Q m i e = ap (λ (k : ℕ). getD (P ++ Q) (k + i) 0) (sym e) ∙ getD-append-add P Q i 0

@@ -71,9 +71,6 @@ module _ (m : ℕ) (X Y : List ℕ) (size : length X ≡ m) where
   pub second-half : drop m (X ++ Y) ≡ Y
   second-half = drop-at X Y m size
 
-pub slice-front : (a b : ℕ) (X Y : List ℕ) → b ≤ length X → slice a b (X ++ Y) ≡ slice a b X
-slice-front a b X Y h = ap (drop a) (take-append-le b X Y h)
-
 -- ---- the words of a search with another list X in the place of its last level
 
 module _ (n m c : ℕ) (W : List ℕ) (full : length W ≡ n + n) (low : m ≤ c) (high : c ≤ n) where

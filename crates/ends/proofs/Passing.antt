@@ -12,6 +12,7 @@ use Rattle.basis.specs.Lists.{chainb, filterb, memb}
 use Rattle.basis.specs.Perm.{times}
 use Rattle.basis.proofs.Lists.{memb-length}
 use Rattle.basis.proofs.Sort.{sorted-chain}
+use Rattle.basis.proofs.Walk.{slice-front}
 use Rattle.spec.specs.Ends.{depthAt, farthest, deeper, otherEnd}
 use Rattle.spec.specs.Graph.{graphOf, sizeOf, beforeE}
 use Rattle.spec.specs.Levels.{part}
@@ -24,7 +25,7 @@ use Rattle.laws.proofs.Refused.{not-refused}
 use Rattle.search.specs.declared.shape.Rooted.{Rooted}
 use Rattle.ends.specs.Passes.{half, Candidates, Tries, Sorted, At, Passed}
 use Rattle.ends.specs.declared.shape.Tried.{Tried}
-use Rattle.ends.proofs.Areas.{front-back, first-half, second-half, slice-front, slice-shift, tail-once}
+use Rattle.ends.proofs.Areas.{front-back, first-half, second-half, slice-shift, tail-once}
 
 module _ {S N : List ℕ} {v : ℕ} {r : Rooted} {W : List ℕ} (A : At S N v r W) {X : List ℕ} (K : Sorted S N v r X) {m c : ℕ} (em : m ≡ r .last) (ec : c ≡ r .reached) where
   G : LegalGraph (graphOf S N)

@@ -10,6 +10,7 @@ use borrow.Rule.Slice.PartMut.{postOf, mid-len}
 use Rattle.basis.specs.Lists.{memb, upFrom}
 use Rattle.basis.proofs.Index.{getD-map-upFrom, zeros-at}
 use Rattle.basis.proofs.Lists.{map-cong, upFrom-in, length-upFrom}
+use Rattle.basis.proofs.Walk.{slice-front}
 use Rattle.spec.specs.Combined.{combined, widthOf}
 use Rattle.spec.specs.Ends.{Ends, ends}
 use Rattle.spec.specs.Graph.{Graph, graphOf, sizeOf, graphRefusal, firstInE}
@@ -28,7 +29,7 @@ use Rattle.sorting.specs.Nodes.{Nodes}
 use Rattle.ends.specs.Answer.{foundOf, Ended}
 use Rattle.ends.specs.Passes.{half}
 use Rattle.ends.specs.declared.shape.Found.{Found}
-use Rattle.ends.proofs.Areas.{front-lent, front-back, slice-front, slice-shift}
+use Rattle.ends.proofs.Areas.{front-lent, front-back, slice-shift}
 use Rattle.combining.specs.Areas.{wordsOf}
 use Rattle.piecing.specs.Given.{Given, firstOf, endsOf, merged}
 use Rattle.piecing.specs.Starts.{membersOf}

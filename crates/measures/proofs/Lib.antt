@@ -1,4 +1,3 @@
-pub mod Folds
 pub mod Widths
 pub mod Opened
 pub mod Swept

@@ -1,7 +1,7 @@
 -- The front from the counts: what is opened up to i, less what is passed before i. Assumes nothing.
 use mathlib.Core.Path.{_≡_, refl, sym, ap, _∙_}
 use mathlib.Core.Logic.{_⊎_, inl, inr, ⊎-elim}
-use mathlib.Core.Bool.{Bool, true, false, not, _&&_}
+use mathlib.Core.Bool.{true, not, _&&_, and-false}
 use mathlib.Core.List.{List, [], _∷_, _++_, map, append-nil}
 use Prim.Native.Nat.{ℕ, zero, suc, _+_, _-_, _≤_, _<_, max}
 use native.Mathlib.Numerals.{add-one}
@@ -12,7 +12,7 @@ use lib.Dec.{eqb, leb, ltb}
 use borrow.Author.Tests.{le-leb, lt-leb, leb-true, lt-ltb, le-ltb, ltb-true}
 use Rattle.basis.specs.Lists.{countb, greatest, sum, upFrom}
 use Rattle.basis.proofs.Count.{bit-one, bit-none, count-map, count-cong, count-length, count-parted, count-range}
-use Rattle.basis.proofs.Index.{getD-right, greatest-le}
+use Rattle.basis.proofs.Index.{getD-right, greatest-le, greatest-step}
 use Rattle.basis.proofs.Lists.{length-upFrom, upFrom-append, upFrom-in, map-append, map-cong, sum-append}
 use Rattle.basis.proofs.Logic.{same, and-split, and-make, lt-or-le}
 use Rattle.basis.proofs.Perm.{perm-count}
@@ -24,7 +24,6 @@ use Rattle.laws.proofs.Numberings.{numbering-length, numbering-perm}
 use Rattle.laws.proofs.Renumber.{firstOld, first-old, front-old, renumbered-size}
 use Rattle.envelope.proofs.Envelope.{first-low, first-most}
 use Rattle.measures.specs.Fronts.{firsts, opened, Sweeps}
-use Rattle.measures.proofs.Folds.{greatest-step}
 use Rattle.measures.proofs.Opened.{firstAt, length-opened}
 
 -- ---- sums over the front of a list
@@ -121,11 +120,7 @@ module _ {g : Graph} (G : LegalGraph g) (x : List ℕ) (ok : isNumbering (g .siz
         where
           go : (ofNode x a < i) ⊎ (i ≤ ofNode x a) → leb (firstAt g x a) i && not (leb i (ofNode x a)) ≡ ltb (ofNode x a) i
           go (inl l) = rw (lt-ltb (ofNode x a) i l, lt-leb i (ofNode x a) l, le-leb (firstAt g x a) i (omega (arith, first-most G x ok a A)))
-          go (inr l) = rw (le-ltb (ofNode x a) i l, le-leb i (ofNode x a) l) (no (leb (firstAt g x a) i))
-            where
-              no : (b : Bool) → b && false ≡ false
-              no true = refl
-              no false = refl
+          go (inr l) = rw (le-ltb (ofNode x a) i l, le-leb i (ofNode x a) l) (and-false (leb (firstAt g x a) i))
 
   -- the front at i, and the i − 1 passed, are what is opened up to i
   pub front-opened : (i : ℕ) → 1 ≤ i → i ≤ g .size → sum (take i (opened g x (g .size))) ≡ (i - 1) + frontAt (renumbered g x) i

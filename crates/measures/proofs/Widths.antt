@@ -7,7 +7,7 @@ use Prim.Native.Nat.{ℕ, _+_, _-_, _≤_, max}
 use native.Mathlib.Numerals.{add-one}
 use native.Mathlib.Omega.{arith}
 use Rattle.basis.specs.Lists.{greatest, least, memb, upFrom}
-use Rattle.basis.proofs.Index.{greatest-memb, greatest-le, least-memb, least-is}
+use Rattle.basis.proofs.Index.{greatest-memb, greatest-le, greatest-step, least-memb, least-is}
 use Rattle.basis.proofs.Lists.{memb-map, map-memb}
 use Rattle.spec.specs.Graph.{Graph, nodes, adjoins, ofNode}
 use Rattle.spec.specs.Measures.{isNumbering, renumbered, rowSpan, distance, bandwidth}
@@ -15,7 +15,6 @@ use Rattle.laws.specs.Legal.{Node, LegalGraph}
 use Rattle.laws.proofs.Legal.{node-in, in-nodes}
 use Rattle.laws.proofs.Renumber.{widestOld, bandwidth-old}
 use Rattle.envelope.proofs.Envelope.{first-row}
-use Rattle.measures.proofs.Folds.{greatest-step}
 
 -- the span of the number of a
 abbrev pub spanOf : Graph → List ℕ → ℕ → ℕ

@@ -1,30 +1,30 @@
 -- Before the first piece: the second numbers counted from the other end, the settled nodes placed, the pieces found. Assumes nothing.
-use mathlib.Core.Path.{_≡_, refl, sym, ap, _∙_, subst}
+use mathlib.Core.Path.{_≡_, sym, ap, _∙_, subst}
 use mathlib.Core.Bool.{true, false, _&&_, cond}
 use mathlib.Core.List.{List, map}
-use Prim.Native.Nat.{ℕ, zero, suc, _+_, _-_, _*_, _≤_, _<_}
+use Prim.Native.Nat.{ℕ, _+_, _-_, _*_, _≤_, _<_}
 use native.Mathlib.Nat.{zero-add}
 use native.Mathlib.Omega.{arith}
 use lib.ListN.{length, getD, length-map}
 use lib.Seq.{sets, length-sets, ext-getD}
-use lib.Dec.{eqb, ltb}
+use lib.Dec.{eqb}
 use borrow.Author.Tests.{ne-eqb}
 use Rattle.basis.specs.Lists.{filterb, countb, memb, upFrom}
 use Rattle.basis.specs.Perm.{times, Once}
 use Rattle.basis.proofs.Count.{count-cong, count-map, count-filter, count-length, length-filter}
 use Rattle.basis.proofs.Index.{getD-map-upFrom, memb-getD}
-use Rattle.basis.proofs.Lists.{filter-in, filter-make, filter-again, map-cong, map-map, memb-map, upFrom-make, length-upFrom}
-use Rattle.basis.proofs.Logic.{by-test, clash, eqb-sym}
+use Rattle.basis.proofs.Lists.{filter-in, filter-make, map-cong, map-map, memb-map, upFrom-make, length-upFrom}
+use Rattle.basis.proofs.Logic.{by-test, eqb-sym}
 use Rattle.basis.proofs.Rise.{rise-once}
 use Rattle.spec.specs.Combined.{LevelPairs, mirrored, levelPairs, settled, settledLevels, countAt}
 use Rattle.spec.specs.Ends.{Ends, depthAt}
 use Rattle.spec.specs.Graph.{Graph, nodes, ofNode}
 use Rattle.spec.specs.Levels.{levels, levelOf, part}
 use Rattle.laws.specs.Legal.{Node, LegalGraph}
-use Rattle.laws.proofs.Combined.{first-number, second-number, mirror-sum}
+use Rattle.laws.proofs.Combined.{first-number, second-number, mirror-sum, out-level}
 use Rattle.laws.proofs.Legal.{node-in}
-use Rattle.laws.proofs.Levels.{level-most, part-level, level-part, part-node, part-same}
-use Rattle.laws.proofs.Parts.{part-rises}
+use Rattle.laws.proofs.Levels.{level-most, part-level, part-node, part-same}
+use Rattle.laws.proofs.Parts.{part-rises, part-again}
 use Rattle.combining.specs.Tally.{tally}
 use Rattle.combining.specs.Model.{nodeAt, queued, numberAt, countOf, slotOf, slotAt, slots, written, Readable, Countable}
 use Rattle.combining.proofs.Counting.{slot-low, slot-high, slots-inside, tally-front, tally-behind}
@@ -36,10 +36,6 @@ use Rattle.piecing.specs.Starts.{membersOf}
 use Rattle.piecing.proofs.Laying.{named-by}
 use Rattle.piecing.proofs.Storing.{length-stored, stored-at, stored-other, members-on}
 use Rattle.piecing.proofs.Stores.{sets-before, sets-behind, sets-at, written-at}
-
-part-listed : (g : Graph) (z : ℕ) → part g z ≡ filterb (λ q. memb q (part g z)) (nodes g)
-unfolding part
-part-listed g z = filter-again (λ q. ltb 0 (levelOf (levels g z) q)) (nodes g)
 
 count-settled : (g : Graph) (pr : LevelPairs) (i : ℕ) → countAt (settledLevels g pr) i ≡ countb (λ y. eqb i (cond (settled pr y) (ofNode (pr .firsts) y) 0)) (nodes g)
 unfolding countAt settledLevels
@@ -92,13 +88,6 @@ module _ {g : Graph} {z : ℕ} {e : Ends} {n from to : ℕ} {W L : List ℕ} (A 
     omega (arith, level-most g (e .u) q, A .ends .u-depth),
   )
 
-  out-level : (w q : ℕ) → memb w (part g z) ≡ true → memb q (part g z) ≡ false → levelOf (levels g w) q ≡ 0
-  out-level w q m o = go (levelOf (levels g w) q) refl
-    where
-      go : (i : ℕ) → levelOf (levels g w) q ≡ i → levelOf (levels g w) q ≡ 0
-      go zero c = c
-      go (suc i) c = clash (ap (memb q) (sym (part-same G w (A .node) m)) ∙ level-part G (part-node G (A .node) w m) q (omega arith)) o
-
   pub x-is : (q : ℕ) → Node g q → X q ≡ levelOf (levels g (e .v)) q
   x-is q N = first-number g e q N
 
@@ -116,11 +105,11 @@ module _ {g : Graph} {z : ℕ} {e : Ends} {n from to : ℕ} {W L : List ℕ} (A 
       (omega (arith, y-is q N, r .0, r .1), omega (arith, y-is q N, r .0, r .1))
 
   pub x-out : (q : ℕ) → Node g q → memb q (part g z) ≡ false → X q ≡ 0
-  x-out q N o = x-is q N ∙ out-level (e .v) q (A .ends .v-part) o
+  x-out q N o = x-is q N ∙ out-level G (A .node) (A .ends) (e .v) q (A .ends .v-part) o
 
   pub y-out : (q : ℕ) → Node g q → memb q (part g z) ≡ false → Y q ≡ 0
   unfolding mirrored
-  y-out q N o = y-is q N ∙ ap (mirrored k) (out-level (e .u) q (A .ends .u-part) o)
+  y-out q N o = y-is q N ∙ ap (mirrored k) (out-level G (A .node) (A .ends) (e .u) q (A .ends .u-part) o)
 
   -- ---- members
 
@@ -183,7 +172,7 @@ module _ {g : Graph} {z : ℕ} {e : Ends} {n from to : ℕ} {W L : List ℕ} (A 
       let s = mirror-sum k (levelOf (levels g (e .u)) q) (r .0) (r .1) in
       let t : k + 1 - levelOf (levels g (e .u)) q ≡ Y q = omega (arith, y-is q N) in
       rw m (ap (λ (x : ℕ). k + 1 - x) (A .seconds q N) ∙ t))
-      (λ m. rw m (A .seconds q N ∙ out-level (e .u) q (A .ends .u-part) (sym (m-part q) ∙ m) ∙ sym (y-out q N (sym (m-part q) ∙ m))))
+      (λ m. rw m (A .seconds q N ∙ out-level G (A .node) (A .ends) (e .u) q (A .ends .u-part) (sym (m-part q) ∙ m) ∙ sym (y-out q N (sym (m-part q) ∙ m))))
 
   -- the members are the same wherever these words are
   pub same-members : (U : List ℕ) → ((i : ℕ) → 4 * n ≤ i → getD U i 0 ≡ getD W i 0) → membersOf n from to U ≡ M
@@ -317,7 +306,7 @@ module _ {g : Graph} {z : ℕ} {e : Ends} {n from to : ℕ} {W L : List ℕ} (A 
     where
       settled-count : (i : ℕ) → 1 ≤ i → countb (λ y. eqb (X y) i) Z ≡ countAt (settledLevels g pr) i
       settled-count i l =
-          ap (λ (m : List ℕ). countb (λ y. eqb (X y) i) (filterb (settledAt n W₁) m)) (one-members ∙ A .members ∙ part-listed g z)
+          ap (λ (m : List ℕ). countb (λ y. eqb (X y) i) (filterb (settledAt n W₁) m)) (one-members ∙ A .members ∙ part-again g z)
           ∙ count-filter (λ y. eqb (X y) i) (settledAt n W₁) (filterb (λ q. memb q (part g z)) (nodes g))
           ∙ count-filter (λ y. settledAt n W₁ y && eqb (X y) i) (λ q. memb q (part g z)) (nodes g)
           ∙ count-cong (λ y. memb y (part g z) && (settledAt n W₁ y && eqb (X y) i)) (λ y. eqb i (cond (settled pr y) (X y) 0)) (nodes g) (λ y m. each y (node-in g y m))

@@ -9,12 +9,13 @@ use lib.ListN.{length, getD, set, drop, replicate, length-replicate, getD-replic
 use lib.Seq.{sets, length-sets, ext-getD, getD-take, getD-drop}
 use Rattle.basis.specs.Lists.{memb}
 use Rattle.basis.proofs.Logic.{by-test, lt-or-le}
+use Rattle.basis.proofs.Next.{sets-append}
 use Rattle.spec.specs.Lent.{zeroed}
 use Rattle.laws.proofs.Lent.{zeroed-is, zeroed-front, zeroed-behind}
 use Rattle.piecing.specs.Members.{Members, Clearable, stored, nought}
 use Rattle.piecing.specs.Starts.{membersOf}
 use Rattle.piecing.proofs.Storing.{length-stored, stored-at, stored-other, member-range, members-same, members-on}
-use Rattle.piecing.proofs.Stores.{sets-append, sets-before, sets-behind, sets-at}
+use Rattle.piecing.proofs.Stores.{sets-before, sets-behind, sets-at}
 
 -- ---- a run of words set to 0
 

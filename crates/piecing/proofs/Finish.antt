@@ -1,26 +1,27 @@
 -- The combined levels and their counts stand in the words and the levels, and what is asked before the words are cleared. Assumes nothing.
 use mathlib.Core.Path.{_≡_, refl, sym, ap, _∙_}
 use mathlib.Core.Bool.{Bool, true, false, cond}
-use mathlib.Core.List.{List, [], _∷_, map}
+use mathlib.Core.List.{List, map}
 use Prim.Native.Nat.{ℕ, zero, suc, _+_, _-_, _*_, _≤_, _<_}
 use native.Mathlib.Omega.{arith}
 use lib.ListN.{length, getD, length-map, take, replicate, length-replicate, getD-replicate}
 use lib.Seq.{getD-take, getD-drop}
 use lib.Dec.{ltb}
-use Rattle.basis.specs.Lists.{anyb, memb, upFrom, greatest, All}
+use Rattle.basis.specs.Lists.{anyb, memb, upFrom, greatest}
 use Rattle.basis.proofs.Count.{length-filter, count-length}
-use Rattle.basis.proofs.Lists.{filter-in, map-cong, upFrom-in, length-upFrom}
-use Rattle.basis.proofs.Logic.{by-test, clash, fails, or-neither}
+use Rattle.basis.proofs.Lists.{none-any, map-cong, upFrom-in, length-upFrom}
+use Rattle.basis.proofs.Logic.{by-test, clash, fails}
 use Rattle.spec.specs.Combined.{LevelPairs, levelPairs, settled, settledLevels, pieces, countAt, combined, widthOf}
 use Rattle.spec.specs.Ends.{Ends, ends, depthAt}
 use Rattle.spec.specs.Graph.{Graph, nodes, ofNode}
-use Rattle.spec.specs.Levels.{levels, levelOf, levelList, part}
+use Rattle.spec.specs.Levels.{levels, levelList, part}
 use Rattle.laws.specs.Legal.{Node, LegalGraph}
 use Rattle.laws.specs.Structure.{EndsOf}
 use Rattle.laws.proofs.Combined.{combined-of}
 use Rattle.laws.proofs.Ends.{ends-of}
-use Rattle.laws.proofs.Legal.{node-in, ofNode-map, by-node, length-nodes}
+use Rattle.laws.proofs.Legal.{ofNode-map, by-node, length-nodes}
 use Rattle.laws.proofs.Levels.{levelList-at, depth-most}
+use Rattle.laws.proofs.Parts.{part-inside}
 use Rattle.laws.proofs.Pieces.{settled-apart, some-piece}
 use Rattle.combining.specs.Model.{countOf}
 use Rattle.piecing.specs.Given.{Entry, Levelled, Given, firstOf, endsOf, merged}
@@ -40,10 +41,6 @@ unfolding ofNode
 of-node xs zero l = absurd (omega arith)
 of-node xs (suc q) l = let e : suc q - 1 ≡ q = omega arith in ap (λ (j : ℕ). getD xs j 0) (sym e)
 
-none-any : (q : ℕ) (ps : List (List ℕ)) → All (λ (P : List ℕ). memb q P ≡ false) ps → anyb (memb q) ps ≡ false
-none-any q [] a = refl
-none-any q (P ∷ ps) a = or-neither (a .0) (none-any q ps (a .1))
-
 settled-at : (g : Graph) (pr : LevelPairs) (q : ℕ) → Node g q → settled pr q ≡ true → ofNode (settledLevels g pr) q ≡ ofNode (pr .firsts) q
 unfolding settledLevels
 settled-at g pr q N s = ofNode-map g (λ y. cond (settled pr y) (ofNode (pr .firsts) y) 0) q N ∙ rw s
@@ -62,7 +59,7 @@ module _ {g : Graph} {z : ℕ} {e : Ends} {n from to : ℕ} {W L : List ℕ} (A 
     -- a settled node has kept its level since it was placed
     kept : (q : ℕ) → Node g q → settled pr q ≡ true → at (levelsAfter n narrow (startsOf n m W₄) W₄ L₄) q ≡ at (L₃ A) q
     kept q N s =
-        R .placed-out q N (none-any q (pieces g pr) (settled-apart (A .graph) pr q s)) .0
+        R .placed-out q N (none-any (memb q) (pieces g pr) (settled-apart (A .graph) pr q s)) .0
         ∙ F .others q N (loose-three A q N ∙ rw s)
 
     pub levelled : Levelled g z e n from to W L (wordsAfter n narrow (startsOf n m W₄) W₄ L₄) (levelsAfter n narrow (startsOf n m W₄) W₄ L₄)
@@ -137,10 +134,6 @@ pub record Cleared (n : ℕ) (W U L : List ℕ) : Type 0 where
   pub members : (i : ℕ) → i < n → getD U (4 * n + i) 0 ≡ getD W (4 * n + i) 0
   pub levels : L ≡ replicate n 0
 
-in-part-node : (g : Graph) (z q : ℕ) → memb q (part g z) ≡ true → Node g q
-unfolding part
-in-part-node g z q m = node-in g q (filter-in (λ y. ltb 0 (levelOf (levels g z) y)) (nodes g) q m .0)
-
 module _ {g : Graph} {from to k widthV widthU : ℕ} {W L : List ℕ} (G : LegalGraph g) (few : g .size ≤ 4096) (A : Given g from to k widthV widthU W L)
     {U M : List ℕ} (C : Cleared (g .size) W U M) where
   abbrev n : ℕ
@@ -160,7 +153,7 @@ module _ {g : Graph} {from to k widthV widthU : ℕ} {W L : List ℕ} (G : Legal
   entry-of =
       let z : ℕ = firstOf n from W in
       let m : memb z (part g z) ≡ true = sym (ap (memb z) (A .members)) ∙ member-in n from to W from (omega arith) (A .order) in
-      let N : Node g z = in-part-node g z z m in
+      let N : Node g z = part-inside g z z m in
       let E = ends-of G N in
       record {
         graph = G;
@@ -186,7 +179,7 @@ module _ {g : Graph} {from to k widthV widthU : ℕ} {W L : List ℕ} (G : Legal
             ∙ sym (of-node (levelList g (levels g (e .u))) y (Q .low)) ∙ levelList-at g (levels g (e .u)) y Q;
         counts = C .counts;
         clean = λ q i.
-            let Q = in-part-node g z q i in
+            let Q = part-inside g z q i in
             ap (λ (l : List ℕ). at l q) (C .levels) ∙ getD-replicate n (q - 1) 0 0 (omega (arith, Q .low, Q .high));
       }
 

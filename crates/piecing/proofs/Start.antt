@@ -3,14 +3,14 @@ use mathlib.Core.Path.{_≡_, refl, sym, ap, _∙_, subst}
 use mathlib.Core.Logic.{⊎-elim}
 use mathlib.Core.Bool.{Bool, true, false, not, _&&_}
 use mathlib.Core.List.{List, [], _∷_, map}
-use Prim.Native.Nat.{ℕ, zero, suc, _+_, _-_, _*_, _≤_, _<_}
+use Prim.Native.Nat.{ℕ, _+_, _-_, _*_, _≤_, _<_}
 use native.Mathlib.Omega.{arith}
 use lib.ListN.{length, getD, length-map}
-use lib.Dec.{eqb, leb, ltb}
+use lib.Dec.{eqb, ltb}
 use borrow.Author.Tests.{eq-eqb, eqb-true, not-true}
-use Rattle.basis.specs.Lists.{filterb, countb, chainb, sortb, memb, upFrom, sum, All}
+use Rattle.basis.specs.Lists.{filterb, countb, chainb, sortb, memb, upFrom, All}
 use Rattle.basis.specs.Perm.{Perm}
-use Rattle.basis.proofs.Count.{count-cong, count-length, count-parted, count-range, length-filter, memb-times}
+use Rattle.basis.proofs.Count.{count-cong, count-length, count-parted, length-filter, all-stand}
 use Rattle.basis.proofs.Lists.{filter-cong, filter-make, map-memb, memb-map, memb-here, upFrom-in}
 use Rattle.basis.proofs.Logic.{by-test, clash, fails, or-split, or-right}
 use Rattle.spec.specs.Combined.{LevelPairs, levelPairs, settled, settledLevels, pieces, largerPiece}
@@ -52,10 +52,6 @@ unfolding Stand
 stand-map f [] h = tt
 stand-map f (o ∷ os) h = (h o (memb-here o os), stand-map f os (λ x m. h x (or-right (eqb x o) m)))
 
-sum-some : (f : ℕ → ℕ) (a k : ℕ) → ((i : ℕ) → a ≤ i → i < a + k → 1 ≤ f i) → k ≤ sum (map f (upFrom a k))
-sum-some f a zero h = omega arith
-sum-some f a (suc k) h = omega (arith, h a (omega arith) (omega arith), sum-some f (suc a) k (λ i l r. h i (omega arith) (omega arith)))
-
 module _ {g : Graph} {z : ℕ} {e : Ends} {n from to : ℕ} {W L : List ℕ} (A : Entry g z e n from to W L) where
   abbrev pr : LevelPairs
   pr = levelPairs g e
@@ -94,9 +90,7 @@ module _ {g : Graph} {z : ℕ} {e : Ends} {n from to : ℕ} {W L : List ℕ} (A 
       let xs : List ℕ = map (X A) (filterb (settled pr) (nodes g)) in
       omega (
         arith,
-        sum-some (λ i. countb (eqb i) xs) 1 (e .k) (λ i l h. memb-times i xs (level-settled i l (omega arith))),
-        count-range 1 (e .k) xs,
-        count-length (λ x. leb 1 x && ltb x (1 + e .k)) xs,
+        all-stand (e .k) xs level-settled,
         length-map (filterb (settled pr) (nodes g)) (X A),
         length-filter (settled pr) (nodes g),
       )

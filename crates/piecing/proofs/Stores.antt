@@ -4,7 +4,7 @@ use mathlib.Core.Logic.{_≢_}
 use mathlib.Core.Bool.{Bool, true, false, cond}
 use mathlib.Core.List.{List, [], _∷_, _++_}
 use Prim.Native.Nat.{ℕ, zero, suc, _+_, _-_, _≤_, _<_}
-use native.Mathlib.Nat.{add-zero, add-suc, suc-add}
+use native.Mathlib.Nat.{add-zero}
 use native.Mathlib.Omega.{arith}
 use lib.ListN.{length, getD, set, length-set}
 use lib.Seq.{sets, getD-set-same, getD-set-other}
@@ -17,10 +17,6 @@ use Rattle.combining.specs.Model.{written}
 use Rattle.piecing.specs.Seek.{at}
 
 -- ---- in a row
-
-pub sets-append : (Q : List ℕ) (t : ℕ) (xs ys : List ℕ) → sets Q t (xs ++ ys) ≡ sets (sets Q t xs) (t + length xs) ys
-sets-append Q t [] ys = ap (λ (n : ℕ). sets Q n ys) (sym (add-zero t))
-sets-append Q t (x ∷ xs) ys = sets-append (set Q t x) (suc t) xs ys ∙ ap (λ (n : ℕ). sets (sets Q t (x ∷ xs)) n ys) (suc-add t (length xs) ∙ sym (add-suc t (length xs)))
 
 -- a word outside the run is as it was
 pub sets-before : (Q : List ℕ) (t : ℕ) (xs : List ℕ) (i : ℕ) → i < t → getD (sets Q t xs) i 0 ≡ getD Q i 0

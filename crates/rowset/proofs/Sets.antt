@@ -1,7 +1,7 @@
 -- Sets of nodes in words, filled and emptied. Assumes nothing.
 use mathlib.Core.Path.{_≡_, refl, sym, ap, ap₂, subst, _∙_}
 use mathlib.Core.Logic.{⊎-elim}
-use mathlib.Core.Bool.{Bool, true, false, not, _&&_, _||_, or-assoc}
+use mathlib.Core.Bool.{Bool, true, false, not, _&&_, _||_, and-true, and-false, or-assoc}
 use mathlib.Core.List.{List}
 use Prim.Native.Nat.{ℕ, zero, suc, _+_, _*_, _-_, _/_, _%_, _^_, _≤_, _<_}
 use native.Mathlib.Nat.{add-zero, div-one}
@@ -27,18 +27,10 @@ or-false true = refl
 or-false false = refl
 
 and-none : (a : Bool) {b : Bool} → b ≡ false → a && b ≡ false
-and-none a e = ap (λ b. a && b) e ∙ none a
-  where
-    none : (a : Bool) → a && false ≡ false
-    none true = refl
-    none false = refl
+and-none a e = ap (λ b. a && b) e ∙ and-false a
 
 and-all : (a : Bool) {b : Bool} → b ≡ true → a && b ≡ a
-and-all a e = ap (λ b. a && b) e ∙ all a
-  where
-    all : (a : Bool) → a && true ≡ a
-    all true = refl
-    all false = refl
+and-all a e = ap (λ b. a && b) e ∙ and-true a
 
 -- ---- nodes are added
 

@@ -1,10 +1,10 @@
 -- Levels by node and how often each stands in a list of levels: after a store, and the greatest of them. Assumes nothing.
-use mathlib.Core.Path.{_≡_, refl, sym, ap, _∙_}
+use mathlib.Core.Path.{_≡_, refl, ap, _∙_}
 use mathlib.Core.Logic.{_≢_}
 use mathlib.Core.Bool.{Bool, true, false, cond}
 use mathlib.Core.List.{List, [], _∷_, map}
 use Prim.Native.Nat.{ℕ, zero, suc, _+_, _-_, _≤_, _<_, max}
-use native.Mathlib.Nat.{not-suc-le-zero, le-of-suc-le-suc, add-zero, add-suc, suc-add}
+use native.Mathlib.Nat.{not-suc-le-zero, le-of-suc-le-suc}
 use native.Mathlib.Numerals.{add-one}
 use native.Mathlib.Omega.{arith}
 use lib.ListN.{length, getD, set, replicate, List·getD-eq-default}
@@ -14,7 +14,7 @@ use borrow.Author.Tests.{ne-eqb, eqb-true, eqb-false, lt-ltb, ltb-true, ltb-fals
 use Rattle.basis.specs.Lists.{bit, countb, memb, greatest, upFrom}
 use Rattle.basis.specs.Perm.{times, Once}
 use Rattle.basis.proofs.Count.{count-length, memb-times, times-none, times-memb, none-times}
-use Rattle.basis.proofs.Index.{greatest-le}
+use Rattle.basis.proofs.Index.{greatest-le, greatest-step}
 use Rattle.basis.proofs.Lists.{map-cong, upFrom-in}
 use Rattle.basis.proofs.Logic.{by-test}
 use Rattle.spec.specs.Combined.{countAt, widthOf}
@@ -115,16 +115,12 @@ greatest-less d (y ∷ L) h e =
 
 -- ---- the width, level by level
 
-greatest-on : (f : ℕ → ℕ) (a k : ℕ) → greatest (map f (upFrom a (suc k))) ≡ max (greatest (map f (upFrom a k))) (f (a + k))
-greatest-on f a zero = let e : f (a + 0) ≡ f a = ap f (add-zero a) in omega arith
-greatest-on f a (suc k) = let ih = greatest-on f (suc a) k in let e : f (suc a + k) ≡ f (a + suc k) = ap f (suc-add a k ∙ sym (add-suc a k)) in omega arith
-
 pub width-more : (L : List ℕ) (d : ℕ) → widthOf (d + 1) L ≡ max (widthOf d L) (times (d + 1) L)
 unfolding widthOf countAt
 width-more L d =
     let e : d + 1 ≡ suc d = add-one d in
     let f : 1 + d ≡ d + 1 = omega arith in
-    ap (λ (m : ℕ). greatest (map (λ i. countb (eqb i) L) (upFrom 1 m))) e ∙ greatest-on (λ i. countb (eqb i) L) 1 d
+    ap (λ (m : ℕ). greatest (map (λ i. countb (eqb i) L) (upFrom 1 m))) e ∙ greatest-step (λ i. countb (eqb i) L) 1 d
     ∙ ap (λ (m : ℕ). max (greatest (map (λ i. countb (eqb i) L) (upFrom 1 d))) (countb (eqb m) L)) f
 
 pub width-same : (L M : List ℕ) (d : ℕ) → ((i : ℕ) → 1 ≤ i → i ≤ d → times i L ≡ times i M) → widthOf d L ≡ widthOf d M

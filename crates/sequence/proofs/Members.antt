@@ -1,21 +1,18 @@
 -- A part whose nodes stand in the working words, and its areas: what holds of them before and after a store of its levels. Assumes nothing.
 use mathlib.Core.Path.{_≡_, sym, ap, _∙_, subst}
 use mathlib.Core.Logic.{inl, inr, ⊎-elim}
-use mathlib.Core.Bool.{Bool, true}
+use mathlib.Core.Bool.{true}
 use mathlib.Core.List.{List}
 use Prim.Native.Nat.{ℕ, _+_, _*_, _≤_, _<_}
 use native.Mathlib.Omega.{arith}
-use lib.Dec.{ltb}
 use lib.ListN.{length, take, drop, getD, replicate, length-drop, length-replicate, getD-replicate}
 use lib.Seq.{sets, length-sets, ext-getD, length-take-le, getD-take, getD-drop, take-take}
 use Rattle.basis.specs.Lists.{memb}
-use Rattle.basis.proofs.Count.{length-filter, count-length}
 use Rattle.basis.proofs.Index.{memb-getD}
-use Rattle.basis.proofs.Lists.{filter-in}
-use Rattle.spec.specs.Graph.{Graph, nodes}
-use Rattle.spec.specs.Levels.{levels, levelOf, part}
+use Rattle.spec.specs.Graph.{Graph}
+use Rattle.spec.specs.Levels.{part}
 use Rattle.laws.specs.Legal.{Node}
-use Rattle.laws.proofs.Legal.{node-in, length-nodes}
+use Rattle.laws.proofs.Parts.{part-inside}
 use Rattle.ranking.specs.Part.{membersIn}
 use Rattle.sequence.specs.Answer.{Areas, PartAt}
 use Rattle.sequence.proofs.Stored.{stored-other}
@@ -26,18 +23,6 @@ member-at from m W i h = getD-take m (drop from W) i 0 h ∙ getD-drop from W i 
 members-length : (from m : ℕ) (W : List ℕ) → from + m ≤ length W → length (membersIn from m W) ≡ m
 members-length from m W h = length-take-le m (drop from W) (omega (arith, length-drop from W))
 
--- what the part of a number holds is nodes
-listed-node : (g : Graph) (z q : ℕ) → memb q (part g z) ≡ true → Node g q
-unfolding part
-listed-node g z q m = node-in g q (filter-in (λ x. ltb 0 (levelOf (levels g z) x)) (nodes g) q m .0)
-
--- and not more than there are
-pub part-most : (g : Graph) (z : ℕ) → length (part g z) ≤ g .size
-unfolding part
-part-most g z =
-    let t : ℕ → Bool = λ x. ltb 0 (levelOf (levels g z) x) in
-    omega (arith, length-filter t (nodes g), count-length t (nodes g), length-nodes g)
-
 module _ {g : Graph} {from m : ℕ} {W : List ℕ} (P : PartAt g from m W) (fit : from + m ≤ length W) where
   -- the first of the m nodes is a node
   pub lowest-node : Node g (getD W from 0)
@@ -47,7 +32,7 @@ module _ {g : Graph} {from m : ℕ} {W : List ℕ} (P : PartAt g from m W) (fit 
       let i : memb (getD W from 0) (membersIn from m W) ≡ true =
       subst (λ (x : ℕ). memb x (membersIn from m W) ≡ true) s (memb-getD (membersIn from m W) 0 (omega (arith, members-length from m W fit, P .some)))
       in
-      listed-node g (getD W from 0) (getD W from 0) (ap (memb (getD W from 0)) (sym (P .members)) ∙ i)
+      part-inside g (getD W from 0) (getD W from 0) (ap (memb (getD W from 0)) (sym (P .members)) ∙ i)
 
   -- the part has m nodes
   pub part-size : length (part g (getD W from 0)) ≡ m

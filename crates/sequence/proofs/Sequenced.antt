@@ -17,11 +17,11 @@ use Rattle.laws.proofs.Combined.{combined-levels}
 use Rattle.laws.proofs.Ends.{ends-of}
 use Rattle.laws.proofs.Levels.{depth-most, part-node}
 use Rattle.laws.proofs.Named.{part-levels}
-use Rattle.laws.proofs.Parts.{part-once}
+use Rattle.laws.proofs.Parts.{part-most, part-once}
 use Rattle.laws.proofs.Refused.{passed, starts-of, not-refused}
 use Rattle.sequence.specs.Answer.{forwardBy, sequenceOf, Sequenceable, Named, Mirrorable}
 use Rattle.sequence.specs.declared.shape.Sequence.{Sequence}
-use Rattle.sequence.proofs.Members.{lowest-node, part-size, part-most, lowest-same, part-stays, areas-stay}
+use Rattle.sequence.proofs.Members.{lowest-node, part-size, lowest-same, part-stays, areas-stay}
 use Rattle.sequence.proofs.Stored.{stored-same, stored-slice, stored-swap}
 use Rattle.sequence.proofs.Arranged.{result-size}
 

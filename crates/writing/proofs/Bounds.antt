@@ -1,15 +1,15 @@
 -- How large the figures, numbers and levels of a run are: of n nodes, all but the profile are at most n. Assumes nothing.
 use mathlib.Core.Path.{_≡_, refl, sym, ap}
-use mathlib.Core.Bool.{Bool, true, _&&_}
+use mathlib.Core.Bool.{Bool, true}
 use mathlib.Core.List.{List, [], _∷_, map}
-use Prim.Native.Nat.{ℕ, _+_, _-_, _≤_}
+use Prim.Native.Nat.{ℕ, _-_, _≤_}
 use native.Mathlib.Omega.{arith}
 use lib.ListN.{length, length-append, length-map}
-use lib.Dec.{eqb, leb, ltb}
-use Rattle.basis.specs.Lists.{countb, memb, upFrom, joinAll, greatest, sum}
-use Rattle.basis.proofs.Count.{length-filter, count-length, count-range, count-some}
+use lib.Dec.{eqb, ltb}
+use Rattle.basis.specs.Lists.{memb, upFrom, joinAll, greatest, sum}
+use Rattle.basis.proofs.Count.{all-stand, length-filter, count-length}
 use Rattle.basis.proofs.Index.{greatest-le}
-use Rattle.basis.proofs.Lists.{memb-map, map-map, length-upFrom, upFrom-in}
+use Rattle.basis.proofs.Lists.{memb-map, map-map}
 use Rattle.basis.proofs.Logic.{or-left, or-right, eqb-self}
 use Rattle.basis.proofs.Perm.{perm-length}
 use Rattle.spec.specs.Combined.{countAt, widthOf}
@@ -30,23 +30,6 @@ use Rattle.laws.proofs.Renumber.{number-node, renumbered-size}
 use Rattle.laws.proofs.RunLevels.{depth-of, width-of, run-level}
 use Rattle.laws.proofs.Whole.{run-numbering, run-measured-bandwidth, run-measured-profile, run-measured-front}
 use Rattle.envelope.proofs.Envelope.{profile-most}
-
--- numbers from 1 on sum up to at least their count
-sum-some : (f : ℕ → ℕ) (l : List ℕ) → ((x : ℕ) → memb x l ≡ true → 1 ≤ f x) → length l ≤ sum (map f l)
-sum-some f [] h = omega arith
-sum-some f (x ∷ xs) h = omega (arith, h x (or-left _ (eqb-self x)), sum-some f xs (λ y m. h y (or-right (eqb y x) m)))
-
--- where each of 1 .. k stands in a list, the list has k elements
-all-stand : (k : ℕ) (l : List ℕ) → ((i : ℕ) → 1 ≤ i → i ≤ k → memb i l ≡ true) → k ≤ length l
-all-stand k l h =
-    omega (
-      arith,
-      length-upFrom 1 k,
-      sum-some (λ i. countb (eqb i) l) (upFrom 1 k)
-          (λ i m. let r = upFrom-in 1 k i m in count-some (eqb i) l i (h i (r .0) (omega (arith, r .1))) (eqb-self i)),
-      count-range 1 k l,
-      count-length (λ x. leb 1 x && ltb x (1 + k)) l,
-    )
 
 module _ (g : Graph) where
   pub nodes-is : run g .figures .nodes ≡ g .size
