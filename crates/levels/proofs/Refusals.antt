@@ -1,20 +1,20 @@
 -- The tests of the calls as they run, and what a refused and an accepted call answers and leaves. Assumes nothing.
-use mathlib.Core.Path.{_≡_, refl, sym, ap, _∙_}
+use mathlib.Core.Path.{_≡_, refl, ap, _∙_}
 use mathlib.Core.Bool.{Bool, true, false, _||_}
 use mathlib.Core.List.{List, _++_}
-use Prim.Native.Nat.{ℕ, zero, suc, _-_, _*_, _≤_, _<_}
+use Prim.Native.Nat.{ℕ, _-_, _*_, _≤_, _<_}
 use native.Mathlib.Omega.{arith}
 use lib.ListN.{length, drop}
 use lib.Dec.{eqb, ltb}
 use borrow.Rule.Slice.PartMut.{postOf}
-use borrow.Author.Tests.{ne-eqb, lt-ltb, le-ltb, eqb-false, ltb-false}
+use borrow.Author.Tests.{lt-ltb, le-ltb, eqb-false, ltb-false}
 use Rattle.basis.proofs.Logic.{or-none, or-left, or-right, or-neither}
 use Rattle.spec.specs.CallsLevels.{levelFigures, rootedRefusal, rootedAnswer, rootedLevels, partScratch, partRefusal, endsAnswer, endsScratch}
 use Rattle.spec.specs.CallsLevels.{combinedFigures, combinedRefusal, combinedAnswer, combinedLevels, combinedScratch}
 use Rattle.spec.specs.Combined.{combined}
 use Rattle.spec.specs.Ends.{ends}
 use Rattle.spec.specs.Graph.{Graph, graphOf, sizeOf, graphRefusal, outside}
-use Rattle.spec.specs.Lent.{accepted, refused, outcome, filled, zeroed, scratchAfter, wordsPerNode, short}
+use Rattle.spec.specs.Lent.{accepted, refused, outcome, zeroed, wordsPerNode, short}
 use Rattle.spec.specs.Levels.{levels, levelList}
 use Rattle.spec.specs.Refusal.{refuse, _orElse_}
 use Rattle.laws.specs.Legal.{Node}

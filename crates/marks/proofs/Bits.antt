@@ -1,15 +1,13 @@
 -- Bits of bytes: of a power of two, of an or, and their count. Assumes nothing.
 use mathlib.Core.Path.{_≡_, ap, _∙_}
 use mathlib.Core.Logic.{⊎-elim}
-use Prim.Native.Nat.{ℕ, zero, suc, _+_, _*_, _/_, _%_, _^_, _≤_, _<_, max}
-use native.Mathlib.Nat.{one-mul, div-self, div-one, div-eq-of-lt, mul-mod-left, pow-suc, le-dest, add-zero}
-use native.Mathlib.Numerals.{add-one}
+use Prim.Native.Nat.{ℕ, suc, _+_, _*_, _/_, _%_, _^_, _≤_, _<_, max}
+use native.Mathlib.Nat.{one-mul, div-self, div-eq-of-lt, mul-mod-left, pow-suc, le-dest}
 use native.Mathlib.Omega.{arith}
 use lib.Arith.{digits-mod}
 use lib.Bits.{bitOr, or-shr, or-step}
-use lib.Count.{ones, ones-step}
 use lib.Dec.{lit<}
-use lib.Pow.{pow-pos, pow-lt, pow-add, shl-exact, shl-shr, shr-shr}
+use lib.Pow.{pow-pos, pow-lt, pow-add, shl-exact, shl-shr}
 use Rattle.basis.proofs.Logic.{lt-or-le}
 
 -- 1u8 << k

@@ -1,21 +1,19 @@
 -- The run with the elimination after it: what the answers of the two calls make of the answer and of the buffers. Assumes nothing.
 use mathlib.Core.Path.{_≡_, refl, sym, ap, _∙_}
-use mathlib.Core.Bool.{Bool, true, false, cond, _||_}
+use mathlib.Core.Bool.{Bool, true, false, _||_}
 use mathlib.Core.List.{List, _∷_, _++_}
 use Prim.Native.Nat.{ℕ, zero, suc, _*_, _≤_}
 use native.Mathlib.Omega.{arith}
-use lib.Dec.{eqb}
 use lib.ListN.{length, take, drop, replicate, length-replicate, take-append-drop}
 use lib.Seq.{take-append-le}
 use borrow.Author.Tests.{ne-eqb, ltb-false}
 use Rattle.basis.proofs.Logic.{or-none}
 use Rattle.spec.specs.CallsLevels.{partScratch}
 use Rattle.spec.specs.CallsNumbering.{runRefusal, runAnswer, runNumbers, runLevels, runScratch}
-use Rattle.spec.specs.CallsStore.{RunElimination, EliminationFigures, eliminationRefusal, eliminationAnswer, eliminationScratch, eliminationBytes, handedNumbers, handedScratch, runEliminateAnswer, runEliminateBytes}
+use Rattle.spec.specs.CallsStore.{RunElimination, EliminationFigures, eliminationAnswer, eliminationScratch, eliminationBytes, handedNumbers, handedScratch, runEliminateAnswer, runEliminateBytes}
 use Rattle.spec.specs.Graph.{sizeOf, graphOf, graphRefusal}
-use Rattle.spec.specs.Lent.{Outcome, accepted, refused, outcome, zeroed, scratchAfter, wordsPerNode, short}
+use Rattle.spec.specs.Lent.{Outcome, accepted, refused, outcome, scratchAfter, wordsPerNode, short}
 use Rattle.spec.specs.Numbering.{Figures, run}
-use Rattle.spec.specs.Refusal.{refuse, _orElse_}
 use Rattle.laws.proofs.Claim.{claim, run-legal}
 use Rattle.laws.proofs.Lent.{outcome-accepted, outcome-refused, zeroed-is, zeroed-all}
 use Rattle.laws.proofs.Refused.{or-else-zero, refuse-zero, passed, starts-of}

@@ -1,5 +1,4 @@
 -- `reading::legal::lists_short` meets its contract. Assumes nothing.
-use native.Mathlib.Omega.{arith}
 use borrow.Author.Needs.{needs}
 use Rattle.reading.proofs.Early.{words-short, starts-short, neighbours-left}
 use Rattle.reading.proofs.legal.lists_short.Statement.{statement}
