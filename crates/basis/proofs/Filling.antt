@@ -2,15 +2,15 @@
 use mathlib.Core.Path.{_≡_, refl, sym, ap, ap₂, _∙_}
 use mathlib.Core.Bool.{Bool, true, false}
 use mathlib.Core.List.{List, [], _∷_, _++_, append-nil}
-use Prim.Native.Nat.{ℕ, _+_, _≤_, _<_}
+use Prim.Native.Nat.{ℕ, _+_}
 use native.Mathlib.Nat.{add-zero}
 use native.Mathlib.Omega.{arith}
 use lib.ListN.{length, set}
 use lib.Seq.{sets, length-sets}
 use Rattle.basis.specs.Filling.{Filling}
-use Rattle.basis.specs.Lists.{consIf, filterb, countb, upFrom}
+use Rattle.basis.specs.Lists.{consIf, filterb, upFrom}
 use Rattle.basis.proofs.Count.{length-filter, bit-one, bit-none}
-use Rattle.basis.proofs.Next.{sets-append, count-next, filter-next, count-upto}
+use Rattle.basis.proofs.Next.{sets-append, count-next, filter-next}
 
 module _ (t : ℕ → Bool) (at : ℕ) (before : List ℕ) where
   pub filling-begin : Filling t at before 0 before at
@@ -43,9 +43,3 @@ module _ (t : ℕ → Bool) (at : ℕ) (before : List ℕ) where
           (sym (append-nil (filterb t (upFrom 1 i))) ∙ ap (λ b. filterb t (upFrom 1 i) ++ consIf b (1 + i) []) (sym e) ∙ sym (filter-next t 1 i));
       end = omega (arith, F .end, count-next t 1 i, bit-none (t (1 + i)) e);
     }
-
-    -- there is room for it
-    pub filling-room : (n : ℕ) → i < n → t (1 + i) ≡ true → at + countb t (upFrom 1 n) ≤ length before → to < length before
-    filling-room n h e r =
-        let l : i + 1 ≤ n = omega arith in
-        omega (arith, F .end, count-next t 1 i, bit-one (t (1 + i)) e, count-upto t 1 (i + 1) n l)

@@ -5,8 +5,8 @@ use mathlib.Core.List.{List, [], _∷_, _++_, map}
 use Prim.Native.Nat.{ℕ, zero, suc, _+_, _≤_, _<_}
 use native.Mathlib.Nat.{add-zero, add-suc, le-dest}
 use native.Mathlib.Omega.{arith}
-use lib.ListN.{length, drop, set, length-append}
-use lib.Seq.{sets, drop-set-add}
+use lib.ListN.{length, drop, set, length-append, getD, length-set}
+use lib.Seq.{sets, drop-set-add, getD-set-same, getD-set-other}
 use Rattle.basis.specs.Lists.{bit, consIf, filterb, countb, joinAll, upFrom, sum}
 use Rattle.basis.proofs.Count.{count-append}
 use Rattle.basis.proofs.Lists.{upFrom-append, map-append, join-last, sum-append, filter-append}
@@ -25,6 +25,24 @@ module _ {A : Type 0} where
   drop-sets-add k l i (x ∷ xs) =
       ap (λ (j : ℕ). drop k (sets (set l (k + i) x) j xs)) (sym (add-suc k i)) ∙ drop-sets-add k (set l (k + i) x) (suc i) xs
       ∙ ap (λ (m : List A). sets m (suc i) xs) (drop-set-add k l i x)
+
+-- a word outside the run of stores is as it was
+pub sets-before : (l : List ℕ) (i : ℕ) (xs : List ℕ) (j : ℕ) → j < i → getD (sets l i xs) j 0 ≡ getD l j 0
+sets-before l i [] j h = refl
+sets-before l i (x ∷ xs) j h = sets-before (set l i x) (suc i) xs j (omega arith) ∙ getD-set-other l i j x 0 (λ e. omega arith)
+
+pub sets-behind : (l : List ℕ) (i : ℕ) (xs : List ℕ) (j : ℕ) → i + length xs ≤ j → getD (sets l i xs) j 0 ≡ getD l j 0
+sets-behind l i [] j h = refl
+sets-behind l i (x ∷ xs) j h = sets-behind (set l i x) (suc i) xs j (omega arith) ∙ getD-set-other l i j x 0 (λ e. omega arith)
+
+-- a word of the run is what was stored
+pub sets-at : (l : List ℕ) (i : ℕ) (xs : List ℕ) (j : ℕ) → i + length xs ≤ length l → j < length xs → getD (sets l i xs) (i + j) 0 ≡ getD xs j 0
+sets-at l i [] j h b = absurd (omega arith)
+sets-at l i (x ∷ xs) zero h b =
+    ap (λ (k : ℕ). getD (sets l i (x ∷ xs)) k 0) (add-zero i) ∙ sets-before (set l i x) (suc i) xs i (omega arith) ∙ getD-set-same l i x 0 (omega arith)
+sets-at l i (x ∷ xs) (suc j) h b =
+    let e : i + suc j ≡ suc i + j = omega arith in
+    ap (λ (k : ℕ). getD (sets l i (x ∷ xs)) k 0) e ∙ sets-at (set l i x) (suc i) xs j (omega (arith, length-set l i x)) (omega arith)
 
 -- the range with one number more
 pub upFrom-next : (a k : ℕ) → upFrom a (k + 1) ≡ upFrom a k ++ ((a + k) ∷ [])

@@ -4,7 +4,7 @@ ghost use mathlib.Core.Path.{_≡_};
 ghost use mathlib.Core.Bool.{true};
 ghost use Prim.Native.Nat.{_+_, _-_, _*_, _≤_, _<_};
 ghost use lib.ListN.{length};
-ghost use Rattle.spec.specs.Graph.{graphOf, sizeOf, rowOf, graphRefusal};
+ghost use Rattle.spec.specs.Graph.{graphOf, sizeOf, graphRefusal};
 ghost use Rattle.laws.specs.Legal.{Node};
 ghost use Rattle.combining.specs.Areas.{workOf, heldOf};
 ghost use Rattle.piecing.specs.Seek.{looseAt, freshAt, Seek, Nodes, Pushed, Shut, Grown};

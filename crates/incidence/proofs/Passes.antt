@@ -1,11 +1,11 @@
 -- Passes over elements and over lists of them: what is left to do completes what is done. Assumes nothing.
 use mathlib.Core.Path.{_≡_, refl, sym, ap, subst, _∙_}
 use mathlib.Core.Logic.{⊎-elim}
-use mathlib.Core.Bool.{Bool, false, _&&_, _||_, or-assoc}
+use mathlib.Core.Bool.{Bool, false, _&&_, _||_, or-assoc, or-false}
 use mathlib.Core.List.{List}
 use Prim.Native.Nat.{ℕ, zero, suc, _+_, _*_, _≤_, _<_}
 use native.Mathlib.Omega.{arith}
-use lib.ListN.{length, getD, take, drop, replicate, length-drop, length-replicate, getD-replicate, List·getD-append, drop-of-length-le}
+use lib.ListN.{length, getD, take, drop, length-drop, drop-of-length-le}
 use lib.Dec.{eqb, ltb}
 use borrow.Author.Tests.{ne-eqb, eqb-false, ltb-false}
 use Rattle.basis.specs.Lists.{anyb, memb}
@@ -13,13 +13,10 @@ use Rattle.basis.proofs.Index.{memb-getD}
 use Rattle.basis.proofs.Lists.{any-none}
 use Rattle.basis.proofs.Logic.{or-none}
 use Rattle.spec.specs.Graph.{outside}
-use Rattle.spec.specs.Lent.{zeroed}
-use Rattle.laws.proofs.Lent.{zeroed-is}
 use Rattle.spec.specs.Mesh.{nodeCount, elements}
 use Rattle.elements.proofs.Remains.{drop-next}
 use Rattle.elements.proofs.Elements.{refusalFrom, refusal-none, good-fits, good-inside, elements-next, elements-over}
 use Rattle.rowset.specs.Set.{has, Empty, Covered, Added}
-use Rattle.rowset.proofs.Sets.{or-false}
 use Rattle.incidence.specs.Cells.{share, nodeIn, Sound, Cells, holdIn, held, Entered, Linked, Listed}
 use Rattle.incidence.proofs.Chains.{hold-same, entered-none, entered-by, entered-then}
 
@@ -81,13 +78,6 @@ module _ (at base rows : ℕ) (nodes before : List ℕ) (cell : ℕ) where
         (λ k l. sym (or-false (E .hit k)) ∙ ap (λ (x : List ℕ). E .hit k || memb (base + suc k) x) (sym (drop-of-length-le nodes h)) ∙ E .rest k l)
 
 -- ---- all elements are entered
-
--- a word that was cleared
-pub zeroed-at : (m : ℕ) (l : List ℕ) (k : ℕ) → k < m → getD (zeroed m l) k 0 ≡ 0
-zeroed-at m l k h =
-    ap (λ (w : List ℕ). getD w k 0) (zeroed-is m l)
-    ∙ List·getD-append (replicate m 0) (drop m l) 0 k (omega (arith, length-replicate {A = ℕ} m 0))
-    ∙ getD-replicate m k 0 0 h
 
 -- the lists hold the elements before place j, completed by those from j on
 pub record Listing (n : ℕ) (ws : List ℕ) (base rows j : ℕ) (words : List ℕ) (free : ℕ) : Type 0 where

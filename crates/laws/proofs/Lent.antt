@@ -2,10 +2,10 @@
 use mathlib.Core.Path.{_≡_, refl, sym, ap, _∙_}
 use mathlib.Core.Bool.{Bool, true, false, _||_}
 use mathlib.Core.List.{List, _++_, append-nil}
-use Prim.Native.Nat.{ℕ, zero, suc, _*_, _≤_}
+use Prim.Native.Nat.{ℕ, zero, suc, _*_, _≤_, _<_}
 use native.Mathlib.Omega.{arith}
-use lib.ListN.{length, take, drop, replicate, length-replicate, drop-of-length-le}
-use lib.Seq.{take-at, drop-at}
+use lib.ListN.{length, take, drop, replicate, length-replicate, drop-of-length-le, getD, getD-replicate}
+use lib.Seq.{take-at, drop-at, getD-take}
 use lib.Dec.{eqb}
 use borrow.Author.Tests.{ne-eqb}
 use Rattle.spec.specs.CallsLevels.{partScratch}
@@ -44,6 +44,10 @@ zeroed-front n l = ap (take n) (zeroed-is n l) ∙ take-at (replicate n 0) (drop
 
 pub zeroed-behind : (n : ℕ) (l : List ℕ) → drop n (zeroed n l) ≡ drop n l
 zeroed-behind n l = ap (drop n) (zeroed-is n l) ∙ drop-at (replicate n 0) (drop n l) n (length-replicate n 0)
+
+-- word by word
+pub zeroed-at : (n : ℕ) (l : List ℕ) (i : ℕ) → i < n → getD (zeroed n l) i 0 ≡ 0
+zeroed-at n l i h = sym (getD-take n (zeroed n l) i 0 h) ∙ ap (λ (w : List ℕ). getD w i 0) (zeroed-front n l) ∙ getD-replicate n i 0 0 h
 
 -- a buffer of n words is then all 0
 pub zeroed-all : (n : ℕ) (l : List ℕ) → length l ≡ n → zeroed n l ≡ replicate n 0

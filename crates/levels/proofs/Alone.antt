@@ -9,6 +9,7 @@ use lib.Seq.{sets, slice, length-sets, length-slice, length-take-le, ext-getD, t
 use Rattle.basis.specs.Lists.{memb, upFrom}
 use Rattle.basis.proofs.Index.{getD-map-upFrom, memb-getD, zeros-at}
 use Rattle.basis.proofs.Lists.{memb-length, length-upFrom}
+use Rattle.basis.proofs.Next.{sets-behind, sets-at}
 use Rattle.spec.specs.Combined.{combined}
 use Rattle.spec.specs.Ends.{ends}
 use Rattle.spec.specs.Graph.{Graph, graphOf, sizeOf, graphRefusal, nodes, ofNode}
@@ -17,7 +18,7 @@ use Rattle.spec.specs.Levels.{part}
 use Rattle.laws.specs.Legal.{Node, LegalGraph}
 use Rattle.laws.proofs.Ends.{ends-of, ends-same}
 use Rattle.laws.proofs.Legal.{length-nodes, ofNode-at}
-use Rattle.laws.proofs.Lent.{zeroed-behind}
+use Rattle.laws.proofs.Lent.{zeroed-behind, zeroed-at}
 use Rattle.laws.proofs.Levels.{part-node, part-self, part-same}
 use Rattle.laws.proofs.Parts.{part-most}
 use Rattle.laws.proofs.Refused.{not-refused}
@@ -25,9 +26,8 @@ use Rattle.search.proofs.Stores.{take-sets}
 use Rattle.combining.specs.Areas.{wordsOf}
 use Rattle.piecing.specs.Given.{firstOf, endsOf, merged}
 use Rattle.piecing.specs.Starts.{membersOf}
-use Rattle.piecing.proofs.Clearing.{zeroed-length, zeroed-low}
+use Rattle.piecing.proofs.Clearing.{zeroed-length}
 use Rattle.piecing.proofs.Finish.{merged-alone}
-use Rattle.piecing.proofs.Stores.{sets-behind, sets-at}
 use Rattle.levels.specs.Part.{PartGiven, partLevelsOf}
 use Rattle.levels.specs.declared.shape.PartLevels.{PartLevels}
 use Rattle.levels.proofs.Scratch.{zero-front, behind-front, behind-sets, zeroed-again}
@@ -93,7 +93,7 @@ module _ (S N : List ℕ) (p : ℕ) (W : List ℕ) (ok : graphRefusal S N ≡ 0)
         (λ i l.
         getD-drop (5 * n) (take (6 * n) U) i 0 ∙ getD-take (6 * n) U (5 * n + i) 0 (omega (arith, L₀-size))
         ∙ ap (λ (x : List ℕ). getD x (5 * n + i) 0) u ∙ sets-behind W₀ (4 * n) P (5 * n + i) (omega (arith, P-most))
-        ∙ ap (λ (x : List ℕ). getD x (5 * n + i) 0) w₀ ∙ zeroed-low (8 * n) W (5 * n + i) (omega (arith, L₀-size))
+        ∙ ap (λ (x : List ℕ). getD x (5 * n + i) 0) w₀ ∙ zeroed-at (8 * n) W (5 * n + i) (omega (arith, L₀-size))
         ∙ sym (zeros-at n i))
 
     L₀-at : (i : ℕ) → getD L₀ i 0 ≡ 0

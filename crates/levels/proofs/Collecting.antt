@@ -14,9 +14,9 @@ use Rattle.basis.specs.Lists.{upFrom}
 use Rattle.basis.proofs.Count.{length-filter, count-length}
 use Rattle.basis.proofs.Filling.{filling-begin, filling-length, filling-yes, filling-no}
 use Rattle.basis.proofs.Lists.{length-upFrom}
+use Rattle.basis.proofs.Next.{sets-before}
 use Rattle.spec.specs.Graph.{ofNode}
 use Rattle.laws.proofs.Legal.{ofNode-at}
-use Rattle.piecing.proofs.Stores.{sets-before}
 use Rattle.levels.specs.Part.{placed}
 
 -- q has a level

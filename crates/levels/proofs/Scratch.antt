@@ -5,10 +5,10 @@ use Prim.Native.Nat.{ℕ, _+_, _-_, _≤_}
 use native.Mathlib.Omega.{arith}
 use lib.ListN.{length, take, drop, replicate, length-drop, length-replicate}
 use lib.Seq.{sets, length-sets, ext-getD, getD-drop, take-append-le, drop-append-add, drop-drop}
+use Rattle.basis.proofs.Next.{sets-behind}
 use Rattle.spec.specs.Lent.{zeroed}
 use Rattle.laws.proofs.Lent.{zeroed-is}
 use Rattle.search.proofs.Stores.{take-replicate}
-use Rattle.piecing.proofs.Stores.{sets-behind}
 
 -- the front of words that were set to 0
 pub zero-front : (k m : ℕ) (W : List ℕ) → k ≤ m → take k (zeroed m W) ≡ replicate k 0

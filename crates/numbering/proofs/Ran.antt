@@ -5,7 +5,7 @@ use mathlib.Core.List.{List, _∷_, _++_, map, append-assoc}
 use Prim.Native.Nat.{ℕ, suc, _+_, _-_, _*_, _≤_, _<_, max}
 use native.Mathlib.Numerals.{add-one}
 use native.Mathlib.Omega.{arith}
-use lib.ListN.{length, getD, set, take, drop, replicate, length-append, length-map, length-replicate, getD-replicate}
+use lib.ListN.{length, getD, set, take, drop, replicate, length-append, length-map, length-replicate}
 use lib.Seq.{slice, take-at, take-take, drop-at, drop-cons, getD-take, length-take-le}
 use lib.Dec.{eqb, ltb}
 use Rattle.basis.specs.Lists.{joinAll, memb, greatest, sum, position, upFrom, chainb}
@@ -18,7 +18,7 @@ use Rattle.spec.specs.Levels.{part, leads, leaders, parts}
 use Rattle.spec.specs.Measures.{numbersOf}
 use Rattle.spec.specs.Numbering.{PartResult, partResult, partResults, wholeOrder, wholeLevels, figuresOf, runOf, run}
 use Rattle.laws.specs.Legal.{Node, LegalGraph, Starts}
-use Rattle.laws.proofs.Legal.{ofNode-at, ofNode-map, by-node, length-nodes}
+use Rattle.laws.proofs.Legal.{ofNode-at, ofNode-zeros, ofNode-map, by-node, length-nodes}
 use Rattle.laws.proofs.Levels.{part-self}
 use Rattle.laws.proofs.Parts.{leaders-in, leaders-rise, parts-apart}
 use Rattle.laws.proofs.Numberings.{number-of, numbers-length, order-memb}
@@ -65,10 +65,6 @@ module _ (S N : List ℕ) (legal : graphRefusal S N ≡ 0) where
 
 -- ---- before the first part
 
-zero-level : (g : Graph) (q : ℕ) → Node g q → ofNode (replicate (g .size) 0) q ≡ 0
-zero-level g q N =
-    ofNode-at (replicate (g .size) 0) q (N .low) ∙ getD-replicate (g .size) (q - 1) 0 0 (omega (arith, N .low, N .high))
-
 pub ran-begin : {S N X L W : List ℕ} (E : List ℕ) → graphRefusal S N ≡ 0 → Sized (graphOf S N) (sizeOf S) X → L ≡ replicate (sizeOf S) 0
     → W ≡ replicate (4 * sizeOf S) 0 ++ (joinAll (parts (graphOf S N)) ++ E) → 6 * sizeOf S ≤ length W
     → slice (5 * sizeOf S) (6 * sizeOf S) W ≡ replicate (sizeOf S) 0 → Ran S N 0 0 0 0 0 X L W
@@ -83,7 +79,7 @@ ran-begin {S} {N} {X} {L} {W} E legal x l w full blank =
       sizes = λ z m. let A = leaders-in g z m .0 in x .each z (A .low) (A .high) (filter-in (leads g) (nodes g) z m .1);
       levels = l
           ∙ by-node g (replicate (sizeOf S) 0) (map (λ z. 0) (nodes g)) (length-replicate (sizeOf S) 0) (length-map (nodes g) (λ z. 0) ∙ length-nodes g)
-          (λ q A. zero-level g q A ∙ sym (ofNode-map g (λ z. 0) q A));
+          (λ q A. ofNode-zeros (sizeOf S) q ∙ sym (ofNode-map g (λ z. 0) q A));
       depths = refl;
       widest = refl;
       passes = refl;

@@ -7,22 +7,22 @@ use Prim.Native.Nat.{ℕ, _+_, _-_, _*_, _≤_}
 use native.Mathlib.Omega.{arith}
 use lib.ListN.{length, drop, length-map}
 use lib.Dec.{leb, ltb}
-use Rattle.basis.specs.Lists.{bit, filterb, memb, upFrom}
+use Rattle.basis.specs.Lists.{bit, memb, upFrom}
 use Rattle.basis.specs.Perm.{times}
 use Rattle.basis.proofs.Count.{bit-most, bit-none, count-every, count-length, count-range, count-sum, memb-times}
 use Rattle.basis.proofs.Index.{memb-getD}
-use Rattle.basis.proofs.Lists.{filter-again, length-upFrom, upFrom-in, sum-mono}
+use Rattle.basis.proofs.Lists.{length-upFrom, upFrom-in, sum-mono}
 use Rattle.basis.proofs.Logic.{by-test}
 use Rattle.basis.proofs.Perm.{perm-length}
 use Rattle.spec.specs.Graph.{Graph, nodes, ofNode}
-use Rattle.spec.specs.Levels.{part, levels, levelOf}
+use Rattle.spec.specs.Levels.{part, levels}
 use Rattle.spec.specs.Numbering.{forwardOrder}
 use Rattle.laws.specs.Legal.{Node, LegalGraph}
 use Rattle.laws.specs.Structure.{LevelStructure}
 use Rattle.laws.proofs.Legal.{by-node, ofNode-at, ofNode-map, length-nodes}
 use Rattle.laws.proofs.Levels.{part-node}
 use Rattle.laws.proofs.PartOrder.{forward-perm}
-use Rattle.laws.proofs.Parts.{part-closed}
+use Rattle.laws.proofs.Parts.{part-again, part-closed}
 use Rattle.ranking.specs.Part.{membersIn, Behind}
 use Rattle.order.specs.Model.{ownLevels, Starting}
 
@@ -33,11 +33,6 @@ unfolding ownLevels
 own-is g P L ls l same out =
     by-node g (ownLevels g P L) ls (length-map (nodes g) (λ z. cond (memb z P) (ofNode L z) 0) ∙ length-nodes g) l
     (λ q X. ofNode-map g (λ z. cond (memb z P) (ofNode L z) 0) q X ∙ by-test (memb q P) (λ e. rw e (same q e)) (λ e. rw e (sym (out q X e))))
-
--- a part is listed in rising order
-pub part-rising : (g : Graph) (z : ℕ) → part g z ≡ filterb (λ q. memb q (part g z)) (nodes g)
-unfolding part
-part-rising g z = filter-again (λ q. ltb 0 (levelOf (levels g z) q)) (nodes g)
 
 -- there are no more levels than nodes: each is occupied
 levels-few : {g : Graph} → LegalGraph g → {z : ℕ} → Node g z → {k v u : ℕ} {ls : List ℕ} → LevelStructure g z k v u ls → k ≤ g .size
@@ -82,7 +77,7 @@ module _ {g : Graph} (G : LegalGraph g) {z : ℕ} (Z : Node g z) {k v u : ℕ} {
       nodes = rw stands (λ q i. let X = part-node G Z q i in (X .low, rw s (X .high)));
       levels = rw (stands, ← e) (λ q i. (omega (arith, same q i, S .some q i), omega (arith, same q i, S .most q i, levels-few G Z S, s)));
     };
-    rising = rw stands (part-rising g z);
+    rising = rw stands (part-again g z);
     closed = rw stands (part-closed G Z);
   }
 

@@ -6,13 +6,13 @@ use mathlib.Core.List.{List, [], _∷_, _++_, foldl, append-nil}
 use Prim.Native.Nat.{ℕ, zero, suc, _+_, _-_, _≤_, _<_}
 use native.Mathlib.Omega.{arith}
 use native.Mathlib.Numerals.{add-one}
-use lib.ListN.{length, take, drop, replicate, length-append, length-map, take-append-drop}
+use lib.ListN.{length, take, drop, replicate, length-append, length-map}
 use lib.Seq.{take-at, drop-at}
 use lib.Dec.{eqb}
 use borrow.Author.Tests.{eqb-true}
 use Rattle.basis.specs.Lists.{filterb, memb, upFrom, overwrite}
 use Rattle.basis.proofs.Count.{bit-one, bit-none, memb-times, times-memb}
-use Rattle.basis.proofs.Lists.{memb-append, memb-here, filter-none, filter-append}
+use Rattle.basis.proofs.Lists.{memb-append, memb-drop, memb-here, filter-none, filter-append}
 use Rattle.basis.proofs.Logic.{by-test, clash, fails, or-split, or-right}
 use Rattle.basis.proofs.Perm.{perm-memb}
 use Rattle.spec.specs.Graph.{Graph, nodes, graphOf, graphRefusal, sizeOf, ofNode}
@@ -164,7 +164,7 @@ module _ (S N : List ℕ) {n at : ℕ} {P W : List ℕ} {a b i : ℕ} (ok : grap
     where
       member : (w : ℕ) → memb w (drop a ord) ≡ true → memb w P ≡ true
       member w k =
-          let j : memb w ord ≡ true = ap (memb w) (sym (take-append-drop a ord)) ∙ memb-append w (take a ord) (drop a ord) ∙ or-right (memb w (take a ord)) k in
+          let j : memb w ord ≡ true = memb-drop w a ord k in
           let r = O .listed .inside w j in
           own-member (not-refused S N ok) P (drop at W) (B .rising) (B .closed) w (record { low = r .0; high = rw (← q) (r .1) }) (D .low w j)
 

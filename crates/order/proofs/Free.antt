@@ -14,8 +14,8 @@ use Rattle.basis.specs.Lists.{bit, filterb, chainb, memb}
 use Rattle.basis.specs.Perm.{Once, Perm}
 use Rattle.basis.proofs.Count.{filter-once}
 use Rattle.basis.proofs.Index.{memb-getD}
-use Rattle.basis.proofs.Lists.{memb-append, memb-one, filter-in, filter-cong}
-use Rattle.basis.proofs.Logic.{by-test, and-split, or-right}
+use Rattle.basis.proofs.Lists.{memb-append, memb-drop, memb-one, filter-in, filter-cong}
+use Rattle.basis.proofs.Logic.{by-test, and-split}
 use Rattle.basis.proofs.Perm.{perm-append, perm-refl, perm-length}
 use Rattle.basis.proofs.Rise.{rise-head, rise-once}
 use Rattle.basis.proofs.Sort.{chain-tail}
@@ -233,7 +233,7 @@ pub tail-nodes : {n k e : ℕ} {W : List ℕ} → n ≡ k → Open n e W → (t 
 tail-nodes {n} {k} {e} {W} q O t h z m =
     let o : List ℕ = orderIn n e W in
     let d : memb z (drop t o) ≡ true = ap (memb z) (sym (tail-part (open-at O) t h)) ∙ m in
-    rw (← q) (O .listed .inside z (ap (memb z) (sym (take-append-drop t o)) ∙ memb-append z (take t o) (drop t o) ∙ or-right (memb z (take t o)) d))
+    rw (← q) (O .listed .inside z (memb-drop z t o d))
 
 pub tail-done : {n e : ℕ} {W : List ℕ} → Open n e W → (t : ℕ) → t ≤ e → (g : Graph) (s : List ℕ) → s ≡ sortE g (midOf (n + t) (n + e - (n + t)) W)
     → putMid (n + t) (n + e - (n + t)) W s ≡ stand n (take t (orderIn n e W) ++ sortE g (drop t (orderIn n e W))) (drop n W)

@@ -16,6 +16,7 @@ use Rattle.basis.proofs.Index.{getD-map-upFrom, memb-getD}
 use Rattle.basis.proofs.Lists.{filter-in, filter-make, map-cong, map-map, memb-map, upFrom-make, length-upFrom}
 use Rattle.basis.proofs.Logic.{by-test, eqb-sym}
 use Rattle.basis.proofs.Rise.{rise-once}
+use Rattle.basis.proofs.Next.{sets-before, sets-behind, sets-at}
 use Rattle.spec.specs.Combined.{LevelPairs, mirrored, levelPairs, settled, settledLevels, countAt}
 use Rattle.spec.specs.Ends.{Ends, depthAt}
 use Rattle.spec.specs.Graph.{Graph, nodes, ofNode}
@@ -35,7 +36,7 @@ use Rattle.piecing.specs.Seek.{at}
 use Rattle.piecing.specs.Starts.{membersOf}
 use Rattle.piecing.proofs.Laying.{named-by}
 use Rattle.piecing.proofs.Storing.{length-stored, stored-at, stored-other, members-on}
-use Rattle.piecing.proofs.Stores.{sets-before, sets-behind, sets-at, written-at}
+use Rattle.piecing.proofs.Stores.{written-at}
 
 count-settled : (g : Graph) (pr : LevelPairs) (i : ℕ) → countAt (settledLevels g pr) i ≡ countb (λ y. eqb i (cond (settled pr y) (ofNode (pr .firsts) y) 0)) (nodes g)
 unfolding countAt settledLevels

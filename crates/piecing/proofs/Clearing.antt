@@ -6,16 +6,15 @@ use mathlib.Core.List.{List, [], _∷_}
 use Prim.Native.Nat.{ℕ, _+_, _-_, _*_, _≤_, _<_}
 use native.Mathlib.Omega.{arith}
 use lib.ListN.{length, getD, set, drop, replicate, length-replicate, getD-replicate, length-append, length-drop, replicate-append-replicate}
-use lib.Seq.{sets, length-sets, ext-getD, getD-take, getD-drop}
+use lib.Seq.{sets, length-sets, ext-getD, getD-drop}
 use Rattle.basis.specs.Lists.{memb}
 use Rattle.basis.proofs.Logic.{by-test, lt-or-le}
-use Rattle.basis.proofs.Next.{sets-append}
+use Rattle.basis.proofs.Next.{sets-append, sets-before, sets-behind, sets-at}
 use Rattle.spec.specs.Lent.{zeroed}
-use Rattle.laws.proofs.Lent.{zeroed-is, zeroed-front, zeroed-behind}
+use Rattle.laws.proofs.Lent.{zeroed-at, zeroed-is, zeroed-behind}
 use Rattle.piecing.specs.Members.{Members, Clearable, stored, nought}
 use Rattle.piecing.specs.Starts.{membersOf}
 use Rattle.piecing.proofs.Storing.{length-stored, stored-at, stored-other, member-range, members-same, members-on}
-use Rattle.piecing.proofs.Stores.{sets-before, sets-behind, sets-at}
 
 -- ---- a run of words set to 0
 
@@ -58,9 +57,6 @@ pub run-behind : (W : List ℕ) (a c i : ℕ) → a + c ≤ i → getD (sets W a
 run-behind W a c i h = sets-behind W a (replicate c 0) i (omega (arith, length-replicate {A = ℕ} c 0))
 
 -- ---- the words of a cleared list
-
-pub zeroed-low : (m : ℕ) (W : List ℕ) (i : ℕ) → i < m → getD (zeroed m W) i 0 ≡ 0
-zeroed-low m W i h = sym (getD-take m (zeroed m W) i 0 h) ∙ ap (λ (l : List ℕ). getD l i 0) (zeroed-front m W) ∙ getD-replicate m i 0 0 h
 
 pub zeroed-high : (m : ℕ) (W : List ℕ) (i : ℕ) → m ≤ i → getD (zeroed m W) i 0 ≡ getD W i 0
 zeroed-high m W i h =
@@ -174,6 +170,6 @@ module _ {n from to k : ℕ} {W : List ℕ} (A : Clearable n from to k W) where
   pub tidied : U₅ ≡ zeroed (4 * n) W
   tidied = ext-getD 0 U₅ (zeroed (4 * n) W) (five-size ∙ sym (zeroed-length (4 * n) W (omega (arith, A .members .words))))
       (λ i l. ⊎-elim
-      (λ a. low i a ∙ sym (zeroed-low (4 * n) W i a))
+      (λ a. low i a ∙ sym (zeroed-at (4 * n) W i a))
       (λ a. behind i a ∙ sym (zeroed-high (4 * n) W i a))
       (lt-or-le i (4 * n)))

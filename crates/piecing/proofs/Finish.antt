@@ -11,6 +11,7 @@ use Rattle.basis.specs.Lists.{anyb, memb, upFrom, greatest}
 use Rattle.basis.proofs.Count.{length-filter, count-length}
 use Rattle.basis.proofs.Lists.{none-any, map-cong, upFrom-in, length-upFrom}
 use Rattle.basis.proofs.Logic.{by-test, clash, fails}
+use Rattle.basis.proofs.Next.{sets-behind}
 use Rattle.spec.specs.Combined.{LevelPairs, levelPairs, settled, settledLevels, pieces, countAt, combined, widthOf}
 use Rattle.spec.specs.Ends.{Ends, ends, depthAt}
 use Rattle.spec.specs.Graph.{Graph, nodes, ofNode}
@@ -33,7 +34,6 @@ use Rattle.piecing.proofs.Begin.{W₁, W₃, L₃, Z, part-is-node, x-o
 use Rattle.piecing.proofs.Folding.{After}
 use Rattle.piecing.proofs.Start.{settled-out, loose-three, levels-three, after}
 use Rattle.piecing.proofs.Storing.{member-in, members-on}
-use Rattle.piecing.proofs.Stores.{sets-behind}
 
 -- the word of a node, by index
 pub of-node : (xs : List ℕ) (q : ℕ) → 1 ≤ q → ofNode xs q ≡ at xs q

@@ -16,7 +16,7 @@ use Rattle.basis.proofs.Count.{bit-most, count-append, count-cong, filter-once,
 use Rattle.basis.proofs.Index.{memb-getD}
 use Rattle.basis.proofs.Lists.{memb-here, memb-append, filter-in, filter-make, filter-cong, upFrom-in}
 use Rattle.basis.proofs.Logic.{by-test, clash, same, and-split, and-make, or-split, fails}
-use Rattle.basis.proofs.Next.{sets-append}
+use Rattle.basis.proofs.Next.{sets-append, sets-before, sets-behind, sets-at}
 use Rattle.basis.proofs.Perm.{once-perm}
 use Rattle.spec.specs.Graph.{Graph, adjoins, restrict}
 use Rattle.spec.specs.Levels.{part}
@@ -26,7 +26,7 @@ use Rattle.laws.proofs.Levels.{part-self, part-on}
 use Rattle.laws.proofs.Parts.{part-once, part-least}
 use Rattle.combining.specs.Model.{written}
 use Rattle.piecing.specs.Seek.{at, looseAt, freshAt, one, Seek, Nodes, Pushed, Shut, Grown}
-use Rattle.piecing.proofs.Stores.{sets-before, sets-behind, sets-at, length-written, written-at}
+use Rattle.piecing.proofs.Stores.{length-written, written-at}
 use Rattle.piecing.proofs.Seeking.{end-most, levels-size, spare-on, seek-on}
 
 head-append : (F ys : List ℕ) → 1 ≤ length F → headOr 0 (F ++ ys) ≡ headOr 0 F

@@ -15,10 +15,10 @@ use Rattle.basis.proofs.Count.{bit-one, count-append, length-filter, count-ever
 use Rattle.basis.proofs.Lists.{memb-take, memb-filter, filter-in, upFrom-in, filter-append}
 use Rattle.basis.proofs.Logic.{by-test, and-make, eqb-self}
 use Rattle.basis.proofs.Index.{memb-getD}
-use Rattle.basis.proofs.Next.{sets-append}
+use Rattle.basis.proofs.Next.{sets-append, sets-before, sets-behind}
 use Rattle.combining.specs.Model.{written}
 use Rattle.piecing.specs.Seek.{at, looseAt, freshAt, one, Seek, Nodes, Pushed}
-use Rattle.piecing.proofs.Stores.{sets-before, sets-behind, length-written, written-append, written-at}
+use Rattle.piecing.proofs.Stores.{length-written, written-append, written-at}
 
 -- ---- what visiting does
 

@@ -18,6 +18,7 @@ use Rattle.spec.specs.Ends.{Ends}
 use Rattle.spec.specs.Graph.{Graph}
 use Rattle.spec.specs.Lent.{zeroed}
 use Rattle.laws.proofs.Combined.{combined-of}
+use Rattle.laws.proofs.Lent.{zeroed-at}
 use Rattle.combining.specs.Tally.{tally}
 use Rattle.combining.specs.Model.{queued, slots, numberAt, written, Countable}
 use Rattle.piecing.specs.Given.{Entry, Levelled}
@@ -26,7 +27,7 @@ use Rattle.piecing.specs.Placed.{wordsAfter, levelsAfter, PlaceableAll}
 use Rattle.piecing.specs.Seek.{looseAt}
 use Rattle.piecing.specs.Starts.{startsOf, membersOf, Findable, Found}
 use Rattle.piecing.proofs.Begin.{W₁, W₂, W₃, L₃, Z, turnable, members-one, countable-two}
-use Rattle.piecing.proofs.Clearing.{tidied, zeroed-length, zeroed-low, zeroed-high}
+use Rattle.piecing.proofs.Clearing.{tidied, zeroed-length, zeroed-high}
 use Rattle.piecing.proofs.Clearing as clearing
 use Rattle.piecing.proofs.Finish.{levelled}
 use Rattle.piecing.proofs.Start.{findable, after}
@@ -105,7 +106,7 @@ pub zeroed-same : (m : ℕ) (U W : List ℕ) → length U ≡ length W → m ≤
 zeroed-same m U W s r h =
     ext-getD 0 (zeroed m U) (zeroed m W) (zeroed-length m U (omega arith) ∙ s ∙ sym (zeroed-length m W r))
     (λ i l. ⊎-elim
-    (λ a. zeroed-low m U i a ∙ sym (zeroed-low m W i a))
+    (λ a. zeroed-at m U i a ∙ sym (zeroed-at m W i a))
     (λ a. zeroed-high m U i a ∙ h i a (omega (arith, zeroed-length m U (omega arith))) ∙ sym (zeroed-high m W i a))
     (lt-or-le i m))
 

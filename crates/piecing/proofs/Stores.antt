@@ -3,11 +3,10 @@ use mathlib.Core.Path.{_≡_, refl, sym, ap, _∙_}
 use mathlib.Core.Logic.{_≢_}
 use mathlib.Core.Bool.{Bool, true, false, cond}
 use mathlib.Core.List.{List, [], _∷_, _++_}
-use Prim.Native.Nat.{ℕ, zero, suc, _+_, _-_, _≤_, _<_}
-use native.Mathlib.Nat.{add-zero}
+use Prim.Native.Nat.{ℕ, _-_, _≤_}
 use native.Mathlib.Omega.{arith}
-use lib.ListN.{length, getD, set, length-set}
-use lib.Seq.{sets, getD-set-same, getD-set-other}
+use lib.ListN.{length, set, length-set}
+use lib.Seq.{getD-set-same, getD-set-other}
 use lib.Dec.{eqb}
 use borrow.Author.Tests.{eqb-true, eqb-false}
 use Rattle.basis.specs.Lists.{memb}
@@ -15,30 +14,6 @@ use Rattle.basis.proofs.Lists.{memb-here}
 use Rattle.basis.proofs.Logic.{by-test, or-right}
 use Rattle.combining.specs.Model.{written}
 use Rattle.piecing.specs.Seek.{at}
-
--- ---- in a row
-
--- a word outside the run is as it was
-pub sets-before : (Q : List ℕ) (t : ℕ) (xs : List ℕ) (i : ℕ) → i < t → getD (sets Q t xs) i 0 ≡ getD Q i 0
-sets-before Q t [] i h = refl
-sets-before Q t (x ∷ xs) i h = sets-before (set Q t x) (suc t) xs i (omega arith) ∙ getD-set-other Q t i x 0 (λ e. omega arith)
-
-pub sets-behind : (Q : List ℕ) (t : ℕ) (xs : List ℕ) (i : ℕ) → t + length xs ≤ i → getD (sets Q t xs) i 0 ≡ getD Q i 0
-sets-behind Q t [] i h = refl
-sets-behind Q t (x ∷ xs) i h = sets-behind (set Q t x) (suc t) xs i (omega arith) ∙ getD-set-other Q t i x 0 (λ e. omega arith)
-
--- a word of the run is what was stored
-pub sets-at : (Q : List ℕ) (t : ℕ) (xs : List ℕ) (i : ℕ) → t + length xs ≤ length Q → i < length xs → getD (sets Q t xs) (t + i) 0 ≡ getD xs i 0
-sets-at Q t [] i h l = absurd (omega arith)
-sets-at Q t (x ∷ xs) zero h l =
-    let e : t + 0 ≡ t = add-zero t in
-    ap (λ (k : ℕ). getD (sets (set Q t x) (suc t) xs) k 0) e ∙ sets-before (set Q t x) (suc t) xs t (omega arith) ∙ getD-set-same Q t x 0 (omega arith)
-sets-at Q t (x ∷ xs) (suc i) h l =
-    let e : t + suc i ≡ suc t + i = omega arith in
-    ap (λ (k : ℕ). getD (sets (set Q t x) (suc t) xs) k 0) e
-    ∙ sets-at (set Q t x) (suc t) xs i (rw (length-set Q t x) (omega arith)) (omega arith)
-
--- ---- node by node
 
 pub length-written : (f : ℕ → ℕ) (L zs : List ℕ) → length (written f L zs) ≡ length L
 unfolding written

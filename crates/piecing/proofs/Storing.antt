@@ -15,11 +15,10 @@ use Rattle.basis.specs.Perm.{times, Once}
 use Rattle.basis.proofs.Count.{bit-one, length-filter, count-length, count-append, none-times}
 use Rattle.basis.proofs.Lists.{map-cong, memb-here, map-memb, memb-map, upFrom-in, upFrom-make, length-upFrom, filter-append}
 use Rattle.basis.proofs.Logic.{by-test, or-right, eqb-self}
-use Rattle.basis.proofs.Next.{sets-append}
+use Rattle.basis.proofs.Next.{sets-append, sets-before, sets-behind}
 use Rattle.combining.proofs.Counting.{from-cons, from-none}
 use Rattle.piecing.specs.Starts.{membersOf}
 use Rattle.piecing.specs.Members.{Members, settledAt, stored}
-use Rattle.piecing.proofs.Stores.{sets-before, sets-behind}
 use Rattle.piecing.proofs.Taking.{map-split}
 
 -- ---- a word for each of some nodes

@@ -17,6 +17,7 @@ use Rattle.basis.proofs.Index.{getD-map-upFrom}
 use Rattle.basis.proofs.Lists.{memb-here, memb-one, memb-append, any-find, any-make, filter-in, filter-make, map-append, map-cong, memb-map, upFrom-in, upFrom-append, length-upFrom, filter-append}
 use Rattle.basis.proofs.Logic.{by-test, clash, fails, same, and-split, or-split, or-left, or-right, eqb-self}
 use Rattle.basis.proofs.Perm.{perm-memb, perm-length}
+use Rattle.basis.proofs.Next.{sets-before, sets-behind, sets-at}
 use Rattle.spec.specs.Graph.{Graph, nodes, adjoins, restrict}
 use Rattle.spec.specs.Levels.{part, leads}
 use Rattle.laws.specs.Legal.{Node, LegalGraph}
@@ -30,7 +31,6 @@ use Rattle.piecing.specs.Sizes.{lineOf, lineEnd}
 use Rattle.piecing.proofs.Finding.{restrict-cong, len, leadb, covered, one-leader, self-in, len-some, piece-loose, lead-iff}
 use Rattle.piecing.proofs.Orders.{rising-same, rise-before}
 use Rattle.piecing.proofs.Lines.{line-next, end-next, line-cong}
-use Rattle.piecing.proofs.Stores.{sets-before, sets-behind, sets-at}
 
 -- ---- runs of indices
 

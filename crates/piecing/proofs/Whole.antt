@@ -16,6 +16,7 @@ use Rattle.spec.specs.Graph.{Graph}
 use Rattle.spec.specs.Lent.{zeroed}
 use Rattle.spec.specs.Levels.{part}
 use Rattle.laws.specs.Legal.{LegalGraph}
+use Rattle.laws.proofs.Lent.{zeroed-at}
 use Rattle.combining.specs.Areas.{wordsOf, swapped, workOf, heldOf}
 use Rattle.combining.specs.Model.{countOf}
 use Rattle.combining.proofs.Areas.{
@@ -34,7 +35,7 @@ use Rattle.piecing.specs.Given.{Given, Entry, Levelled, firstOf, endsOf,
 use Rattle.piecing.specs.Members.{Members, Clearable, Movable}
 use Rattle.piecing.specs.Seek.{at}
 use Rattle.piecing.specs.Starts.{membersOf}
-use Rattle.piecing.proofs.Clearing.{run-in, run-before, run-behind, zeroed-low, zeroed-high}
+use Rattle.piecing.proofs.Clearing.{run-in, run-before, run-behind, zeroed-high}
 use Rattle.piecing.proofs.Finish.{Cleared, entry-of, first-same, queue-same, clearable, members-kept, width-is, merged-is}
 use Rattle.piecing.proofs.Steps.{zeroed-same, width-few}
 use Rattle.piecing.proofs.Storing.{members-same, members-on}
@@ -213,7 +214,7 @@ module _ {g : Graph} {from to k widthV widthU : ℕ} (X : List ℕ) (G : LegalGr
           spare = λ i l h.
               let d : i ≡ 2 * n + (i - 2 * n) = omega arith in
               ap (λ (j : ℕ). getD T j 0) d ∙ count-read n T rT (omega arith) (omega arith) ∙ ap (λ (x : List ℕ). getD x (i - 2 * n) 0) (t .0)
-              ∙ zeroed-low (4 * n) (workOf n back) (i - 2 * n) (omega arith);
+              ∙ zeroed-at (4 * n) (workOf n back) (i - 2 * n) (omega arith);
         }
 
         -- all of it in the end

@@ -16,9 +16,9 @@ use Rattle.basis.proofs.Count.{bit-one, count-append, none-times}
 use Rattle.basis.proofs.Index.{getD-map-upFrom, memb-getD, position-left, position-right}
 use Rattle.basis.proofs.Lists.{memb-append, memb-here, length-upFrom}
 use Rattle.basis.proofs.Logic.{by-test, or-right, eq-or-ne, eqb-self}
+use Rattle.basis.proofs.Next.{sets-behind}
 use Rattle.spec.specs.Graph.{ofNode}
 use Rattle.piecing.proofs.Clearing.{Blanking, blank-begin, blank-step, blank-size, blank-done}
-use Rattle.piecing.proofs.Stores.{sets-behind}
 use Rattle.renumbering.specs.Part.{orderAt, numberFrom, numbered, Numberable}
 
 -- ---- lists by old number

@@ -27,7 +27,6 @@ use Rattle.laws.proofs.Named.{part-levels, start-part, finish-part}
 use Rattle.laws.proofs.Whole.{part-perm}
 use Rattle.search.proofs.Tallies.{ofNode-set}
 use Rattle.renumbering.specs.Part.{numberFrom, renewed, partFiguresOf}
-use Rattle.renumbering.specs.declared.shape.PartFigures.{PartFigures}
 
 -- a list of one that holds z
 alone : (z : ℕ) (l : List ℕ) → length l ≡ 1 → memb z l ≡ true → l ≡ z ∷ []

@@ -16,6 +16,7 @@ use Rattle.basis.proofs.Lists.{filter-in, upFrom-in, length-upFrom, map-cong}
 use Rattle.basis.proofs.Logic.{by-test, lt-or-le}
 use Rattle.basis.proofs.Walk.{part-slice}
 use Rattle.basis.proofs.Perm.{perm-length, perm-memb}
+use Rattle.basis.proofs.Next.{sets-before, sets-behind, sets-at}
 use Rattle.spec.specs.Combined.{combined}
 use Rattle.spec.specs.Ends.{Ends, ends}
 use Rattle.spec.specs.Graph.{Graph, nodes, ofNode}
@@ -38,7 +39,7 @@ use Rattle.piecing.specs.Seek.{at}
 use Rattle.piecing.specs.Starts.{membersOf}
 use Rattle.piecing.proofs.Finish.{merged-alone}
 use Rattle.piecing.proofs.Storing.{length-stored, stored-at, stored-other, member-in}
-use Rattle.piecing.proofs.Stores.{length-written, written-at, sets-before, sets-behind, sets-at}
+use Rattle.piecing.proofs.Stores.{length-written, written-at}
 use Rattle.levels.specs.Part.{PartGiven, partLevelsOf}
 use Rattle.levels.specs.declared.shape.PartLevels.{PartLevels}
 use Rattle.sequence.specs.Answer.{Sequenceable}

@@ -5,7 +5,6 @@ ghost use Prim.Native.Nat.{_+_, _-_, _*_, _≤_, _<_};
 ghost use lib.ListN.{length, replicate, set};
 ghost use lib.Seq.{sets, slice};
 ghost use Rattle.spec.specs.Graph.{graphOf, sizeOf, graphRefusal, ofNode};
-ghost use Rattle.spec.specs.Levels.{part};
 ghost use Rattle.spec.specs.Numbering.{partResult};
 ghost use Rattle.combining.specs.Areas.{wordsOf};
 ghost use Rattle.combining.specs.Model.{numberAt, written};

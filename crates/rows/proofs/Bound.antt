@@ -3,15 +3,15 @@ use mathlib.Core.Path.{_≡_, refl, ap, _∙_}
 use mathlib.Core.Bool.{Bool, true, false, not, _&&_, _||_, and-comm, and-false, and-or-distrib-left}
 use mathlib.Core.List.{List, [], _∷_, map}
 use Prim.Native.Nat.{ℕ, _+_, _*_, _-_, _≤_, _<_}
-use native.Mathlib.Nat.{add-mul, one-mul, mul-le-mul, mul-le-mul-right}
+use native.Mathlib.Nat.{one-mul, mul-le-mul, mul-le-mul-right}
 use native.Mathlib.Omega.{arith}
 use lib.ListN.{length, getD, take, drop, length-drop}
 use lib.Seq.{length-take-le}
 use lib.Dec.{eqb}
 use Rattle.basis.specs.Lists.{bit, anyb, memb, countb, upFrom, sum}
-use Rattle.basis.proofs.Count.{length-filter, count-cong, count-some, count-none, count-parted, upFrom-once}
-use Rattle.basis.proofs.Lists.{memb-here, upFrom-in, sum-cong, sum-mono, sum-add}
-use Rattle.basis.proofs.Logic.{by-test, and-make, or-right, eqb-self, eqb-sym}
+use Rattle.basis.proofs.Count.{length-filter, count-times, count-cong, count-some, count-none, count-parted, upFrom-once}
+use Rattle.basis.proofs.Lists.{upFrom-in, sum-cong, sum-mono, sum-within, sum-add}
+use Rattle.basis.proofs.Logic.{by-test, and-make, eqb-self, eqb-sym}
 use Rattle.spec.specs.Graph.{degree}
 use Rattle.spec.specs.Mesh.{nodeCount, elements, joins, entryCount}
 use Rattle.elements.proofs.Elements.{count-most, good-some, refusalFrom, refusal-none, elements-next, elements-over}
@@ -70,15 +70,6 @@ pairs-at n e p m =
       one-mul (length e - 1),
     ))
     (λ y. omega (arith, count-none (beside e p) (upFrom 1 n) (λ q k. rw y (and-false (not (eqb p q))))))
-
-sum-within : (f h : ℕ → ℕ) (l : List ℕ) → ((x : ℕ) → memb x l ≡ true → f x ≤ h x) → sum (map f l) ≤ sum (map h l)
-sum-within f h [] e = omega arith
-sum-within f h (x ∷ l) e = omega (arith, e x (memb-here x l), sum-within f h l (λ y m. e y (or-right (eqb y x) m)))
-
--- each number that passes counts m
-count-times : (t : ℕ → Bool) (m : ℕ) (l : List ℕ) → sum (map (λ x. bit (t x) * m) l) ≡ countb t l * m
-count-times t m [] = omega arith
-count-times t m (x ∷ l) = omega (arith, count-times t m l, add-mul (bit (t x)) (countb t l) m)
 
 pairs : (n : ℕ) (e : List ℕ) → sum (map (λ p. countb (beside e p) (upFrom 1 n)) (upFrom 1 n)) ≤ length e * (length e - 1)
 pairs n e =

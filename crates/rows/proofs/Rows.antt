@@ -1,6 +1,6 @@
 -- A set that was filled out of the elements that hold p is row p. Assumes nothing.
 use mathlib.Core.Path.{_≡_, refl, sym, ap, _∙_}
-use mathlib.Core.Bool.{Bool, true, false, not, _&&_, _||_}
+use mathlib.Core.Bool.{false, not, _&&_, _||_}
 use mathlib.Core.List.{List, [], _∷_, _++_, append-nil}
 use Prim.Native.Nat.{ℕ, zero, suc, _+_, _-_, _/_, _%_, _≤_, _<_}
 use native.Mathlib.Nat.{le-dest}
@@ -11,7 +11,7 @@ use lib.Dec.{eqb}
 use borrow.Author.Tests.{lt-ltb}
 use Rattle.basis.specs.Lists.{memb, filterb, upFrom}
 use Rattle.basis.proofs.Lists.{any-none, filter-none, filter-cong, filter-append, upFrom-append, upFrom-in}
-use Rattle.basis.proofs.Logic.{fails, clash, or-right, or-neither}
+use Rattle.basis.proofs.Logic.{fails, clash, or-right, or-neither, and-none}
 use Rattle.spec.specs.Graph.{outside}
 use Rattle.spec.specs.Mesh.{nodeCount, elementRefusal, elementsRefusal, elementsIn, elements, joins}
 use Rattle.spec.specs.CallsMesh.{graphOfElements}
@@ -25,10 +25,6 @@ use Rattle.rows.specs.Rows.{entriesTo, Ready, Goes}
 use Rattle.rows.proofs.Laying.{mesh-row, entries-all, to-upto, to-next, to-most, goes-row}
 
 -- no element holds a number above n
-and-none : (a : Bool) {b : Bool} → b ≡ false → a && b ≡ false
-and-none true e = e
-and-none false e = refl
-
 beyond : (f n : ℕ) (ws : List ℕ) (p q : ℕ) → elementsRefusal f n ws ≡ 0 → n < q → share (elementsIn f ws) p q ≡ false
 unfolding share elementsIn elementsRefusal
 beyond zero n ws p q e h = refl
@@ -112,8 +108,3 @@ listed-added ws base rows words L k h a b A =
 -- words that are all 0
 pub zeros-empty : Empty (replicate 64 0)
 zeros-empty = record { at = λ i h. getD-replicate 64 i 0 0 h }
-
--- a list with no words
-pub nothing : (l : List ℕ) → length l ≡ 0 → l ≡ []
-nothing [] e = refl
-nothing (x ∷ l) e = absurd (omega (arith, e))

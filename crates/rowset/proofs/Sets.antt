@@ -1,7 +1,7 @@
 -- Sets of nodes in words, filled and emptied. Assumes nothing.
 use mathlib.Core.Path.{_≡_, refl, sym, ap, ap₂, subst, _∙_}
 use mathlib.Core.Logic.{⊎-elim}
-use mathlib.Core.Bool.{Bool, true, false, not, _&&_, _||_, and-true, and-false, or-assoc}
+use mathlib.Core.Bool.{Bool, true, false, not, _&&_, _||_, and-true, or-assoc, or-false}
 use mathlib.Core.List.{List}
 use Prim.Native.Nat.{ℕ, zero, suc, _+_, _*_, _-_, _/_, _%_, _^_, _≤_, _<_}
 use native.Mathlib.Nat.{add-zero, div-one}
@@ -15,19 +15,11 @@ use borrow.Author.Tests.{eq-eqb, ne-eqb, eqb-true, eqb-false}
 use Rattle.basis.specs.Filling.{Filling}
 use Rattle.basis.specs.Lists.{memb, upFrom}
 use Rattle.basis.proofs.Count.{length-filter}
-use Rattle.basis.proofs.Logic.{by-test, or-none, lt-or-le}
+use Rattle.basis.proofs.Logic.{by-test, or-none, lt-or-le, and-none}
 use Rattle.basis.proofs.Filling.{filling-begin, filling-yes, filling-no}
 use Rattle.elements.proofs.Remains.{drop-next}
 use Rattle.rowset.specs.Set.{bitAt, has, inRow, members, Empty, Covered, Added, Wrote}
 use Rattle.rowset.proofs.Bits.{bit-zero, bit-or, bit-down, Lowest, lowest-in}
-
--- false adds nothing
-pub or-false : (a : Bool) → a || false ≡ a
-or-false true = refl
-or-false false = refl
-
-and-none : (a : Bool) {b : Bool} → b ≡ false → a && b ≡ false
-and-none a e = ap (λ b. a && b) e ∙ and-false a
 
 and-all : (a : Bool) {b : Bool} → b ≡ true → a && b ≡ a
 and-all a e = ap (λ b. a && b) e ∙ and-true a

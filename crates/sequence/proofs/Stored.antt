@@ -2,11 +2,12 @@
 use mathlib.Core.Path.{_≡_, refl, sym, ap, _∙_, subst}
 use mathlib.Core.Logic.{_⊎_, inl, inr, ⊎-elim}
 use mathlib.Core.List.{List, [], _∷_}
-use Prim.Native.Nat.{ℕ, zero, suc, _+_, _-_, _≤_, _<_}
+use Prim.Native.Nat.{ℕ, suc, _+_, _-_, _≤_, _<_}
 use native.Mathlib.Omega.{arith}
-use lib.ListN.{length, take, getD, set, length-set}
-use lib.Seq.{sets, slice, length-sets, length-slice, ext-getD, getD-take, getD-drop, getD-set-same, getD-set-other, set-comm}
+use lib.ListN.{length, take, getD, set}
+use lib.Seq.{sets, slice, length-sets, length-slice, ext-getD, getD-take, getD-drop, set-comm}
 use Rattle.basis.proofs.Logic.{lt-or-le}
+use Rattle.basis.proofs.Next.{sets-before, sets-behind, sets-at}
 
 -- a word of the middle
 pub slice-at : (f t : ℕ) (l : List ℕ) (i : ℕ) → f + i < t → getD (slice f t l) i 0 ≡ getD l (f + i) 0
@@ -14,20 +15,7 @@ slice-at f t l i h = getD-drop f (take t l) i 0 ∙ getD-take t l (f + i) 0 h
 
 -- other words are as they were
 pub stored-other : (l : List ℕ) (i : ℕ) (vs : List ℕ) (j : ℕ) → (j < i) ⊎ (i + length vs ≤ j) → getD (sets l i vs) j 0 ≡ getD l j 0
-stored-other l i [] j h = refl
-stored-other l i (a ∷ vs) j h =
-    stored-other (set l i a) (suc i) vs j (⊎-elim (λ (b : j < i). inl (omega arith)) (λ (b : i + suc (length vs) ≤ j). inr (omega arith)) h)
-    ∙ getD-set-other l i j a 0 (λ e. ⊎-elim (λ (b : j < i). omega arith) (λ (b : i + suc (length vs) ≤ j). omega arith) h)
-
--- and these are the words stored
-pub stored-at : (l : List ℕ) (i : ℕ) (vs : List ℕ) (j : ℕ) → i + length vs ≤ length l → j < length vs → getD (sets l i vs) (i + j) 0 ≡ getD vs j 0
-stored-at l i [] j h b = absurd (omega arith)
-stored-at l i (a ∷ vs) zero h b =
-    let e : i + 0 ≡ i = omega arith in
-    ap (λ (x : ℕ). getD (sets l i (a ∷ vs)) x 0) e ∙ stored-other (set l i a) (suc i) vs i (inl (omega arith)) ∙ getD-set-same l i a 0 (omega arith)
-stored-at l i (a ∷ vs) (suc j) h b =
-    let e : i + suc j ≡ suc i + j = omega arith in
-    ap (λ (x : ℕ). getD (sets l i (a ∷ vs)) x 0) e ∙ stored-at (set l i a) (suc i) vs j (omega (arith, length-set l i a)) (omega arith)
+stored-other l i vs j h = ⊎-elim (sets-before l i vs j) (sets-behind l i vs j) h
 
 -- words that are these in the middle, and as they were elsewhere
 pub stored-by : (l : List ℕ) (i : ℕ) (vs W : List ℕ) → i + length vs ≤ length l → length W ≡ length l → ((j : ℕ) → j < length vs → getD W (i + j) 0 ≡ getD vs j 0)
@@ -40,7 +28,7 @@ stored-by l i vs W fit long there other = ext-getD 0 W (sets l i vs) (long ∙ s
     inside : (j : ℕ) → i ≤ j → j < i + length vs → getD W j 0 ≡ getD (sets l i vs) j 0
     inside j a b =
         let e : i + (j - i) ≡ j = omega arith in
-        subst (λ (x : ℕ). getD W x 0 ≡ getD (sets l i vs) x 0) e (there (j - i) (omega arith) ∙ sym (stored-at l i vs (j - i) fit (omega arith)))
+        subst (λ (x : ℕ). getD W x 0 ≡ getD (sets l i vs) x 0) e (there (j - i) (omega arith) ∙ sym (sets-at l i vs (j - i) fit (omega arith)))
 
     each : (j : ℕ) → getD W j 0 ≡ getD (sets l i vs) j 0
     each j = ⊎-elim (λ a. out j (inl a)) (λ a. ⊎-elim (inside j a) (λ b. out j (inr b)) (lt-or-le j (i + length vs))) (lt-or-le j i)
@@ -56,7 +44,7 @@ pub stored-slice : (l : List ℕ) (i n : ℕ) (vs : List ℕ) → length vs ≡ 
 stored-slice l i n vs e h =
     let s = length-slice i (i + n) (sets l i vs) (omega (arith, length-sets l i vs)) in
     ext-getD 0 (slice i (i + n) (sets l i vs)) vs (omega arith)
-    (λ j b. slice-at i (i + n) (sets l i vs) j (omega arith) ∙ stored-at l i vs j (omega arith) (omega arith))
+    (λ j b. slice-at i (i + n) (sets l i vs) j (omega arith) ∙ sets-at l i vs j (omega arith) (omega arith))
 
 -- stores in two places, in either order
 set-stored : (vs l : List ℕ) (i j a : ℕ) → i + length vs ≤ j → sets (set l j a) i vs ≡ set (sets l i vs) j a

@@ -1,12 +1,12 @@
 -- The calls on two lists, with lent buffers of 9s, so that what a call writes shows: what the tables speak of. Assumes nothing.
-use Prim.Native.Nat.{ℕ, suc, _*_}
+use Prim.Native.Nat.{ℕ, _*_}
 use mathlib.Core.List.{List}
 use lib.ListN.{replicate}
 use Rattle.spec.specs.Graph.{sizeOf}
 use Rattle.spec.specs.Ends.{Ends}
 use Rattle.spec.specs.Numbering.{PartReport, Figures}
 use Rattle.spec.specs.Lent.{Outcome, accepted}
-use Rattle.spec.specs.CallsLevels.{LevelFigures, CombinedFigures, rootedAnswer, endsAnswer, combinedAnswer, combinedLevels}
+use Rattle.spec.specs.CallsLevels.{LevelFigures, rootedAnswer, endsAnswer, combinedLevels}
 use Rattle.spec.specs.CallsNumbering.{MeasureFigures, measuresAnswer, reportAnswer, runAnswer, runNumbers, runLevels}
 use Rattle.spec.specs.CallsStore.{EliminationFigures, eliminationAnswer, eliminationBytes}
 

@@ -10,7 +10,7 @@ use lib.Dec.{ltb}
 use borrow.Author.Tests.{ltb-true}
 use Rattle.basis.proofs.Logic.{and-split}
 use Rattle.spec.specs.Claim.{depthOf, IsLevel, JoinedPlace, StoreClaim, Claim}
-use Rattle.spec.specs.CallsStore.{eliminationFigures, eliminationAnswer, eliminationBytes}
+use Rattle.spec.specs.CallsStore.{eliminationFigures, eliminationBytes}
 use Rattle.spec.specs.Graph.{Graph, graphOf, ofNode}
 use Rattle.spec.specs.Lent.{accepted, refused}
 use Rattle.spec.specs.Measures.{renumbered}

@@ -1,7 +1,7 @@
 -- The listing of a file, a call of our own that the program is made of: the file's bytes are given; words, starts, neighbours, scratch,
 -- numbers, levels and output are lent. Document 01's order of tests for the program, with 5 after 1.
 -- Assumes nothing.
-use Prim.Native.Nat.{ℕ, zero, suc, _+_, _*_}
+use Prim.Native.Nat.{ℕ, suc, _+_, _*_}
 use mathlib.Core.Bool.{Bool, cond, _||_}
 use mathlib.Core.List.{List}
 use lib.ListN.{length}

@@ -5,9 +5,10 @@ use mathlib.Core.List.{List, _++_}
 use native.Mathlib.Omega.{arith}
 use denote.Ref.{now}
 use lib.ListN.{length}
+use Rattle.basis.proofs.Lists.{length-none}
 use Rattle.laws.proofs.Lent.{zeroed-all}
 use Rattle.rows.proofs.Laying.{entries-all}
-use Rattle.rows.proofs.Rows.{zeros-empty, nothing}
+use Rattle.rows.proofs.Rows.{zeros-empty}
 use Rattle.rows.proofs.legal.count.Statement.{statement}
 use Rattle.rows.proofs.legal.count.Tie as tie
 
@@ -18,10 +19,10 @@ all-rows-requires c κs =
 
 -- nothing was written
 starts-kept : (c : tie.After-all-rows) → c .all-rows .last .1 .1 .1 .0 ++ now (c .before .before .before .before .before .before .before .before .before .args .starts) ≡ now (c .before .before .before .before .before .before .before .before .before .args .starts)
-starts-kept c = ap (λ (l : List ℕ). l ++ now (c .before .before .before .before .before .before .before .before .before .args .starts)) (nothing (c .all-rows .last .1 .1 .1 .0) (c .all-rows .kept .1 .1 .1 .0))
+starts-kept c = ap (λ (l : List ℕ). l ++ now (c .before .before .before .before .before .before .before .before .before .args .starts)) (length-none (c .all-rows .last .1 .1 .1 .0) (c .all-rows .kept .1 .1 .1 .0))
 
 neighbours-kept : (c : tie.After-all-rows) → c .all-rows .last .1 .1 .1 .1 .0 ++ now (c .before .before .before .before .before .before .before .before .before .args .neighbours) ≡ now (c .before .before .before .before .before .before .before .before .before .args .neighbours)
-neighbours-kept c = ap (λ (l : List ℕ). l ++ now (c .before .before .before .before .before .before .before .before .before .args .neighbours)) (nothing (c .all-rows .last .1 .1 .1 .1 .0) (c .all-rows .kept .1 .1 .1 .1 .0))
+neighbours-kept c = ap (λ (l : List ℕ). l ++ now (c .before .before .before .before .before .before .before .before .before .args .neighbours)) (length-none (c .all-rows .last .1 .1 .1 .1 .0) (c .all-rows .kept .1 .1 .1 .1 .0))
 
 returns : tie.Need-returns
 returns c =

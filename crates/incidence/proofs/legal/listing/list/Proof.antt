@@ -10,7 +10,8 @@ use Rattle.basis.specs.Lists.{memb}
 use Rattle.basis.proofs.Logic.{clash}
 use Rattle.spec.specs.Mesh.{nodeCount, elementsRefusal}
 use Rattle.incidence.specs.Cells.{Sound, Entered}
-use Rattle.incidence.proofs.Passes.{sound-of, zeroed-at, Listing, listing-begin, listing-step, listing-done}
+use Rattle.laws.proofs.Lent.{zeroed-at}
+use Rattle.incidence.proofs.Passes.{sound-of, Listing, listing-begin, listing-step, listing-done}
 use Rattle.incidence.proofs.legal.listing.list.Statement.{statement}
 use Rattle.incidence.proofs.legal.listing.list.Tie as tie
 
