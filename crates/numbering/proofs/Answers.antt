@@ -10,18 +10,18 @@ use lib.Dec.{ltb}
 use borrow.Author.Tests.{lt-ltb, le-ltb, ltb-false}
 use Rattle.basis.proofs.Logic.{or-none}
 use Rattle.spec.specs.CallsNumbering.{runRefusal, runAnswer, runNumbers, runLevels, runScratch}
+use Rattle.spec.specs.Claim.{Numbered}
 use Rattle.spec.specs.Graph.{graphOf, sizeOf}
 use Rattle.spec.specs.Lent.{Outcome, accepted, refused, zeroed}
 use Rattle.spec.specs.Numbering.{Figures, run}
 use Rattle.spec.specs.Refusal.{refuse}
-use Rattle.laws.proofs.Legal.{node-in}
+use Rattle.laws.proofs.Claim.{run-numbered}
 use Rattle.laws.proofs.Lent.{answer-refused, filled-refused, answer-accepted, filled-accepted, scratch-refused, scratch-accepted}
 use Rattle.laws.proofs.Numberings.{numbering-length}
-use Rattle.laws.proofs.RunLevels.{levels-length, run-occupied, run-width-most, run-width-met, run-one-level, run-edges}
-use Rattle.laws.proofs.Whole.{run-numbering, run-measured-bandwidth, run-measured-profile, run-measured-front}
+use Rattle.laws.proofs.RunLevels.{levels-length}
+use Rattle.laws.proofs.Whole.{run-numbering}
 use Rattle.graph.specs.Facts.{LegalLists, RefusedLists}
 use Rattle.graph.proofs.Answers.{refused-first, legal-next}
-use Rattle.numbering.specs.Numbered.{Numbered}
 
 -- ---- a short buffer
 
@@ -106,24 +106,7 @@ module _ (S N X L W : List ℕ) where
 
 -- ---- what a library above rests on
 
--- of the run's own figures, numbers and levels
-pub run-numbered : {S N : List ℕ} → LegalLists S N → Numbered S N (run (graphOf S N) .figures) (run (graphOf S N) .numbers) (run (graphOf S N) .levels)
-run-numbered {S} {N} A =
-    let G = A .graph in
-    record {
-      numbering = run-numbering G;
-      bandwidth-is = run-measured-bandwidth G;
-      profile-is = run-measured-profile G;
-      front-is = run-measured-front G;
-      full = levels-length G;
-      occupied = λ z i l. run-occupied G z (l .leads) i l;
-      one-level = λ x m. run-one-level G x (node-in (graphOf S N) x m);
-      edges = run-edges G;
-      width-most = run-width-most G;
-      width-met = run-width-met G (A .starts .some);
-    }
-
--- and of the first n words of the two lists that it leaves
+-- the first n words of the two lists that it leaves are as the run's own numbers and levels
 pub left-numbered : {S N Y M : List ℕ} (X L : List ℕ) → LegalLists S N → Y ≡ run (graphOf S N) .numbers → M ≡ run (graphOf S N) .levels
     → (F F′ : Figures) → F′ ≡ run (graphOf S N) .figures → _≡_ {A = Outcome Figures} (accepted F′) (accepted F)
     → Numbered S N F (take (sizeOf S) (Y ++ drop (sizeOf S) X)) (take (sizeOf S) (M ++ drop (sizeOf S) L))
@@ -134,7 +117,7 @@ left-numbered {S} {N} {Y} {M} X L A y l F F′ f e =
     take-at Y (drop (sizeOf S) X) (sizeOf S) (ap length y ∙ numbering-length (sizeOf S) (run (graphOf S N) .numbers) (run-numbering G)) ∙ y in
     let l′ : take (sizeOf S) (M ++ drop (sizeOf S) L) ≡ run (graphOf S N) .levels =
     take-at M (drop (sizeOf S) L) (sizeOf S) (ap length l ∙ levels-length G) ∙ l in
-    rw (f′, y′, l′) (run-numbered A)
+    rw (f′, y′, l′) (run-numbered S N (A .refusal))
   where
     taken : (a b : Figures) → _≡_ {A = Outcome Figures} (accepted a) (accepted b) → a ≡ b
     taken a b e = cc

@@ -7,12 +7,12 @@ ghost use mathlib.Core.Bool.{_||_};
 ghost use Prim.Native.Nat.{_*_, _≤_};
 ghost use lib.Dec.{ltb};
 ghost use lib.ListN.{take};
+ghost use Rattle.spec.specs.Claim.{Numbered};
 ghost use Rattle.spec.specs.CallsNumbering.{runAnswer, runNumbers, runLevels, runScratch};
 ghost use Rattle.spec.specs.Graph.{sizeOf};
 ghost use Rattle.spec.specs.Lent.{accepted, wordsPerNode};
 ghost use Rattle.spec.specs.Numbering.{Figures};
 ghost use Rattle.numbering.specs.Answer.{meaning};
-ghost use Rattle.numbering.specs.Numbered.{Numbered};
 use answer::RunAnswer;
 use graph::Adjacency;
 

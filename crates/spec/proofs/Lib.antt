@@ -3,3 +3,5 @@ pub mod Called
 pub mod Bracket
 pub mod Examples
 pub mod Wrong
+pub mod WrongStore
+pub mod WrongCalls

@@ -1,20 +1,22 @@
--- THE CLAIM: the request's demand 3, sentence by sentence, of what one whole run reported. `laws` proves it of every adjacency that the whole
--- run accepts (`claim`). Under a field stands the wrong program that it rules out.
+-- THE CLAIM: the request's demand 3, sentence by sentence, of what one whole run and the elimination after it reported. It has two halves:
+-- `Numbered`, the numbers and levels that the run ensures, and `StoreClaim`, the store of any numbering. `laws` proves it of every adjacency that
+-- the whole run accepts (`claim`). Under a field stands the wrong program that it rules out; proofs/Wrong refutes one by each field.
 -- Assumes nothing.
 use Prim.Native.Nat.{ℕ, _+_, _*_, _-_, _/_, _≤_, _<_}
 use mathlib.Core.Bool.{true}
 use mathlib.Core.List.{List}
 use mathlib.Core.Logic.{_↔_}
 use mathlib.Core.Path.{_≡_}
+use lib.ListN.{length, take}
 use lib.Dec.{eqb}
 use Rattle.basis.specs.Lists.{countb, memb}
 use Rattle.spec.specs.Refusal.{refuse, _orElse_}
-use Rattle.spec.specs.Graph.{Graph, nodes, adjoins, ofNode, sizeOf, graphOf}
+use Rattle.spec.specs.Graph.{Graph, nodes, adjoins, ofNode, sizeOf, graphOf, graphRefusal}
 use Rattle.spec.specs.Levels.{part, leaders, Neighbouring}
-use Rattle.spec.specs.Measures.{isNumbering, renumbered, bandwidth, profile}
+use Rattle.spec.specs.Measures.{isNumbering, renumbered, bandwidth, profile, front}
 use Rattle.spec.specs.Numbering.{Figures, partResult, run}
 use Rattle.spec.specs.Store.{Pair, hasPlace, place, joinedAfter, joined, markAt}
-use Rattle.spec.specs.Lent.{outcome, accepted, short}
+use Rattle.spec.specs.Lent.{Outcome, outcome, accepted, short}
 use Rattle.spec.specs.CallsStore.{EliminationFigures, eliminationFigures, eliminationAnswer, eliminationBytes}
 
 -- ---- what the sentences speak of
@@ -88,24 +90,33 @@ pub record StoreClaim (S N X : List ℕ) (size : ℕ) : Type 0 where
   pub marks : (C B : List ℕ) (e : EliminationFigures) → eliminationAnswer S N X C B ≡ accepted e → (t : ℕ) → t < 8 * ((size + 7) / 8)
       → (markAt (eliminationBytes S N X C B) t ≡ 1) ↔ JoinedPlace (renumbered (graphOf S N) X) t
 
--- ---- the claim: S and N are the two lists, F the reported figures, X and L the first n words of numbers and levels as the run leaves them
+-- ---- the numbering: S and N are the two lists, F the reported figures, X and L the first n words of numbers and levels as the run leaves them.
+-- This is what the store rests on: "the numbering crate's stated permutation and levels".
 
-pub record Claim (S N : List ℕ) (F : Figures) (X L : List ℕ) : Type 0 where
+pub record Numbered (S N : List ℕ) (F : Figures) (X L : List ℕ) : Type 0 where
+  -- what the run accepts is a legal adjacency: none of 1 to 4 is due
+  -- rules out: a run that numbers broken lists
+  pub legal : graphRefusal S N ≡ 0
   -- "The levels, their greatest width w, the new numbers, the bandwidth and the profile that it reports are those document 01 defines."
   -- rules out: levels all equal to 1, old numbers handed straight back, an invented figure
   pub figures : F ≡ run (graphOf S N) .figures
   pub levels : L ≡ run (graphOf S N) .levels
   pub numbers : X ≡ run (graphOf S N) .numbers
+  -- a level for each node
+  pub full : length L ≡ sizeOf S
   -- the levels are those of each part, "as they stand after any change of names"
   pub level-is : (z x : ℕ) → memb z (leaders (graphOf S N)) ≡ true → memb x (part (graphOf S N) z) ≡ true
       → ofNode L x ≡ ofNode (partResult (graphOf S N) z .levels) x
   -- w "is the greatest level count of any part": no level has more, and one has as many
   pub width-most : (z i : ℕ) → IsLevel (graphOf S N) z i → countIn (graphOf S N) L z i ≤ F .width
   pub width-met : (z : ℕ) × (i : ℕ) × IsLevel (graphOf S N) z i × (countIn (graphOf S N) L z i ≡ F .width)
+  -- each of 1..n once
   -- rules out: zeroed buffers; a run that numbers the first part and copies the rest
   pub numbering : isNumbering (sizeOf S) X ≡ true
+  -- the figures are the measures of just these numbers
   pub bandwidth-is : F .bandwidth ≡ bandwidth (renumbered (graphOf S N) X)
   pub profile-is : F .profile ≡ profile (renumbered (graphOf S N) X)
+  pub front-is : F .front ≡ front (renumbered (graphOf S N) X)
   -- "In each part every level holds a node,"
   -- rules out: a depth that counts one level too far
   pub occupied : (z i : ℕ) → IsLevel (graphOf S N) z i → (x : ℕ) × StandsIn (graphOf S N) L z i x
@@ -119,5 +130,25 @@ pub record Claim (S N : List ℕ) (F : Figures) (X L : List ℕ) : Type 0 where
   -- "The reported bandwidth is at most 2w − 1."
   -- rules out: an order that does not go level by level
   pub band : F .bandwidth ≤ 2 * F .width - 1
-  -- the sentences on the store, the eliminations and the elimination call
+
+-- ---- the claim: the same S, N, F, X and L
+
+pub record Claim (S N : List ℕ) (F : Figures) (X L : List ℕ) : Type 0 where
+  -- the sentences on levels, numbers and figures
+  pub numbered : Numbered S N F X L
+  -- the sentences on the store, the eliminations and the elimination call: "a store of exactly the reported profile"
   pub store : StoreClaim S N X (F .profile)
+
+-- ---- the two calls, the run and then the elimination: F is what the run answered, X and L its numbers and levels at exit; scratch C and mark
+-- bytes B are lent to the elimination, E is what it answered and B′ its bytes at exit. "The numbers handed on are the run's n, without the excess
+-- of a longer buffer, and nobody writes them or the two lists between the calls."
+
+pub record Claimed (S N : List ℕ) (F : Figures) (X L C B : List ℕ) (E : Outcome EliminationFigures) (B′ : List ℕ) : Type 0 where
+  -- rules out: a run of which another run's figures are reported
+  pub claim : Claim S N F (take (sizeOf S) X) (take (sizeOf S) L)
+  -- the elimination's answer is that for just these numbers
+  -- rules out: an elimination handed the old numbers
+  pub elimination : E ≡ eliminationAnswer S N (take (sizeOf S) X) C B
+  -- and so are its bytes
+  -- rules out: marks that another numbering has
+  pub bytes : B′ ≡ eliminationBytes S N (take (sizeOf S) X) C B
