@@ -2,4 +2,5 @@ pub mod Degrees
 pub mod Counts
 pub mod Lent
 pub mod Answers
+pub mod TwoCalls
 pub mod Runs

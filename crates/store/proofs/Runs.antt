@@ -11,10 +11,11 @@ use Rattle.basis.proofs.Logic.{or-none}
 use Rattle.spec.specs.CallsLevels.{partScratch}
 use Rattle.spec.specs.CallsNumbering.{runRefusal, runAnswer, runNumbers, runLevels, runScratch}
 use Rattle.spec.specs.CallsStore.{RunElimination, EliminationFigures, eliminationAnswer, eliminationScratch, eliminationBytes, handedNumbers, handedScratch, runEliminateAnswer, runEliminateBytes}
+use Rattle.spec.specs.Claim.{Numbered as RunNumbered, Claimed}
 use Rattle.spec.specs.Graph.{sizeOf, graphOf, graphRefusal}
 use Rattle.spec.specs.Lent.{Outcome, accepted, refused, outcome, scratchAfter, wordsPerNode, short}
 use Rattle.spec.specs.Numbering.{Figures, run}
-use Rattle.laws.proofs.Claim.{claim, run-legal}
+use Rattle.laws.proofs.Claim.{run-legal}
 use Rattle.laws.proofs.Lent.{outcome-accepted, outcome-refused, zeroed-is, zeroed-all}
 use Rattle.laws.proofs.Refused.{or-else-zero, refuse-zero, passed, starts-of}
 use Rattle.numbering.specs.Answer.{eight, meaning as runMeaning}
@@ -22,8 +23,8 @@ use Rattle.numbering.specs.declared.answer.RunFigures.{RunFigures}
 use Rattle.numbering.specs.declared.answer.RunAnswer.{RunAnswer}
 use Rattle.numbering.specs.declared.answer.RunAnswer.the-variants.{Refused, Numbered}
 use Rattle.store.specs.Answer.{meaning}
-use Rattle.store.specs.Claimed.{Claimed}
 use Rattle.store.specs.declared.answer.Elimination.{Elimination}
+use Rattle.store.proofs.TwoCalls.{two-calls}
 
 -- what is refused is not accepted
 refused-not : {A : Type 0} (c : ℕ) (a : A) → refused c ≡ accepted a → ⊥
@@ -72,12 +73,12 @@ module _ (S N X L W : List ℕ) {r : RunAnswer} (e : runMeaning r ≡ runAnswer 
       (ltb-false (length X) (sizeOf S) (t .0), ltb-false (length L) (sizeOf S) (t .1), omega arith)
 
 -- numbers X, levels L, scratch W and mark bytes B are lent; X′, L′ and W′ are what the run leaves
-module _ (S N X L W B X′ L′ W′ : List ℕ) (numbers-are : X′ ≡ runNumbers S N X L W) (levels-are : L′ ≡ runLevels S N X L W) (scratch-is : W′ ≡ runScratch S N X L W) where
+module _ (S N X L W B X′ L′ W′ : List ℕ) (numbers-are : X′ ≡ runNumbers S N X L W) (scratch-is : W′ ≡ runScratch S N X L W) where
   -- the answer, the mark bytes at exit, and the claim
   pub record Answered (A : Outcome RunElimination) (B′ : List ℕ) : Type 0 where
     pub answer : A ≡ runEliminateAnswer S N X L W B
     pub bytes : B′ ≡ runEliminateBytes S N X L W B
-    pub claimed : Claimed S N A X′ L′ (handedScratch S N X L W) B B′
+    pub claimed : (e : RunElimination) → A ≡ accepted e → Claimed S N (e .figures) X′ L′ (handedScratch S N X L W) B (e .elimination) B′
 
   -- ---- the run is refused
 
@@ -102,11 +103,7 @@ module _ (S N X L W B X′ L′ W′ : List ℕ) (numbers-are : X′ ≡ runNumb
     run-refused = record {
       answer = refused-answer;
       bytes = refused-bytes;
-      claimed = record {
-        claim = λ a d. absurd (refused-not c a d);
-        elimination = λ a d. absurd (refused-not c a d);
-        bytes = λ a d. absurd (refused-not c a d);
-      };
+      claimed = λ a d. absurd (refused-not c a d);
     }
 
   -- ---- the run is accepted
@@ -144,14 +141,12 @@ module _ (S N X L W B X′ L′ W′ : List ℕ) (numbers-are : X′ ≡ runNumb
     unfolding runEliminateBytes handedNumbers handedScratch
     passed-bytes = rw (numbers-are, scratch-is, none S N X L W e h .0)
 
-    pub run-passed : {A : Outcome RunElimination} {B′ : List ℕ} → A ≡ accepted both → B′ ≡ eliminationBytes S N (take (sizeOf S) X′) scratch B → Answered A B′
+    -- the claim comes from what the run ensures of its numbers and levels
+    pub run-passed : {A : Outcome RunElimination} {B′ : List ℕ} → ((F : Figures) → runMeaning r ≡ accepted F → RunNumbered S N F (take (sizeOf S) X′) (take (sizeOf S) L′))
+        → A ≡ accepted both → B′ ≡ eliminationBytes S N (take (sizeOf S) X′) scratch B → Answered A B′
     unfolding handedScratch
-    run-passed a b = record {
+    run-passed ran a b = record {
       answer = a ∙ passed-answer;
       bytes = b ∙ passed-bytes;
-      claimed = record {
-        claim = λ x d. rw (is-both x (sym a ∙ d), numbers-are, levels-are) (claim S N X L W (eight f) (accepts S N X L W e h));
-        elimination = λ x d. rw (is-both x (sym a ∙ d), scratch-is);
-        bytes = λ x d. rw (← scratch-is) b;
-      };
+      claimed = λ x d. rw (is-both x (sym a ∙ d), ← scratch-is) (two-calls ran refl b (eight f) (ap runMeaning h));
     }

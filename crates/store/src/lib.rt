@@ -2,11 +2,11 @@
 // contract has demand 3.
 ghost use mathlib.Core.Path.{_≡_};
 ghost use Rattle.spec.specs.CallsNumbering.{runNumbers, runLevels, runScratch};
-ghost use Rattle.spec.specs.CallsStore.{eliminationAnswer, eliminationScratch, eliminationBytes, handedScratch, runEliminateAnswer, runEliminateBytes};
+ghost use Rattle.spec.specs.CallsStore.{RunElimination as RunEliminated, eliminationAnswer, eliminationScratch, eliminationBytes, handedScratch, runEliminateAnswer, runEliminateBytes};
+ghost use Rattle.spec.specs.Claim.{Claimed};
 ghost use Rattle.spec.specs.Lent.{accepted};
 ghost use Rattle.numbering.specs.Answer.{eight};
 ghost use Rattle.store.specs.Answer.{meaning, runMeaning};
-ghost use Rattle.store.specs.Claimed.{Claimed};
 
 mod answer;
 mod legal;
@@ -81,7 +81,7 @@ pub fn run_eliminate(
     ensures { λ _. ⌜ now (levels .exit) ≡ runLevels (now (starts .entry)) (now (neighbours .entry)) (now (numbers .entry)) (now (levels .entry)) (now (scratch .entry)) ⌝ }
     ensures { λ _. ⌜ now (scratch .exit) ≡ runScratch (now (starts .entry)) (now (neighbours .entry)) (now (numbers .entry)) (now (levels .entry)) (now (scratch .entry)) ⌝ }
     ensures { λ _. ⌜ now (bytes .exit) ≡ runEliminateBytes (now (starts .entry)) (now (neighbours .entry)) (now (numbers .entry)) (now (levels .entry)) (now (scratch .entry)) (now (bytes .entry)) ⌝ }
-    ensures { λ r. ⌜ Claimed (now (starts .entry)) (now (neighbours .entry)) (runMeaning r) (now (numbers .exit)) (now (levels .exit)) (handedScratch (now (starts .entry)) (now (neighbours .entry)) (now (numbers .entry)) (now (levels .entry)) (now (scratch .entry))) (now (bytes .entry)) (now (bytes .exit)) ⌝ }
+    ensures { λ r. ⌜ ((e : RunEliminated) → runMeaning r ≡ accepted e → Claimed (now (starts .entry)) (now (neighbours .entry)) (e .figures) (now (numbers .exit)) (now (levels .exit)) (handedScratch (now (starts .entry)) (now (neighbours .entry)) (now (numbers .entry)) (now (levels .entry)) (now (scratch .entry))) (now (bytes .entry)) (e .elimination) (now (bytes .exit))) ⌝ }
 {
     match numbering::run(starts, neighbours, numbers, levels, scratch) {
         RunAnswer::Refused(c) => RunElimination::Refused(c),

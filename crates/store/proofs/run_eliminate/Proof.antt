@@ -82,7 +82,7 @@ returns c =
     let a = c .before .before .before .before .before .before .before .before .before .before .before .before .before .before .before .before .before .before .before .args in
     let v = c .before .before .before .before .before .before .before .before .before .run in
     let q = v .ensures .1 in
-    let R = run-refused (now (a .starts)) (now (a .neighbours)) (now (a .numbers)) (now (a .levels)) (now (a .scratch)) (now (a .bytes)) _ _ _ (q .0) (q .1 .0) (q .1 .1 .0) (v .ensures .0) (c .before .c .given .1) in
+    let R = run-refused (now (a .starts)) (now (a .neighbours)) (now (a .numbers)) (now (a .levels)) (now (a .scratch)) (now (a .bytes)) _ _ _ (q .0) (q .1 .1 .0) (v .ensures .0) (c .before .c .given .1) in
     (R .answer, (q .0, (q .1 .0, (q .1 .1 .0, (R .bytes, R .claimed)))))
 
 -- src/lib.rt:71:1
@@ -109,8 +109,8 @@ returns-2 c =
     let q = v .ensures .1 in
     let w = c .before .before .before .before .eliminate-after .ensures in
     let h = c .before .before .before .before .before .before .before .before .before .figures .given .1 in
-    let R = run-passed (now (a .starts)) (now (a .neighbours)) (now (a .numbers)) (now (a .levels)) (now (a .scratch)) (now (a .bytes)) _ _ _ (q .0) (q .1 .0) (q .1 .1 .0) (v .ensures .0) h (w .0) (w .1 .1) in
-    let C = scratch-stays (now (a .starts)) (now (a .neighbours)) (now (a .numbers)) (now (a .levels)) (now (a .scratch)) (now (a .bytes)) _ _ _ (q .0) (q .1 .0) (q .1 .1 .0) (v .ensures .0) h (w .1 .0) in
+    let R = run-passed (now (a .starts)) (now (a .neighbours)) (now (a .numbers)) (now (a .levels)) (now (a .scratch)) (now (a .bytes)) _ _ _ (q .0) (q .1 .1 .0) (v .ensures .0) h (q .1 .1 .1) (w .0) (w .1 .1) in
+    let C = scratch-stays (now (a .starts)) (now (a .neighbours)) (now (a .numbers)) (now (a .levels)) (now (a .scratch)) (now (a .bytes)) _ (now (a .levels)) _ (q .0) (q .1 .1 .0) (v .ensures .0) h (w .1 .0) in
     (R .answer, (q .0, (q .1 .0, (C, (R .bytes, R .claimed)))))
 
 pub run-eliminate-spec : {M : Type 1} → statement M

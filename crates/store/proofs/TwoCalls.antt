@@ -1,0 +1,22 @@
+-- DEMAND 3 of the run and the elimination made one after the other, as document 01 words it: "The numbers handed on are the run's n, .. and nobody
+-- writes them or the two lists between the calls." The premises are just what the two contracts ensure: the run's record of its own answer and
+-- buffers, and the elimination's answer and bytes for the same two lists and the run's n numbers. Assumes nothing.
+use mathlib.Core.Path.{_≡_}
+use mathlib.Core.List.{List}
+use Prim.Native.Nat.{ℕ}
+use lib.ListN.{take}
+use Rattle.spec.specs.CallsStore.{EliminationFigures, eliminationAnswer, eliminationBytes}
+use Rattle.spec.specs.Claim.{Numbered, Claimed}
+use Rattle.spec.specs.Graph.{sizeOf}
+use Rattle.spec.specs.Lent.{Outcome, accepted}
+use Rattle.spec.specs.Numbering.{Figures}
+use Rattle.laws.proofs.Claim.{numbered-claim}
+
+-- A is the meaning of what `numbering::run` answered, X and L are what it left; E is the meaning of what `store::eliminate` answered, lent C and
+-- B, and B′ is what it left
+pub two-calls : {S N X L C B B′ : List ℕ} {A : Outcome Figures} {E : Outcome EliminationFigures}
+    → ((F : Figures) → A ≡ accepted F → Numbered S N F (take (sizeOf S) X) (take (sizeOf S) L))
+    → E ≡ eliminationAnswer S N (take (sizeOf S) X) C B
+    → B′ ≡ eliminationBytes S N (take (sizeOf S) X) C B
+    → (F : Figures) → A ≡ accepted F → Claimed S N F X L C B E B′
+two-calls ran answered marked F e = record { claim = numbered-claim (ran F e); elimination = answered; bytes = marked }
