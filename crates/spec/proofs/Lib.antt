@@ -1,5 +1,6 @@
 pub mod Compute
 pub mod Called
+pub mod ElementKinds
 pub mod Bracket
 pub mod Examples
 pub mod Wrong
