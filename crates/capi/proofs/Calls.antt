@@ -1,14 +1,13 @@
--- The three ways that a call of the C interface ends: its list of figures is short, it is refused, it is accepted. Assumes nothing.
-use mathlib.Core.Path.{_≡_, refl, sym, ap, ap₂, _∙_}
+-- The two ways that a call of the C interface ends: its list of figures is short, or what the library answers is put into it. Assumes nothing.
+use mathlib.Core.Path.{_≡_, refl, _∙_}
 use mathlib.Core.Bool.{true, false}
-use mathlib.Core.List.{List, [], _∷_}
+use mathlib.Core.List.{List}
 use Prim.Native.Nat.{ℕ, zero, suc, _≤_, _<_}
 use lib.ListN.{length}
 use borrow.Author.Tests.{lt-ltb, le-ltb}
-use Rattle.basis.specs.Lists.{overwrite}
 use Rattle.spec.specs.Refusal.{_orElse_}
-use Rattle.spec.specs.Lent.{Outcome, accepted, refused, outcome, short}
-use Rattle.capi.specs.Figures.{number, written, answerC, lentC, figuresC}
+use Rattle.spec.specs.Lent.{Outcome, outcome, short}
+use Rattle.capi_figures.specs.Figures.{number, written, answerC, lentC, figuresC}
 
 -- ---- the answer and the list of figures
 
@@ -22,17 +21,9 @@ module _ {A : Type 0} (k first : ℕ) (F : List ℕ) (figures : A → List ℕ) 
   unfolding answerC figuresC
   ended-short h e = let s : short F k ≡ true = lt-ltb (length F) k h in record { answer = rw (s, e); list = rw s }
 
-  pub ended-refused : {c : ℕ} → k ≤ length F → refused c ≡ o → Ended c F
-  unfolding answerC figuresC number written
-  ended-refused h e = let s : short F k ≡ false = le-ltb (length F) k h in record { answer = rw (s, ← e); list = rw (s, ← e) }
-
-  pub ended-accepted : {a : A} {X : List ℕ} → k ≤ length F → accepted a ≡ o → X ≡ overwrite (figures a) F → Ended 0 X
-  unfolding answerC figuresC number written
-  ended-accepted h e x = let s : short F k ≡ false = le-ltb (length F) k h in record { answer = rw (s, ← e); list = x ∙ rw (s, ← e) }
-
--- the meaning of an answer, once its variant is known
-pub heard : {A R : Type 0} (meaning : R → Outcome A) (o : Outcome A) {r variant : R} → meaning r ≡ o → r ≡ variant → meaning variant ≡ o
-heard meaning o e v = ap meaning (sym v) ∙ e
+  pub ended-long : {m : Outcome A} {r : ℕ} {X : List ℕ} → k ≤ length F → m ≡ o → r ≡ number m → X ≡ written figures m F → Ended r X
+  unfolding answerC figuresC
+  ended-long h e n x = let s : short F k ≡ false = le-ltb (length F) k h in record { answer = n ∙ rw (s, e); list = x ∙ rw (s, e) }
 
 -- the number of an outcome is that of the refusal that made it
 pub number-outcome : {A : Type 0} (c : ℕ) (a : A) → c ≡ number (outcome c a)
@@ -50,11 +41,3 @@ module _ (k : ℕ) (F before after : List ℕ) where
   pub lent-long : {X : List ℕ} → k ≤ length F → X ≡ after → X ≡ lentC k F before after
   unfolding lentC
   lent-long h x = let s : short F k ≡ false = le-ltb (length F) k h in x ∙ rw s
-
--- ---- a list of figures, figure by figure
-
-pub next : {x y : ℕ} {xs ys : List ℕ} → x ≡ y → xs ≡ ys → x ∷ xs ≡ y ∷ ys
-next e f = ap₂ (λ (a : ℕ) (l : List ℕ). a ∷ l) e f
-
-pub end : _≡_ {A = List ℕ} [] []
-end = refl

@@ -2,14 +2,12 @@
 ghost use mathlib.Core.Path.{_≡_};
 ghost use Rattle.spec.specs.CallsLevels.{adjacencyAnswer, rootedAnswer, rootedLevels, endsAnswer, endsScratch, combinedAnswer, combinedLevels, combinedScratch};
 ghost use Rattle.spec.specs.Graph.{graphRefusal};
-ghost use Rattle.capi.specs.Figures.{number, answerC, lentC, figuresC, rootedList, endsList, combinedList};
-use crate::figures::lists_refusal;
-use crate::figures::or_five;
-use crate::figures::put;
-use crate::figures::word;
-use levels::answer::CombinedAnswer;
-use levels::answer::EndsAnswer;
-use levels::answer::RootedAnswer;
+ghost use Rattle.capi_figures.specs.Figures.{number, answerC, lentC, figuresC, rootedList, endsList, combinedList};
+use crate::lists::lists_refusal;
+use capi_figures::legal::put_combined;
+use capi_figures::legal::put_ends;
+use capi_figures::legal::put_rooted;
+use capi_figures::or_five;
 
 // Whether the two lists are a legal graph. No figures.
 #[no_mangle]
@@ -35,17 +33,10 @@ pub extern "C" fn wagonepoch_rooted_levels(
     if figures.len() < 3 {
         return or_five(lists_refusal(starts, neighbours));
     }
-    match levels::rooted_levels(starts, neighbours, root, levels) {
-        RootedAnswer::Refused(c) => c,
-        RootedAnswer::Levels {
-            depth,
-            width,
-            reached,
-        } => {
-            put(figures, &[word(depth), word(width), word(reached)]);
-            0
-        }
-    }
+    put_rooted(
+        levels::rooted_levels(starts, neighbours, root, levels),
+        figures,
+    )
 }
 
 // The ends of a part. Figures: v, u, k, the width at v, the width at u, passes.
@@ -64,30 +55,7 @@ pub extern "C" fn wagonepoch_ends(
     if figures.len() < 6 {
         return or_five(lists_refusal(starts, neighbours));
     }
-    match levels::ends(starts, neighbours, node, scratch) {
-        EndsAnswer::Refused(c) => c,
-        EndsAnswer::Ends {
-            v,
-            u,
-            k,
-            widthv,
-            widthu,
-            passes,
-        } => {
-            put(
-                figures,
-                &[
-                    word(v),
-                    word(u),
-                    word(k),
-                    word(widthv),
-                    word(widthu),
-                    word(passes),
-                ],
-            );
-            0
-        }
-    }
+    put_ends(levels::ends(starts, neighbours, node, scratch), figures)
 }
 
 // The combined levels of a part. Figures: k, the greatest level count.
@@ -108,11 +76,8 @@ pub extern "C" fn wagonepoch_combined_levels(
     if figures.len() < 2 {
         return or_five(lists_refusal(starts, neighbours));
     }
-    match levels::combined_levels(starts, neighbours, node, levels, scratch) {
-        CombinedAnswer::Refused(c) => c,
-        CombinedAnswer::Levels { k, width } => {
-            put(figures, &[word(k), word(width)]);
-            0
-        }
-    }
+    put_combined(
+        levels::combined_levels(starts, neighbours, node, levels, scratch),
+        figures,
+    )
 }

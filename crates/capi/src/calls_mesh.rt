@@ -3,11 +3,9 @@ ghost use mathlib.Core.Path.{_≡_};
 ghost use Rattle.spec.specs.CallsMesh.{meshAnswer, meshStarts, meshNeighbours, meshScratch};
 ghost use Rattle.spec.specs.Graph.{badSize};
 ghost use Rattle.spec.specs.Refusal.{refuse};
-ghost use Rattle.capi.specs.Figures.{answerC, lentC, figuresC, meshList};
-use crate::figures::count;
-use crate::figures::or_five;
-use crate::figures::put;
-use mesh::Entries;
+ghost use Rattle.capi_figures.specs.Figures.{answerC, lentC, figuresC, meshList};
+use capi_figures::legal::put_entries;
+use capi_figures::or_five;
 
 // 1: n is 0 or over 4,096; else 0.
 fn size_refusal(n: usize) -> u16
@@ -41,11 +39,8 @@ pub extern "C" fn wagonepoch_mesh(
     if figures.len() < 1 {
         return or_five(size_refusal(n));
     }
-    match mesh::mesh_lists(n, elements, starts, neighbours, scratch) {
-        Entries::Refused(c) => c,
-        Entries::Accepted(entries) => {
-            put(figures, &[count(entries)]);
-            0
-        }
-    }
+    put_entries(
+        mesh::mesh_lists(n, elements, starts, neighbours, scratch),
+        figures,
+    )
 }

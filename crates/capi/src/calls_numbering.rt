@@ -2,17 +2,12 @@
 ghost use mathlib.Core.Path.{_≡_};
 ghost use Rattle.spec.specs.CallsNumbering.{measuresAnswer, measuresScratch, reportAnswer, reportScratch, runAnswer, runNumbers, runLevels, runScratch};
 ghost use Rattle.spec.specs.Graph.{graphRefusal};
-ghost use Rattle.report.specs.Answers.{directionMeaning};
-ghost use Rattle.capi.specs.Figures.{answerC, lentC, figuresC, measuresList, directionNumber, reportList, runList};
-use crate::figures::count;
-use crate::figures::lists_refusal;
-use crate::figures::or_five;
-use crate::figures::put;
-use crate::figures::word;
-use measures::MeasuresAnswer;
-use numbering::answer::RunAnswer;
-use report::answer::Direction;
-use report::answer::ReportAnswer;
+ghost use Rattle.capi_figures.specs.Figures.{answerC, lentC, figuresC, measuresList, reportList, runList};
+use crate::lists::lists_refusal;
+use capi_figures::legal::put_measures;
+use capi_figures::legal::put_report;
+use capi_figures::legal::put_run;
+use capi_figures::or_five;
 
 // The measures of a graph under a numbering. Figures: bandwidth, profile, front.
 #[no_mangle]
@@ -30,26 +25,10 @@ pub extern "C" fn wagonepoch_measures(
     if figures.len() < 3 {
         return or_five(lists_refusal(starts, neighbours));
     }
-    match measures::measures(starts, neighbours, numbering, scratch) {
-        MeasuresAnswer::Refused(c) => c,
-        MeasuresAnswer::Accepted(m) => {
-            put(
-                figures,
-                &[count(m.bandwidth), count(m.profile), count(m.front)],
-            );
-            0
-        }
-    }
-}
-
-// A direction as a figure: 0 Forward, 1 Reversed.
-fn direction(d: Direction) -> u64
-    ensures { λ r. ⌜ r ≡ directionNumber (directionMeaning d) ⌝ }
-{
-    match d {
-        Direction::Forward => 0,
-        Direction::Reversed => 1,
-    }
+    put_measures(
+        measures::measures(starts, neighbours, numbering, scratch),
+        figures,
+    )
 }
 
 // The report of a part. Figures: v and u as now named, k, width, passes, direction.
@@ -68,24 +47,10 @@ pub extern "C" fn wagonepoch_part_report(
     if figures.len() < 6 {
         return or_five(lists_refusal(starts, neighbours));
     }
-    match report::part_report(starts, neighbours, node, scratch) {
-        ReportAnswer::Refused(c) => c,
-        ReportAnswer::Report(r) => {
-            let d = r.direction;
-            put(
-                figures,
-                &[
-                    word(r.v),
-                    word(r.u),
-                    word(r.k),
-                    word(r.width),
-                    word(r.passes),
-                    direction(d),
-                ],
-            );
-            0
-        }
-    }
+    put_report(
+        report::part_report(starts, neighbours, node, scratch),
+        figures,
+    )
 }
 
 // The whole run. Figures: nodes, parts, bandwidth, profile, front, levels, width, passes.
@@ -107,23 +72,8 @@ pub extern "C" fn wagonepoch_run(
     if figures.len() < 8 {
         return or_five(lists_refusal(starts, neighbours));
     }
-    match numbering::run(starts, neighbours, numbers, levels, scratch) {
-        RunAnswer::Refused(c) => c,
-        RunAnswer::Numbered(f) => {
-            put(
-                figures,
-                &[
-                    word(f.nodes),
-                    word(f.parts),
-                    count(f.bandwidth),
-                    count(f.profile),
-                    count(f.front),
-                    count(f.levels),
-                    word(f.width),
-                    count(f.passes),
-                ],
-            );
-            0
-        }
-    }
+    put_run(
+        numbering::run(starts, neighbours, numbers, levels, scratch),
+        figures,
+    )
 }

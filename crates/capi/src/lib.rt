@@ -1,8 +1,7 @@
 // The C interface: every entry point over plain numbers and slices, a slice being a pointer and a length. Each call answers 0 or the number of
 // a refusal, and an accepted call writes its figures into a lent list of 64-bit words. Nothing is required of the numbers and the lists.
 mod calls_levels;
-mod calls_listing;
 mod calls_mesh;
 mod calls_numbering;
 mod calls_store;
-mod figures;
+mod lists;

@@ -4,14 +4,12 @@ use mathlib.Core.List.{List}
 use Prim.Native.Nat.{ℕ}
 use borrow.Author.Needs.{needs}
 use denote.Ref.{now}
-use Rattle.basis.specs.Lists.{overwrite}
 use Rattle.spec.specs.CallsMesh.{meshAnswer, meshStarts, meshNeighbours, meshScratch}
 use Rattle.spec.specs.Graph.{badSize}
 use Rattle.spec.specs.Lent.{Outcome}
 use Rattle.spec.specs.Refusal.{refuse, _orElse_}
-use Rattle.mesh.specs.Answer.{meaning}
-use Rattle.capi.specs.Figures.{meshList}
-use Rattle.capi.proofs.Calls.{ended-short, ended-refused, ended-accepted, heard, lent-short, lent-long, next, end}
+use Rattle.capi_figures.specs.Figures.{meshList}
+use Rattle.capi.proofs.Calls.{ended-short, ended-long, lent-short, lent-long}
 use Rattle.capi.proofs.calls_mesh.wagonepoch_mesh.Statement.{statement}
 use Rattle.capi.proofs.calls_mesh.wagonepoch_mesh.Tie as tie
 
@@ -32,9 +30,27 @@ scratch s = meshScratch (s .args .n) (now (s .args .elements)) (now (s .args .st
 abbrev first : tie.Start → ℕ
 first s = refuse (badSize (s .args .n)) 1
 
+-- ---- places
+
+abbrev start : tie.After-slice-known4 → tie.Start
+start k = k .before .before .before .before .before
+
+-- the list of figures is long enough
+abbrev long : tie.After-mesh-lists → tie.Else1
+long r = r .before .before .before .before
+
+abbrev left : tie.After-put-entries → tie.After-slice-known6
+left p = p .before .before .before .before
+
+-- the library has answered
+abbrev answered : tie.After-put-entries → tie.After-mesh-lists
+answered p = left p .before .before .before .before
+
+-- ---- the two ends
+
 returns : tie.Need-returns
 returns c =
-    let s = c .before .before .before .before .before .before .before .before in
+    let s = start (c .before .before .before) in
     let F = now (s .args .figures) in
     let h = c .before .before .if1 .taken in
     let E = ended-short 1 (first s) F meshList (answer s) h (c .or-five .ensures ∙ ap (λ (x : ℕ). x orElse 5) (c .before .size-refusal .ensures)) in
@@ -42,21 +58,13 @@ returns c =
 
 returns-2 : tie.Need-returns-2
 returns-2 c =
-    let s = c .before .before .before .before .before .before .before .before .before .before .before .before .before .before .before .before .before .before .before in
+    let p = c .before .before in
+    let r = answered p in
+    let s = start (long r .before) in
     let F = now (s .args .figures) in
-    let h = c .before .before .before .before .before .before .before .before .before .before .before .before .before .if1 .left in
-    let e = c .before .before .before .before .before .before .before .before .before .mesh-lists .ensures in
-    let E = ended-refused 1 (first s) F meshList (answer s) h (heard meaning (answer s) (e .0) (c .before .c .given .1)) in
-    (E .answer, (E .list, (lent-long 1 F (now (s .args .starts)) (starts s) h (e .1 .0), (lent-long 1 F (now (s .args .neighbours)) (neighbours s) h (e .1 .1 .0), lent-long 1 F (now (s .args .scratch)) (scratch s) h (e .1 .1 .1)))))
-
-returns-3 : tie.Need-returns-3
-returns-3 c =
-    let s = c .before .before .before .before .before .before .before .before .before .before .before .before .before .before .before .before .before .before .before .before .before .before .before .before .before in
-    let F = now (s .args .figures) in
-    let h = c .before .before .before .before .before .before .before .before .before .before .before .before .before .before .before .before .before .before .before .if1 .left in
-    let e = c .before .before .before .before .before .before .before .before .before .before .before .before .before .before .before .mesh-lists .ensures in
-    let E = ended-accepted 1 (first s) F meshList (answer s) h (heard meaning (answer s) (e .0) (c .before .before .before .before .before .before .before .entries .given .1))
-    (c .before .before .put .ensures ∙ ap (λ (l : List ℕ). overwrite l F) (next (c .before .before .before .before .count .ensures) end)) in
+    let h = long r .if1 .left in
+    let e = r .mesh-lists .ensures in
+    let E = ended-long 1 (first s) F meshList (answer s) h (e .0) (p .put-entries .ensures .0) (p .put-entries .ensures .1) in
     (E .answer, (E .list, (lent-long 1 F (now (s .args .starts)) (starts s) h (e .1 .0), (lent-long 1 F (now (s .args .neighbours)) (neighbours s) h (e .1 .1 .0), lent-long 1 F (now (s .args .scratch)) (scratch s) h (e .1 .1 .1)))))
 
 pub wagonepoch-mesh-spec : {M : Type 1} → statement M
@@ -67,17 +75,9 @@ wagonepoch-mesh-spec =
     (λ c κs. search needs)
     returns
     (λ c κs. search needs)
-    (λ c. search needs)
-    (λ c. search needs)
-    (λ c κs. search needs)
-    (λ c. search needs)
     (λ c κs. search needs)
     (λ c. search needs)
     (λ c. search needs)
     (λ c. search needs)
-    returns-2
     (λ c. search needs)
-    (λ c. search needs)
-    (λ c. search needs)
-    (λ c. search needs)
-    returns-3)
+    returns-2)

@@ -4,15 +4,13 @@ use mathlib.Core.List.{List}
 use Prim.Native.Nat.{ℕ}
 use borrow.Author.Needs.{needs}
 use denote.Ref.{now}
-use Rattle.basis.specs.Lists.{overwrite}
 use Rattle.spec.specs.CallsNumbering.{runAnswer, runNumbers, runLevels, runScratch}
 use Rattle.spec.specs.Numbering.{Figures}
 use Rattle.spec.specs.Graph.{graphRefusal}
 use Rattle.spec.specs.Lent.{Outcome}
 use Rattle.spec.specs.Refusal.{_orElse_}
-use Rattle.numbering.specs.Answer.{meaning}
-use Rattle.capi.specs.Figures.{runList}
-use Rattle.capi.proofs.Calls.{ended-short, ended-refused, ended-accepted, heard, lent-short, lent-long, next, end}
+use Rattle.capi_figures.specs.Figures.{runList}
+use Rattle.capi.proofs.Calls.{ended-short, ended-long, lent-short, lent-long}
 use Rattle.capi.proofs.calls_numbering.wagonepoch_run.Statement.{statement}
 use Rattle.capi.proofs.calls_numbering.wagonepoch_run.Tie as tie
 
@@ -33,9 +31,30 @@ scratch s = runScratch (now (s .args .starts)) (now (s .args .neighbours)) (now 
 abbrev first : tie.Start → ℕ
 first s = graphRefusal (now (s .args .starts)) (now (s .args .neighbours))
 
+-- ---- places
+
+abbrev lists : tie.After-slice-known4 → tie.After-shared-slice-known2
+lists k = k .before .before .before .before
+
+abbrev start : tie.After-slice-known4 → tie.Start
+start k = lists k .before .before
+
+-- the list of figures is long enough
+abbrev long : tie.After-run → tie.Else1
+long r = r .before .before .before .before
+
+abbrev left : tie.After-put-run → tie.After-slice-known6
+left p = p .before .before .before .before
+
+-- the library has answered
+abbrev answered : tie.After-put-run → tie.After-run
+answered p = left p .before .before .before .before
+
+-- ---- the two ends
+
 returns : tie.Need-returns
 returns c =
-    let s = c .before .before .before .before .before .before .before .before .before in
+    let s = start (c .before .before .before) in
     let F = now (s .args .figures) in
     let h = c .before .before .if1 .taken in
     let E = ended-short 8 (first s) F runList (answer s) h (c .or-five .ensures ∙ ap (λ (x : ℕ). x orElse 5) (c .before .lists-refusal .ensures)) in
@@ -43,21 +62,13 @@ returns c =
 
 returns-2 : tie.Need-returns-2
 returns-2 c =
-    let s = c .before .before .before .before .before .before .before .before .before .before .before .before .before .before .before .before .before .before .before .before in
+    let p = c .before .before in
+    let r = answered p in
+    let s = start (long r .before) in
     let F = now (s .args .figures) in
-    let h = c .before .before .before .before .before .before .before .before .before .before .before .before .before .if1 .left in
-    let e = c .before .before .before .before .before .before .before .before .before .run .ensures in
-    let E = ended-refused 8 (first s) F runList (answer s) h (heard meaning (answer s) (e .0) (c .before .c .given .1)) in
-    (E .answer, (E .list, (lent-long 8 F (now (s .args .numbers)) (numbers s) h (e .1 .0), (lent-long 8 F (now (s .args .levels)) (levels s) h (e .1 .1 .0), lent-long 8 F (now (s .args .scratch)) (scratch s) h (e .1 .1 .1 .0)))))
-
-returns-3 : tie.Need-returns-3
-returns-3 c =
-    let s = c .before .before .before .before .before .before .before .before .before .before .before .before .before .before .before .before .before .before .before .before .before .before .before .before .before .before .before .before .before .before .before .before .before in
-    let F = now (s .args .figures) in
-    let h = c .before .before .before .before .before .before .before .before .before .before .before .before .before .before .before .before .before .before .before .before .before .before .before .before .before .before .if1 .left in
-    let e = c .before .before .before .before .before .before .before .before .before .before .before .before .before .before .before .before .before .before .before .before .before .before .run .ensures in
-    let E = ended-accepted 8 (first s) F runList (answer s) h (heard meaning (answer s) (e .0) (c .before .before .before .before .before .before .before .before .before .before .before .before .before .before .f .given .1))
-    (c .before .before .put .ensures ∙ ap (λ (l : List ℕ). overwrite l F) (next (c .before .before .before .before .before .before .before .before .before .before .before .word .ensures) (next (c .before .before .before .before .before .before .before .before .before .before .word2 .ensures) (next (c .before .before .before .before .before .before .before .before .before .count .ensures) (next (c .before .before .before .before .before .before .before .before .count2 .ensures) (next (c .before .before .before .before .before .before .before .count3 .ensures) (next (c .before .before .before .before .before .before .count4 .ensures) (next (c .before .before .before .before .before .word3 .ensures) (next (c .before .before .before .before .count5 .ensures) end))))))))) in
+    let h = long r .if1 .left in
+    let e = r .run .ensures in
+    let E = ended-long 8 (first s) F runList (answer s) h (e .0) (p .put-run .ensures .0) (p .put-run .ensures .1) in
     (E .answer, (E .list, (lent-long 8 F (now (s .args .numbers)) (numbers s) h (e .1 .0), (lent-long 8 F (now (s .args .levels)) (levels s) h (e .1 .1 .0), lent-long 8 F (now (s .args .scratch)) (scratch s) h (e .1 .1 .1 .0)))))
 
 pub wagonepoch-run-spec : {M : Type 1} → statement M
@@ -68,24 +79,9 @@ wagonepoch-run-spec =
     (λ c κs. search needs)
     returns
     (λ c κs. search needs)
-    (λ c. search needs)
-    (λ c. search needs)
-    (λ c κs. search needs)
-    (λ c κs. search needs)
-    (λ c κs. search needs)
-    (λ c κs. search needs)
-    (λ c κs. search needs)
-    (λ c κs. search needs)
-    (λ c κs. search needs)
-    (λ c κs. search needs)
-    (λ c. search needs)
     (λ c κs. search needs)
     (λ c. search needs)
     (λ c. search needs)
     (λ c. search needs)
-    returns-2
     (λ c. search needs)
-    (λ c. search needs)
-    (λ c. search needs)
-    (λ c. search needs)
-    returns-3)
+    returns-2)

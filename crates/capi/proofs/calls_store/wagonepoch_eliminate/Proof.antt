@@ -4,14 +4,12 @@ use mathlib.Core.List.{List}
 use Prim.Native.Nat.{ℕ}
 use borrow.Author.Needs.{needs}
 use denote.Ref.{now}
-use Rattle.basis.specs.Lists.{overwrite}
 use Rattle.spec.specs.CallsStore.{EliminationFigures, eliminationAnswer, eliminationScratch, eliminationBytes}
 use Rattle.spec.specs.Graph.{graphRefusal}
 use Rattle.spec.specs.Lent.{Outcome}
 use Rattle.spec.specs.Refusal.{_orElse_}
-use Rattle.store.specs.Answer.{meaning}
-use Rattle.capi.specs.Figures.{eliminationList}
-use Rattle.capi.proofs.Calls.{ended-short, ended-refused, ended-accepted, heard, lent-short, lent-long, next, end}
+use Rattle.capi_figures.specs.Figures.{eliminationList}
+use Rattle.capi.proofs.Calls.{ended-short, ended-long, lent-short, lent-long}
 use Rattle.capi.proofs.calls_store.wagonepoch_eliminate.Statement.{statement}
 use Rattle.capi.proofs.calls_store.wagonepoch_eliminate.Tie as tie
 
@@ -29,9 +27,30 @@ bytes s = eliminationBytes (now (s .args .starts)) (now (s .args .neighbours)) (
 abbrev first : tie.Start → ℕ
 first s = graphRefusal (now (s .args .starts)) (now (s .args .neighbours))
 
+-- ---- places
+
+abbrev lists : tie.After-slice-known3 → tie.After-shared-slice-known3
+lists k = k .before .before .before
+
+abbrev start : tie.After-slice-known3 → tie.Start
+start k = lists k .before .before .before
+
+-- the list of figures is long enough
+abbrev long : tie.After-eliminate → tie.Else1
+long r = r .before .before .before
+
+abbrev left : tie.After-put-elimination → tie.After-slice-known4
+left p = p .before .before .before .before
+
+-- the library has answered
+abbrev answered : tie.After-put-elimination → tie.After-eliminate
+answered p = left p .before .before
+
+-- ---- the two ends
+
 returns : tie.Need-returns
 returns c =
-    let s = c .before .before .before .before .before .before .before .before .before in
+    let s = start (c .before .before .before) in
     let F = now (s .args .figures) in
     let h = c .before .before .if1 .taken in
     let E = ended-short 2 (first s) F eliminationList (answer s) h (c .or-five .ensures ∙ ap (λ (x : ℕ). x orElse 5) (c .before .lists-refusal .ensures)) in
@@ -39,21 +58,13 @@ returns c =
 
 returns-2 : tie.Need-returns-2
 returns-2 c =
-    let s = c .before .before .before .before .before .before .before .before .before .before .before .before .before .before .before .before .before in
+    let p = c .before .before in
+    let r = answered p in
+    let s = start (long r .before) in
     let F = now (s .args .figures) in
-    let h = c .before .before .before .before .before .before .before .before .before .before .if1 .left in
-    let e = c .before .before .before .before .before .before .before .eliminate .ensures in
-    let E = ended-refused 2 (first s) F eliminationList (answer s) h (heard meaning (answer s) (e .0) (c .before .c .given .1)) in
-    (E .answer, (E .list, (lent-long 2 F (now (s .args .scratch)) (scratch s) h (e .1 .0), lent-long 2 F (now (s .args .bytes)) (bytes s) h (e .1 .1))))
-
-returns-3 : tie.Need-returns-3
-returns-3 c =
-    let s = c .before .before .before .before .before .before .before .before .before .before .before .before .before .before .before .before .before .before .before .before .before .before .before .before in
-    let F = now (s .args .figures) in
-    let h = c .before .before .before .before .before .before .before .before .before .before .before .before .before .before .before .before .before .if1 .left in
-    let e = c .before .before .before .before .before .before .before .before .before .before .before .before .before .before .eliminate .ensures in
-    let E = ended-accepted 2 (first s) F eliminationList (answer s) h (heard meaning (answer s) (e .0) (c .before .before .before .before .before .before .before .before .m .given .1))
-    (c .before .before .put .ensures ∙ ap (λ (l : List ℕ). overwrite l F) (next (c .before .before .before .before .before .count .ensures) (next (c .before .before .before .before .count2 .ensures) end))) in
+    let h = long r .if1 .left in
+    let e = r .eliminate .ensures in
+    let E = ended-long 2 (first s) F eliminationList (answer s) h (e .0) (p .put-elimination .ensures .0) (p .put-elimination .ensures .1) in
     (E .answer, (E .list, (lent-long 2 F (now (s .args .scratch)) (scratch s) h (e .1 .0), lent-long 2 F (now (s .args .bytes)) (bytes s) h (e .1 .1))))
 
 pub wagonepoch-eliminate-spec : {M : Type 1} → statement M
@@ -64,16 +75,8 @@ wagonepoch-eliminate-spec =
     (λ c κs. search needs)
     returns
     (λ c κs. search needs)
-    (λ c. search needs)
-    (λ c. search needs)
-    (λ c κs. search needs)
-    (λ c κs. search needs)
-    (λ c. search needs)
     (λ c κs. search needs)
     (λ c. search needs)
     (λ c. search needs)
-    returns-2
     (λ c. search needs)
-    (λ c. search needs)
-    (λ c. search needs)
-    returns-3)
+    returns-2)
