@@ -1,4 +1,3 @@
-pub mod Leaves
-pub mod Passed
-pub mod Room
+pub mod Accepted
+pub mod Output
 pub mod Texts

@@ -1,20 +1,19 @@
 -- The text of a run over two lists that are not refused: it is what `write_listing` writes, and has room. Assumes nothing.
 use mathlib.Core.Path.{_≡_, sym, ap, _∙_}
-use mathlib.Core.List.{List, _++_}
+use mathlib.Core.List.{List}
 use Prim.Native.Nat.{ℕ, _≤_}
 use native.Mathlib.Omega.{arith}
-use lib.ListN.{length, drop}
-use Rattle.basis.specs.Lists.{overwrite}
+use lib.ListN.{length, take}
+use lib.Seq.{length-take-le}
 use Rattle.spec.specs.Graph.{graphOf, sizeOf, graphRefusal}
 use Rattle.spec.specs.Numbering.{Figures, run}
 use Rattle.spec.specs.File.{listing}
-use Rattle.spec.specs.CallsListing.{outputRoom}
 use Rattle.laws.specs.Legal.{LegalGraph, Starts}
 use Rattle.laws.proofs.Refused.{passed, starts-of, not-refused}
 use Rattle.laws.proofs.Numberings.{numbering-length}
 use Rattle.laws.proofs.RunLevels.{levels-length}
 use Rattle.laws.proofs.Whole.{run-numbering}
-use Rattle.writing.specs.Listed.{listed}
+use Rattle.writing.specs.Listed.{listed, outputRoom}
 use Rattle.writing.proofs.Fits.{run-listing, listing-fits}
 
 module _ (S N : List ℕ) (legal : graphRefusal S N ≡ 0) where
@@ -27,12 +26,9 @@ module _ (S N : List ℕ) (legal : graphRefusal S N ≡ 0) where
   numbers-length : length (run (graphOf S N) .numbers) ≡ sizeOf S
   numbers-length = numbering-length (sizeOf S) (run (graphOf S N) .numbers) (run-numbering graph)
 
-  -- a part of a lent list goes back in its place
-  pub numbers-back : {X : List ℕ} (old : List ℕ) → X ≡ run (graphOf S N) .numbers → X ++ drop (sizeOf S) old ≡ overwrite (run (graphOf S N) .numbers) old
-  numbers-back old x = rw (x, numbers-length)
-
-  pub levels-back : {L : List ℕ} (old : List ℕ) → L ≡ run (graphOf S N) .levels → L ++ drop (sizeOf S) old ≡ overwrite (run (graphOf S N) .levels) old
-  levels-back old l = rw (l, levels-length graph)
+  -- the part of a list that is lent for the nodes
+  pub front : (l : List ℕ) → 4096 ≤ length l → length (take (sizeOf S) l) ≡ sizeOf S
+  front l h = length-take-le (sizeOf S) l (omega (arith, starts .few))
 
   module _ {F : Figures} {X L : List ℕ} (f : F ≡ run (graphOf S N) .figures) (x : X ≡ run (graphOf S N) .numbers) (l : L ≡ run (graphOf S N) .levels) where
     pub sizes : (length X ≡ length L) × (length X ≤ 4096)

@@ -1,5 +1,5 @@
 -- What a file is refused by after its header, test by test, and its graph. Assumes nothing.
-use mathlib.Core.Path.{_≡_, sym, ap, _∙_}
+use mathlib.Core.Path.{_≡_, sym, ap, _∙_, subst}
 use mathlib.Core.Bool.{Bool, false}
 use mathlib.Core.List.{List, [], _∷_}
 use Prim.Native.Nat.{ℕ, zero, suc, _+_, _*_, _≤_, _<_}
@@ -13,7 +13,7 @@ use Rattle.spec.specs.Lent.{refused, accepted, outcome}
 use Rattle.spec.specs.Graph.{Graph, badSize}
 use Rattle.spec.specs.Mesh.{nodeCount, badNodes, elementRefusal, elementsRefusal, meshGraph, refuses11}
 use Rattle.spec.specs.CallsMesh.{graphOfElements}
-use Rattle.spec.specs.File.{fileNodes, fileElements, body, badHeader, countedRefusal, wordsTaken, leftOver, fileGraph, headerRefusal, bodyRefusal}
+use Rattle.spec.specs.File.{fileNodes, fileElements, body, badHeader, countedRefusal, wordsTaken, leftOver, fileGraph, headerRefusal, bodyRefusal, fileRefusal}
 use Rattle.laws.proofs.Lent.{outcome-accepted, outcome-refused, answer-refused}
 use Rattle.laws.proofs.Refused.{or-else-zero, refuse-zero, or-else-first, or-else-has, refuse-has}
 use Rattle.elements.proofs.Elements.{in-order}
@@ -79,11 +79,11 @@ module _ (bs : List ℕ) where
 -- ---- after the words: 11 or none
 
 -- one of the table's numbers, or 0, but not 11
-pub record Told (c : ℕ) : Type 0 where
+record Told (c : ℕ) : Type 0 where
   pub most : c ≤ 12
   pub other : c ≡ 11 → ⊥
 
-pub told : (t : Bool) (c : ℕ) → c ≤ 12 → (c ≡ 11 → ⊥) → Told (refuse t c)
+told : (t : Bool) (c : ℕ) → c ≤ 12 → (c ≡ 11 → ⊥) → Told (refuse t c)
 told t c h l = refuse-has Told t c (record { most = h; other = l }) (record { most = omega arith; other = λ e. omega arith })
 
 element-told : (n k : ℕ) (ws : List ℕ) → Told (elementRefusal 12 n k ws)
@@ -113,9 +113,14 @@ module _ (bs : List ℕ) where
   body-split = sym (in-order (countedRefusal (fileElements bs) (fileNodes bs) (body bs)) (refuse (leftOver bs) 12) (refuse (refuses11 (fileGraph bs)) 11))
 
   -- the table ends with 12
-  pub body-refusal-most : bodyRefusal bs ≤ 12
-  body-refusal-most =
-      omega (arith, body-split, or-else-has (λ (c : ℕ). c ≤ 12) (wordsRefusal bs) (refuse (refuses11 (fileGraph bs)) 11) (words-told .most) (refuse-has (λ (c : ℕ). c ≤ 12) (refuses11 (fileGraph bs)) 11 (omega arith) (omega arith)))
+  pub file-refusal-most : fileRefusal bs ≤ 12
+  unfolding fileRefusal headerRefusal
+  file-refusal-most =
+      let P : ℕ → Type 0 = λ c. c ≤ 12 in
+      let eleven : ℕ = refuse (refuses11 (fileGraph bs)) 11 in
+      let header : P (refuse (badHeader bs) 12 orElse refuse (badSize (fileNodes bs)) 1) = or-else-has P (refuse (badHeader bs) 12) (refuse (badSize (fileNodes bs)) 1) (told (badHeader bs) 12 (omega arith) (λ e. omega arith) .most) (told (badSize (fileNodes bs)) 1 (omega arith) (λ e. omega arith) .most) in
+      let whole : P (wordsRefusal bs orElse eleven) = or-else-has P (wordsRefusal bs) eleven (words-told .most) (refuse-has P (refuses11 (fileGraph bs)) 11 (omega arith) (omega arith)) in
+      or-else-has P (refuse (badHeader bs) 12 orElse refuse (badSize (fileNodes bs)) 1) (bodyRefusal bs) header (subst P (sym body-split) whole)
 
   -- the words are refused, so the file is, by the same number
   pub words-refused : (r : ℕ) → refused r ≡ outcome (wordsRefusal bs) (length (body bs)) → (bodyRefusal bs ≡ r) × (1 ≤ r) × (r ≡ 11 → ⊥)

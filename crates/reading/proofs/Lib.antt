@@ -1,4 +1,3 @@
 pub mod Bytes
 pub mod Counted
 pub mod Files
-pub mod Early

@@ -3,14 +3,3 @@ pub enum Tested {
     Taken(usize),
     Refused(u16),
 }
-
-// How long the lists are that a listing is lent.
-pub struct Lengths {
-    pub words: usize,
-    pub starts: usize,
-    pub neighbours: usize,
-    pub scratch: usize,
-    pub numbers: usize,
-    pub levels: usize,
-    pub output: usize,
-}

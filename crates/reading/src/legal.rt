@@ -1,19 +1,16 @@
-// The tests of what is lent, and functions that ask for a header that is not refused, and room.
+// Functions that ask for a header that is not refused, and room.
 ghost use mathlib.Core.Path.{_≡_};
 ghost use mathlib.Core.Bool.{_||_};
 ghost use Prim.Native.Nat.{_≤_, _<_};
 ghost use lib.ListN.{length};
 ghost use lib.Dec.{eqb};
 ghost use Rattle.basis.specs.Lists.{overwrite};
-ghost use Rattle.spec.specs.CallsListing.{ListingBuffers, earlyRefusal};
-ghost use Rattle.spec.specs.Lent.{outcome, filled, scratchAfter, wordsPerNode};
+ghost use Rattle.spec.specs.Lent.{outcome, filled, scratchAfter};
 ghost use Rattle.spec.specs.Mesh.{entryCount, startList, neighbourList};
 ghost use Rattle.spec.specs.File.{fileNodes, body, countedRefusal, wordsTaken, fileGraph, headerRefusal, bodyRefusal};
 ghost use Rattle.mesh.specs.Answer.{meaning};
 ghost use Rattle.reading.specs.Answer.{tested};
-ghost use Rattle.reading.specs.Lent.{listsShort, buffersShort, lengthsOf};
 ghost use Rattle.reading.specs.Words.{wordsRefusal};
-use crate::answer::Lengths;
 use crate::answer::Tested;
 use mesh::Entries;
 
@@ -23,56 +20,6 @@ pub fn nodes(file: &[u8]) -> usize
     ensures { λ r. ⌜ r ≡ fileNodes (now (file .entry)) ⌝ }
 {
     words::wide(crate::header::word_at(file, 5))
-}
-
-// Whether a list is short that the reading of a file of n nodes is lent.
-fn lists_short(n: usize, l: Lengths) -> bool
-    requires { ⌜ n ≤ 4096 ⌝ }
-    ensures { λ r. ⌜ r ≡ listsShort n l ⌝ }
-{
-    if l.words < 32763 {
-        return true;
-    }
-    if l.starts < n + 1 {
-        return true;
-    }
-    l.neighbours < 32768
-}
-
-// Whether a buffer is short that its renumbering and its listing are lent; the run's library says how many scratch words a node takes.
-fn buffers_short(n: usize, l: Lengths, words_per_node: usize) -> bool
-    requires { ⌜ (n ≤ 4096) × («words_per_node» ≡ wordsPerNode) ⌝ }
-    ensures { λ r. ⌜ r ≡ buffersShort n l ⌝ }
-{
-    if l.scratch < words_per_node * n {
-        return true;
-    }
-    if l.numbers < n {
-        return true;
-    }
-    if l.levels < n {
-        return true;
-    }
-    l.output < 99 + 15 * n
-}
-
-// What a file is refused by before its elements are looked at, lent buffers of these lengths: 12, 1 or 5, or 0.
-pub fn early_refusal(file: &[u8], l: Lengths, words_per_node: usize) -> u16
-    requires { ⌜ «words_per_node» ≡ wordsPerNode ⌝ }
-    ensures { λ r. ⌜ ((b : ListingBuffers) → lengthsOf b ≡ l → r ≡ earlyRefusal (now (file .entry)) b) ⌝ }
-{
-    let refusal = crate::header_refusal(file);
-    if refusal != 0 {
-        return refusal;
-    }
-    let n = nodes(file);
-    if lists_short(n, l) {
-        return 5;
-    }
-    if buffers_short(n, l, words_per_node) {
-        return 5;
-    }
-    0
 }
 
 // Writes the words after the header to the front of the list, and returns how many there are.

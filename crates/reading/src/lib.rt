@@ -6,8 +6,6 @@ mod answer;
 mod header;
 pub mod legal;
 
-pub use answer::Lengths;
-
 // What a file is refused by before its elements are looked at, 12 or 1, or 0: "length, mark and version for 12 first, then 1".
 pub fn header_refusal(file: &[u8]) -> u16
     ensures { λ r. ⌜ r ≡ headerRefusal (now (file .entry)) ⌝ }

@@ -5,9 +5,8 @@ ghost use Rattle.spec.specs.File.{programOutput};
 ghost use Rattle.io.specs.Counts.{Counts};
 use libc::STDIN_FILENO;
 use libc::STDOUT_FILENO;
-use listing::ListingAnswer;
 
-// The text of a file, at the front of the output, and its length. What is lent suffices for 4,096 nodes.
+// The text of a file, at the front of the output, and its length. There is room for the greatest file.
 fn text(
     file: &[u8],
     words: &mut [u16; 32763],
@@ -21,7 +20,7 @@ fn text(
     ensures { λ r. ⌜ Counts r (now (output .exit)) ⌝ }
     ensures { λ r. ⌜ take r (now (output .exit)) ≡ programOutput (now (file .entry)) ⌝ }
 {
-    match listing::listing(
+    let bytes = listing::legal::list_file(
         file,
         words,
         starts,
@@ -30,10 +29,8 @@ fn text(
         numbers,
         levels,
         output,
-    ) {
-        ListingAnswer::Refused { number, bytes } => bytes,
-        ListingAnswer::Listed(bytes) => bytes,
-    }
+    );
+    bytes
 }
 
 // One byte more than a file may have is read, so that a longer file is seen to be too long.

@@ -14,5 +14,4 @@ pub mod CallsLevels
 pub mod CallsNumbering
 pub mod CallsStore
 pub mod CallsMesh
-pub mod CallsListing
 pub mod Claim

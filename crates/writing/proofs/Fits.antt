@@ -12,11 +12,10 @@ use Rattle.spec.specs.Text.{ascii, decimal, newline}
 use Rattle.spec.specs.Graph.{Graph, nodes, ofNode}
 use Rattle.spec.specs.Numbering.{Figures, Run, run}
 use Rattle.spec.specs.File.{item, figuresLine, nodeLine, listing}
-use Rattle.spec.specs.CallsListing.{outputRoom}
 use Rattle.laws.specs.Legal.{Node, LegalGraph}
 use Rattle.laws.proofs.Numberings.{numbering-length}
 use Rattle.laws.proofs.Whole.{run-numbering}
-use Rattle.writing.specs.Listed.{firstItems, lastItems, rowItems, rows, listed}
+use Rattle.writing.specs.Listed.{firstItems, lastItems, rowItems, rows, listed, outputRoom}
 use Rattle.writing.proofs.Bounds.{nodes-is, parts-most, levels-most, passes-most, width-most, bandwidth-most, front-most, profile-few, number-most, level-most}
 use Rattle.writing.proofs.Decimals.{four-digits, seven-digits}
 use Rattle.writing.proofs.Rows.{rows-suc}

@@ -1,7 +1,7 @@
 -- The listing from its figures, numbers and levels, in the texts that are put one by one: the definition's `listing` (proofs/Fits.antt,
 -- `listing-is`). Assumes nothing.
 use mathlib.Core.List.{List, [], _∷_, map}
-use Prim.Native.Nat.{ℕ}
+use Prim.Native.Nat.{ℕ, _+_, _*_}
 use lib.ListN.{length}
 use Rattle.basis.specs.Lists.{joinAll, upFrom}
 use Rattle.spec.specs.Text.{decimal, newline}
@@ -33,3 +33,7 @@ listedTexts f numbers levels = joinAll (firstItems f) ∷ joinAll (lastItems f) 
 -- the listing
 unfoldable pub listed : Figures → List ℕ → List ℕ → List ℕ
 listed f numbers levels = joinAll (listedTexts f numbers levels)
+
+-- as many bytes hold every listing of n nodes: 99 its first line, 15 each row
+abbrev pub outputRoom : ℕ → ℕ
+outputRoom n = 99 + 15 * n
