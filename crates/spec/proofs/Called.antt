@@ -5,10 +5,15 @@ use lib.ListN.{replicate}
 use Rattle.spec.specs.Graph.{sizeOf}
 use Rattle.spec.specs.Ends.{Ends}
 use Rattle.spec.specs.Numbering.{PartReport, Figures}
-use Rattle.spec.specs.Lent.{Outcome, accepted}
+use Rattle.spec.specs.Lent.{Outcome, refused, accepted}
 use Rattle.spec.specs.CallsLevels.{LevelFigures, rootedAnswer, endsAnswer, combinedLevels}
 use Rattle.spec.specs.CallsNumbering.{MeasureFigures, measuresAnswer, reportAnswer, runAnswer, runNumbers, runLevels}
 use Rattle.spec.specs.CallsStore.{EliminationFigures, eliminationAnswer, eliminationBytes}
+
+-- a refusal's number, 0 for an accepted call
+unfoldable pub numberOf : {A : Type 0} → Outcome A → ℕ
+numberOf (refused c) = c
+numberOf (accepted a) = 0
 
 -- the two lists of a graph
 pub record Lists : Type 0 where

@@ -7,13 +7,13 @@ use lib.ListN.{replicate}
 use Rattle.spec.specs.Graph.{sizeOf}
 use Rattle.spec.specs.Ends.{Ends}
 use Rattle.spec.specs.Numbering.{Forward, Reversed, PartReport, Figures}
-use Rattle.spec.specs.Lent.{Outcome, refused, accepted}
+use Rattle.spec.specs.Lent.{Outcome, accepted}
 use Rattle.spec.specs.File.{fileRefusal}
 use Rattle.spec.specs.CallsLevels.{adjacencyAnswer, rootedAnswer, endsAnswer}
 use Rattle.spec.specs.CallsNumbering.{runAnswer, measuresAnswer}
 use Rattle.spec.specs.CallsStore.{EliminationFigures, eliminationAnswer}
 use Rattle.spec.proofs.Compute.{computes}
-use Rattle.spec.proofs.Called.{Lists, numbersFor, levelsFor, figuresFor, endsFor, combinedFor, reportFor, eliminationFor, bytesFor}
+use Rattle.spec.proofs.Called.{Lists, numberOf, numbersFor, levelsFor, figuresFor, endsFor, combinedFor, reportFor, eliminationFor, bytesFor}
 
 -- what the calls say of a graph and of the part of node 1; the elimination is handed the run's numbers and four bytes
 record Found : Type 0 where
@@ -37,11 +37,6 @@ found l = record {
   marks = eliminationFor l (numbersFor l) 4;
   bytes = bytesFor l (numbersFor l) 4;
 }
-
--- a refusal's number, 0 for an accepted call
-numberOf : {A : Type 0} → Outcome A → ℕ
-numberOf (refused c) = c
-numberOf (accepted a) = 0
 
 -- what the adjacency test, rooted levels, ends, run, measures and elimination refuse by, with so many words lent for each node and no mark byte
 refusals : List ℕ → List ℕ → ℕ → List ℕ → ℕ → List ℕ

@@ -3,6 +3,7 @@ pub mod Called
 pub mod ElementKinds
 pub mod Bracket
 pub mod Examples
+pub mod Buffers
 pub mod Wrong
 pub mod WrongStore
 pub mod WrongCalls
