@@ -5,7 +5,7 @@ use mathlib.Core.Logic.{⊎-elim}
 use mathlib.Core.List.{List, [], _∷_}
 use Prim.Native.Nat.{ℕ, zero, suc, _+_, _≤_, _<_, min}
 use native.Mathlib.Omega.{arith}
-use lib.ListN.{length, getD, take, drop, length-drop, drop-of-length-le}
+use lib.ListN.{length, getD, take, drop, drop-of-length-le}
 use lib.Seq.{take-all, take-length, drop-drop}
 use lib.Dec.{eqb, ltb}
 use borrow.Author.Tests.{eqb-false, ltb-false}
@@ -13,8 +13,9 @@ use Rattle.basis.specs.Lists.{anyb}
 use Rattle.basis.proofs.Logic.{or-none, lt-or-le}
 use Rattle.spec.specs.Refusal.{refuse, _orElse_}
 use Rattle.spec.specs.Graph.{outside}
-use Rattle.spec.specs.Mesh.{kindTable, nodeCount, repeats, badNodes, elementRefusal, elementsRefusal, elementsIn, elements}
+use Rattle.spec.specs.Mesh.{kindTable, nodeCount, repeats, badNodes, elementRefusal, elementsRefusal, elements}
 use Rattle.laws.proofs.Refused.{or-else-zero, refuse-zero}
+use Rattle.laws.proofs.Bounds.{refusal-empty, refusal-first, elements-empty, elements-first}
 use Rattle.elements.proofs.Remains.{drop-next}
 
 -- ---- one element
@@ -89,19 +90,6 @@ good-inside n kind ws e =
 
 -- ---- the elements one by one
 
--- any bound from the list's length on bounds nothing
-pub enough : (f g n : ℕ) (ws : List ℕ) → length ws ≤ f → length ws ≤ g → elementsRefusal f n ws ≡ elementsRefusal g n ws
-unfolding elementsRefusal
-enough zero zero n ws a b = refl
-enough zero (suc g) n [] a b = refl
-enough zero (suc g) n (k ∷ ws) a b = absurd (omega arith)
-enough (suc f) zero n [] a b = refl
-enough (suc f) zero n (k ∷ ws) a b = absurd (omega arith)
-enough (suc f) (suc g) n [] a b = refl
-enough (suc f) (suc g) n (k ∷ ws) a b =
-    ap (λ (r : ℕ). elementRefusal 9 n k ws orElse r)
-    (enough f g n (drop (nodeCount k) ws) (omega (arith, length-drop (nodeCount k) ws)) (omega (arith, length-drop (nodeCount k) ws)))
-
 -- what a list of elements is refused by
 abbrev pub refusalFrom : ℕ → List ℕ → ℕ
 refusalFrom n ws = elementsRefusal (length ws) n ws
@@ -110,18 +98,12 @@ module _ (n : ℕ) (ws : List ℕ) (at : ℕ) (h : at < length ws) where
   -- the element at `at`, then those after it
   pub refusal-next : refusalFrom n (drop at ws)
       ≡ elementRefusal 9 n (getD ws at 0) (drop (at + 1) ws) orElse refusalFrom n (drop (at + 1 + nodeCount (getD ws at 0)) ws)
-  unfolding elementsRefusal
   refusal-next =
+      let k : ℕ = getD ws at 0 in
+      let tail : List ℕ = drop (at + 1) ws in
       ap (refusalFrom n) (drop-next ws at h)
-      ∙ ap (λ (r : ℕ). elementRefusal 9 n k tail orElse r)
-      (enough (length tail) (length (drop (nodeCount k) tail)) n (drop (nodeCount k) tail) (omega (arith, length-drop (nodeCount k) tail)) (omega arith)
-      ∙ ap (refusalFrom n) (drop-drop (nodeCount k) (at + 1) ws))
-    where
-      k : ℕ
-      k = getD ws at 0
-
-      tail : List ℕ
-      tail = drop (at + 1) ws
+      ∙ refusal-first n k tail
+      ∙ ap (λ (l : List ℕ). elementRefusal 9 n k tail orElse refusalFrom n l) (drop-drop (nodeCount k) (at + 1) ws)
 
   module _ (rest : refusalFrom n ws ≡ refusalFrom n (drop at ws)) where
     -- it is refused
@@ -136,8 +118,7 @@ module _ (n : ℕ) (ws : List ℕ) (at : ℕ) (h : at < length ws) where
 
 -- no element is left
 pub refusal-over : (n : ℕ) (ws : List ℕ) (at : ℕ) → refusalFrom n ws ≡ refusalFrom n (drop at ws) → length ws ≤ at → 0 ≡ refusalFrom n ws
-unfolding elementsRefusal
-refusal-over n ws at rest h = sym (rest ∙ ap (refusalFrom n) (drop-of-length-le ws h))
+refusal-over n ws at rest h = sym (rest ∙ ap (refusalFrom n) (drop-of-length-le ws h) ∙ refusal-empty n)
 
 -- of elements that are not refused, the one at `at` isn't, nor are those after it
 pub refusal-none : (n : ℕ) (ws : List ℕ) (at : ℕ) → at < length ws → refusalFrom n (drop at ws) ≡ 0
@@ -146,34 +127,13 @@ refusal-none n ws at h z = or-else-zero (elementRefusal 9 n (getD ws at 0) (drop
 
 -- ---- the nodes of the elements one by one
 
-pub enough-in : (f g : ℕ) (ws : List ℕ) → length ws ≤ f → length ws ≤ g → elementsIn f ws ≡ elementsIn g ws
-unfolding elementsIn
-enough-in zero zero ws a b = refl
-enough-in zero (suc g) [] a b = refl
-enough-in zero (suc g) (k ∷ ws) a b = absurd (omega arith)
-enough-in (suc f) zero [] a b = refl
-enough-in (suc f) zero (k ∷ ws) a b = absurd (omega arith)
-enough-in (suc f) (suc g) [] a b = refl
-enough-in (suc f) (suc g) (k ∷ ws) a b =
-    ap (λ (r : List (List ℕ)). take (nodeCount k) ws ∷ r)
-    (enough-in f g (drop (nodeCount k) ws) (omega (arith, length-drop (nodeCount k) ws)) (omega (arith, length-drop (nodeCount k) ws)))
-
 -- the nodes of the element at `at`, then those of the elements after it
 pub elements-next : (ws : List ℕ) (at : ℕ) → at < length ws
     → elements (drop at ws) ≡ take (nodeCount (getD ws at 0)) (drop (at + 1) ws) ∷ elements (drop (at + 1 + nodeCount (getD ws at 0)) ws)
-unfolding elements elementsIn
 elements-next ws at h =
-    ap (λ (l : List ℕ). elementsIn (length l) l) (drop-next ws at h)
-    ∙ ap (λ (r : List (List ℕ)). take (nodeCount k) tail ∷ r)
-    (enough-in (length tail) (length (drop (nodeCount k) tail)) (drop (nodeCount k) tail) (omega (arith, length-drop (nodeCount k) tail)) (omega arith)
-    ∙ ap (λ (l : List ℕ). elementsIn (length l) l) (drop-drop (nodeCount k) (at + 1) ws))
-  where
-    k : ℕ
-    k = getD ws at 0
-
-    tail : List ℕ
-    tail = drop (at + 1) ws
+    let k : ℕ = getD ws at 0 in
+    let tail : List ℕ = drop (at + 1) ws in
+    ap elements (drop-next ws at h) ∙ elements-first k tail ∙ ap (λ (l : List ℕ). take (nodeCount k) tail ∷ elements l) (drop-drop (nodeCount k) (at + 1) ws)
 
 pub elements-over : (ws : List ℕ) (at : ℕ) → length ws ≤ at → elements (drop at ws) ≡ []
-unfolding elements elementsIn
-elements-over ws at h = ap (λ (l : List ℕ). elementsIn (length l) l) (drop-of-length-le ws h)
+elements-over ws at h = ap elements (drop-of-length-le ws h) ∙ elements-empty

@@ -11,8 +11,9 @@ use Rattle.spec.specs.Lent.{refused, accepted, outcome}
 use Rattle.spec.specs.Mesh.{nodeCount, elementRefusal, elementsRefusal, elementsIn, elements}
 use Rattle.spec.specs.File.{countedRefusal, wordsTaken}
 use Rattle.laws.proofs.Refused.{or-else-zero}
+use Rattle.laws.proofs.Bounds.{refusal-bound, elements-bound}
 use Rattle.elements.proofs.Remains.{drop-next}
-use Rattle.elements.proofs.Elements.{good-of, good-element, record-fits, enough, enough-in}
+use Rattle.elements.proofs.Elements.{good-of, good-element, record-fits}
 
 -- ---- what remains
 
@@ -94,8 +95,8 @@ all-taken (suc c) n (k ∷ ws) e t =
     let rest = drop (nodeCount k) ws in
     let l : wordsTaken c rest ≡ length rest = omega (arith, length-drop (nodeCount k) ws, record-fits n k ws G) in
     let w = all-taken c n rest (r .1) l in (
-      ap₂ _orElse_ (good-element 9 n k ws G) (enough (length ws) (length rest) n rest (omega (arith, length-drop (nodeCount k) ws)) (omega arith) ∙ w .0),
-      ap (λ (x : List (List ℕ)). take (nodeCount k) ws ∷ x) (w .1 ∙ enough-in (length rest) (length ws) rest (omega arith) (omega (arith, length-drop (nodeCount k) ws))),
+      ap₂ _orElse_ (good-element 9 n k ws G) (refusal-bound (length ws) n rest (omega (arith, length-drop (nodeCount k) ws)) ∙ w .0),
+      ap (λ (x : List (List ℕ)). take (nodeCount k) ws ∷ x) (w .1 ∙ sym (elements-bound (length ws) rest (omega (arith, length-drop (nodeCount k) ws)))),
     )
 
 -- elements that are not refused take no more than there is

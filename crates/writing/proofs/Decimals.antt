@@ -1,71 +1,13 @@
--- A number's digits: the last one, those before it, and how many there are. Assumes nothing.
-use mathlib.Core.Path.{_≡_, refl, sym, ap, _∙_}
+-- How many digits a number has. Assumes nothing.
+use mathlib.Core.Path.{_≡_, refl, ap}
 use mathlib.Core.Logic.{⊎-elim}
-use mathlib.Core.Bool.{Bool, true, false}
-use mathlib.Core.List.{List, [], _∷_, _++_, append-assoc}
+use mathlib.Core.List.{[], _∷_}
 use Prim.Native.Nat.{ℕ, zero, suc, _+_, _*_, _/_, _%_, _≤_, _<_}
 use native.Mathlib.Omega.{arith}
 use lib.ListN.{length, length-append}
-use borrow.Author.Tests.{lt-ltb, le-ltb}
 use Rattle.basis.proofs.Logic.{lt-or-le}
-use Rattle.spec.specs.Text.{digitsBefore, decimal}
-
--- a step: the last digit, or the digits before it
-digits-done : (f n : ℕ) (after : List ℕ) → n < 10 → digitsBefore (suc f) n after ≡ (48 + n) ∷ after
-unfolding digitsBefore
-digits-done f n after h =
-    ap (λ (b : Bool). elim b [ true ↦ (48 + n) ∷ after | false ↦ digitsBefore f (n / 10) ((48 + n % 10) ∷ after) ]) (lt-ltb n 10 h)
-
-digits-step : (f n : ℕ) (after : List ℕ) → 10 ≤ n → digitsBefore (suc f) n after ≡ digitsBefore f (n / 10) ((48 + n % 10) ∷ after)
-unfolding digitsBefore
-digits-step f n after h =
-    ap (λ (b : Bool). elim b [ true ↦ (48 + n) ∷ after | false ↦ digitsBefore f (n / 10) ((48 + n % 10) ∷ after) ]) (le-ltb n 10 h)
-
--- a number of one digit leaves nothing to go on with
-digits-small : (f n : ℕ) (after : List ℕ) → n < 10 → n ≤ f → digitsBefore f n after ≡ (48 + n) ∷ after
-unfolding digitsBefore
-digits-small zero n after h l = let z : n ≡ 0 = omega arith in rw z
-digits-small (suc f) n after h l = digits-done f n after h
-
--- how many digits are allowed bounds nothing, from n on
-digits-any : (f h n : ℕ) (after : List ℕ) → n ≤ f → n ≤ h → digitsBefore f n after ≡ digitsBefore h n after
-unfolding digitsBefore
-digits-any zero h n after p q = let z : n ≡ 0 = omega arith in rw z (sym (digits-small h 0 after (omega arith) (omega arith)))
-digits-any (suc f) zero n after p q = let z : n ≡ 0 = omega arith in rw z
-digits-any (suc f) (suc h) n after p q =
-    ⊎-elim (λ l. digits-done f n after l ∙ sym (digits-done h n after l))
-    (λ l. digits-step f n after l ∙ digits-any f h (n / 10) ((48 + n % 10) ∷ after) (omega arith) (omega arith) ∙ sym (digits-step h n after l))
-    (lt-or-le n 10)
-
--- what follows stays behind
-digits-append : (f n : ℕ) (after : List ℕ) → digitsBefore f n after ≡ digitsBefore f n [] ++ after
-unfolding digitsBefore
-digits-append zero n after = refl
-digits-append (suc f) n after =
-    let d : ℕ = 48 + n % 10 in
-    ⊎-elim (λ l. digits-done f n after l ∙ ap (λ (t : List ℕ). t ++ after) (sym (digits-done f n [] l)))
-    (λ l.
-    digits-step f n after l
-    ∙ digits-append f (n / 10) (d ∷ after)
-    ∙ sym (append-assoc (digitsBefore f (n / 10) []) (d ∷ []) after)
-    ∙ ap (λ (t : List ℕ). t ++ after) (sym (digits-append f (n / 10) (d ∷ [])) ∙ sym (digits-step f n [] l)))
-    (lt-or-le n 10)
-
--- one digit
-pub decimal-one : (n : ℕ) → n < 10 → decimal n ≡ (48 + n) ∷ []
-unfolding decimal
-decimal-one n h = digits-small n n [] h (omega arith)
-
--- the digits before the last one, and the last one
-pub decimal-more : (n : ℕ) → 10 ≤ n → decimal n ≡ decimal (n / 10) ++ (48 + n % 10) ∷ []
-unfolding decimal
-decimal-more zero h = absurd (omega arith)
-decimal-more (suc n) h =
-    digits-step n (suc n) [] h
-    ∙ digits-append n (suc n / 10) ((48 + suc n % 10) ∷ [])
-    ∙ ap (λ (l : List ℕ). l ++ (48 + suc n % 10) ∷ []) (digits-any n (suc n / 10) (suc n / 10) [] (omega arith) (omega arith))
-
--- ---- how many digits
+use Rattle.spec.specs.Text.{decimal}
+use Rattle.laws.proofs.Bounds.{decimal-one, decimal-more}
 
 pub length-one : (n : ℕ) → n < 10 → length (decimal n) ≡ 1
 length-one n h = ap length (decimal-one n h)

@@ -10,8 +10,8 @@ use lib.Seq.{sets-eq, length-sets, take-all, take-suc}
 use Rattle.basis.specs.Lists.{joinAll, overwrite}
 use Rattle.basis.proofs.Next.{sets-append}
 use Rattle.spec.specs.Text.{decimal}
+use Rattle.laws.proofs.Bounds.{decimal-one, decimal-more}
 use Rattle.writing.specs.Written.{Room, Put}
-use Rattle.writing.proofs.Decimals.{decimal-one, decimal-more}
 
 -- nothing put
 pub put-none : (at : ℕ) (l : List ℕ) → Put [] at at l l
