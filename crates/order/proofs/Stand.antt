@@ -15,7 +15,7 @@ use Rattle.basis.specs.Perm.{Perm}
 use Rattle.basis.proofs.Count.{bit-one, bit-none, count-append, times-none}
 use Rattle.basis.proofs.Index.{getD-map-upFrom}
 use Rattle.basis.proofs.Lists.{length-upFrom, memb-append, memb-one, map-cong}
-use Rattle.basis.proofs.Logic.{clash, by-test, or-split, or-left, or-right, eq-or-ne}
+use Rattle.basis.proofs.Logic.{clash, by-test, or-split, or-right, eq-or-ne}
 use Rattle.basis.proofs.Perm.{perm-memb, perm-append, perm-refl, perm-length}
 use Rattle.ranking.proofs.Sort.{once-most}
 use Rattle.order.specs.Model.{marksOf, stand, orderIn, Listed, Open, Became}
@@ -37,12 +37,6 @@ listed-append {n} {a} {b} A B apart = record {
       (λ e. omega (arith, count-append (eqb x) a b, B .once x, times-none x a (apart x e)))
       (λ e. omega (arith, count-append (eqb x) a b, A .once x, times-none x b e));
   inside = λ z m. ⊎-elim (λ e. A .inside z e) (λ e. B .inside z e) (or-split (memb z a) (memb z b) (sym (memb-append z a b) ∙ m));
-}
-
-pub listed-front : {n : ℕ} (a b : List ℕ) → Listed n (a ++ b) → Listed n a
-listed-front a b L = record {
-  once = λ x. omega (arith, count-append (eqb x) a b, L .once x);
-  inside = λ z m. L .inside z (memb-append z a b ∙ or-left (memb z b) m);
 }
 
 pub listed-one : {n : ℕ} (z : ℕ) → 1 ≤ z → z ≤ n → Listed n (z ∷ [])

@@ -1,7 +1,6 @@
 -- For a caller that walks the members part by part: after j parts, the next stands from a on, where a is the count of their nodes.
 -- Assumes nothing.
 use mathlib.Core.Path.{_≡_, refl, sym, ap, _∙_}
-use mathlib.Core.Logic.{⊎-elim}
 use mathlib.Core.Bool.{true, false≢true}
 use mathlib.Core.List.{List, [], _∷_, _++_, append-assoc}
 use Prim.Native.Nat.{ℕ, suc, _+_, _≤_, _<_}
@@ -12,7 +11,6 @@ use lib.Seq.{take-all, take-at, getD-drop, getD-append-add, drop-append-add, dro
 use Rattle.basis.specs.Lists.{joinAll, headOr, memb}
 use Rattle.basis.proofs.Index.{getD-map, memb-getD}
 use Rattle.basis.proofs.Lists.{memb-length}
-use Rattle.basis.proofs.Logic.{lt-or-le}
 use Rattle.spec.specs.Graph.{Graph}
 use Rattle.spec.specs.Levels.{levels, reached, part, leaders, parts}
 use Rattle.laws.specs.Legal.{Node, LegalGraph}
@@ -20,15 +18,11 @@ use Rattle.laws.proofs.Figures.{reached-part}
 use Rattle.laws.proofs.Levels.{part-self}
 use Rattle.laws.proofs.Parts.{leaders-in}
 use Rattle.parts.specs.Walked.{Walked, leaderAt}
-use Rattle.parts.proofs.Joins.{offset, drop-join, join-at, offset-suc, offset-most}
+use Rattle.parts.proofs.Joins.{offset, join-at, offset-suc, offset-most}
 use Rattle.parts.proofs.Leads.{parts-length}
 
 pub walk-begin : (g : Graph) → Walked g 0 0
 walk-begin g = record { some = omega arith; nodes = refl }
-
--- the members from there on are those of the other parts
-pub walk-rest : {g : Graph} {j a : ℕ} → Walked g j a → drop a (joinAll (parts g)) ≡ joinAll (drop j (parts g))
-walk-rest {g} {j} {a} P = ap (λ (k : ℕ). drop k (joinAll (parts g))) (P .nodes) ∙ drop-join (parts g) j
 
 module _ {g : Graph} (G : LegalGraph g) {j a : ℕ} (P : Walked g j a) where
   count : length (parts g) ≡ length (leaders g)
@@ -41,10 +35,6 @@ module _ {g : Graph} (G : LegalGraph g) {j a : ℕ} (P : Walked g j a) where
   -- after the last part no node is left, and so a part is where a node is
   pub walk-end : length (parts g) ≤ j → a ≡ g .size
   walk-end e = P .nodes ∙ ap (λ (ls : List (List ℕ)). length (joinAll ls)) (take-all j (parts g) e) ∙ parts-length G
-
-  pub walk-more : a < g .size → j < length (parts g)
-  walk-more h =
-      ⊎-elim (λ (l : j < length (parts g)). l) (λ (e : length (parts g) ≤ j). absurd (omega (arith, walk-end e))) (lt-or-le j (length (parts g)))
 
   -- one part more
   module _ (h : j < length (parts g)) where
