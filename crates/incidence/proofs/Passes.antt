@@ -1,7 +1,7 @@
 -- Passes over elements and over lists of them: what is left to do completes what is done. Assumes nothing.
 use mathlib.Core.Path.{_≡_, refl, sym, ap, subst, _∙_}
 use mathlib.Core.Logic.{⊎-elim}
-use mathlib.Core.Bool.{Bool, false, _&&_, _||_, or-assoc, or-false}
+use mathlib.Core.Bool.{Bool, false, _||_, or-assoc, or-false}
 use mathlib.Core.List.{List}
 use Prim.Native.Nat.{ℕ, zero, suc, _+_, _*_, _≤_, _<_}
 use native.Mathlib.Omega.{arith}
@@ -169,43 +169,7 @@ module _ (ws : List ℕ) (rows : ℕ) (words : List ℕ) (K : Linked ws rows wor
       at = λ x l. sym (or-false (has bits x)) ∙ ap (λ (c : ℕ). has bits x || holdIn (nodeIn ws) c rows words c (suc x)) (sym z) ∙ W .at x l;
     }
 
--- ---- all elements are looked at
-
--- the set has the nodes of the elements before place j that hold p, completed by those from j on
-pub record Holding (n : ℕ) (ws : List ℕ) (p : ℕ) (before : List ℕ) (j : ℕ) (bits : List ℕ) (mask : ℕ) : Type 0 where
-  pub size : length bits ≡ 64
-  pub covered : Covered mask bits
-  pub good : refusalFrom n (drop j ws) ≡ 0
-  pub at : (x : ℕ) → x < 4096 → has bits x || share (elements (drop j ws)) p (suc x) ≡ has before x || share (elements ws) p (suc x)
-
-module _ (n : ℕ) (ws : List ℕ) (p : ℕ) (before : List ℕ) where
-  pub holding-begin : refusalFrom n ws ≡ 0 → length before ≡ 64 → Empty before → Holding n ws p before 0 before 0
-  holding-begin e s z = record { size = s; covered = covered-none before z; good = e; at = λ x l. refl }
-
-  module _ (j : ℕ) (bits : List ℕ) (mask : ℕ) (H : Holding n ws p before j bits mask) where
-    pub holding-step : j < length ws → (next : List ℕ) (mask′ : ℕ) → length next ≡ length bits → Covered mask′ next → Added (λ q. nodeIn ws j p && nodeIn ws j q) bits next
-        → Holding n ws p before (j + 1 + nodeCount (getD ws j 0)) next mask′
-    unfolding share nodeIn
-    holding-step h next mask′ s C A = record {
-      size = s ∙ H .size;
-      covered = C;
-      good = refusal-none n ws j h (H .good) .1;
-      at = λ x l.
-          ap (λ b. b || share (elements (drop (j + 1 + nodeCount (getD ws j 0)) ws)) p (suc x)) (A .at x l)
-          ∙ or-assoc (has bits x) _ _
-          ∙ ap (λ (els : List (List ℕ)). has bits x || share els p (suc x)) (sym (elements-next ws j h))
-          ∙ H .at x l;
-    }
-
-    pub holding-done : length ws ≤ j → Added (share (elements ws) p) before bits
-    unfolding share
-    holding-done h = record {
-      at = λ x l. sym (or-false (has bits x)) ∙ ap (λ (els : List (List ℕ)). has bits x || share els p (suc x)) (sym (elements-over ws j h)) ∙ H .at x l;
-    }
-
--- no element adds nothing
-pub added-none : {t : ℕ → Bool} (bits : List ℕ) → ((q : ℕ) → t q ≡ false) → Added t bits bits
-added-none bits z = record { at = λ x l. sym (or-false (has bits x)) ∙ ap (λ b. has bits x || b) (sym (z (suc x))) }
+-- ---- another word for the same test
 
 pub added-by : {t t′ : ℕ → Bool} {a b : List ℕ} → Added t a b → ((q : ℕ) → t q ≡ t′ q) → Added t′ a b
 added-by {a = a} A e = record { at = λ x l. A .at x l ∙ ap (λ c. has a x || c) (e (suc x)) }

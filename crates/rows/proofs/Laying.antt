@@ -14,7 +14,6 @@ use Rattle.spec.specs.Graph.{Graph, nodes, degree, graphBy}
 use Rattle.spec.specs.Mesh.{elements, joins, meshGraph, entryCount, startList, neighbourList}
 use Rattle.spec.specs.CallsMesh.{graphOfElements}
 use Rattle.laws.proofs.ByTest.{graphBy-row}
-use Rattle.rowset.specs.Set.{Empty}
 use Rattle.rows.specs.Rows.{entriesTo, Laid, Goes, Ready}
 
 -- ---- the graph of a mesh
@@ -139,22 +138,22 @@ laid-neighbours n ws S N S′ N′ h L =
 
 -- ---- rows from base on, up to i
 
-pub record Filling (n : ℕ) (ws : List ℕ) (base : ℕ) (starts₀ neighbours₀ bits starts neighbours : List ℕ) (to i : ℕ) : Type 0 where
-  pub ready : Ready n ws bits starts
+pub record Filling (n : ℕ) (ws : List ℕ) (base : ℕ) (starts₀ neighbours₀ starts neighbours : List ℕ) (to i : ℕ) : Type 0 where
+  pub ready : Ready n ws starts
   pub starts-length : length starts ≡ length starts₀
   pub neighbours-length : length neighbours ≡ length neighbours₀
   pub gone : Goes (graphOfElements n ws) base starts₀ neighbours₀ i starts neighbours to
 
-pub filling-begin : (n : ℕ) (ws : List ℕ) (base : ℕ) (bits S N : List ℕ) (to : ℕ) → Ready n ws bits S → to ≡ entriesTo (graphOfElements n ws) base → Filling n ws base S N bits S N to base
-filling-begin n ws base bits S N to R e = record { ready = R; starts-length = refl; neighbours-length = refl; gone = goes-none (graphOfElements n ws) base S N to e }
+pub filling-begin : (n : ℕ) (ws : List ℕ) (base : ℕ) (S N : List ℕ) (to : ℕ) → Ready n ws S → to ≡ entriesTo (graphOfElements n ws) base → Filling n ws base S N S N to base
+filling-begin n ws base S N to R e = record { ready = R; starts-length = refl; neighbours-length = refl; gone = goes-none (graphOfElements n ws) base S N to e }
 
-pub filling-step : (n : ℕ) (ws : List ℕ) (base : ℕ) (S₀ N₀ bits S N : List ℕ) (to i : ℕ) → Filling n ws base S₀ N₀ bits S N to i
-    → (bits′ S′ N′ : List ℕ) (to′ j : ℕ) → length bits′ ≡ length bits → length S′ ≡ length S → length N′ ≡ length N → Empty bits′ → Goes (graphOfElements n ws) i S N j S′ N′ to′
-    → Filling n ws base S₀ N₀ bits′ S′ N′ to′ j
-filling-step n ws base S₀ N₀ bits S N to i F bits′ S′ N′ to′ j b s m E G =
+pub filling-step : (n : ℕ) (ws : List ℕ) (base : ℕ) (S₀ N₀ S N : List ℕ) (to i : ℕ) → Filling n ws base S₀ N₀ S N to i
+    → (S′ N′ : List ℕ) (to′ j : ℕ) → length S′ ≡ length S → length N′ ≡ length N → Goes (graphOfElements n ws) i S N j S′ N′ to′
+    → Filling n ws base S₀ N₀ S′ N′ to′ j
+filling-step n ws base S₀ N₀ S N to i F S′ N′ to′ j s m G =
     let R = F .ready in
     record {
-      ready = record { few = R .few; good = R .good; size = b ∙ R .size; empty = E; small = λ h. R .small (omega (arith, s)) };
+      ready = record { few = R .few; good = R .good; small = λ h. R .small (omega (arith, s)) };
       starts-length = s ∙ F .starts-length;
       neighbours-length = m ∙ F .neighbours-length;
       gone = goes-then (F .gone) G;

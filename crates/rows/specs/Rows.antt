@@ -28,13 +28,16 @@ pub record Goes (g : Graph) (i : ℕ) (starts neighbours : List ℕ) (j : ℕ) (
   pub end : to ≡ entriesTo g j
   pub goes : (starts₀ neighbours₀ : List ℕ) → Laid g starts₀ neighbours₀ i starts neighbours → Laid g starts₀ neighbours₀ j starts′ neighbours′
 
--- what the next row asks for: elements that are not refused, an empty set, and ends that fit a word if they are written
-pub record Ready (n : ℕ) (ws bits starts : List ℕ) : Type 0 where
+-- what rows ask for: elements that are not refused, and ends that fit a word if they are written
+pub record Ready (n : ℕ) (ws starts : List ℕ) : Type 0 where
   pub few : n ≤ 4096
   pub good : elementsRefusal (length ws) n ws ≡ 0
+  pub small : 1 ≤ length starts → entryCount (graphOfElements n ws) ≤ 32768
+
+-- a set of 64 words that is empty
+pub record Clean (bits : List ℕ) : Type 0 where
   pub size : length bits ≡ 64
   pub empty : Empty bits
-  pub small : 1 ≤ length starts → entryCount (graphOfElements n ws) ≤ 32768
 
 -- the two lists have room for a graph of n nodes
 pub record Room (g : Graph) (n : ℕ) (starts neighbours : List ℕ) : Type 0 where

@@ -11,7 +11,7 @@ ghost use Rattle.incidence.specs.Cells.{Cells, pushed, Entered, Listed};
 
 // The place of row p among those after base. The difference wraps: a row up to base gets a place past all rows, so one test tells. No word is
 // above 65,535, so a base up there is as good as that.
-fn row_of(p: u16, base: usize) -> usize
+pub fn row_of(p: u16, base: usize) -> usize
     ensures { λ r. ⌜ ((k : ℕ) → k < 4096 → eqb (base + suc k) p ≡ eqb k r) ⌝ }
 {
     std::num::wrapping_sub_usize(words::wide(p), words::smaller(base, 65535) + 1)
@@ -84,14 +84,15 @@ fn list(lists: &mut [u16], elements: &[u16], base: usize, rows: usize) -> bool
     true
 }
 
-// Lists the elements of as many rows after base as there is room for, in steps of a half; returns how many rows, `most` at most.
+// Lists the elements of as many rows after base as there is room for, in steps of a half; returns how many rows, `most` at most. So few as 64
+// rows are not listed: they need no lists (crate gathering).
 pub fn list_rows(lists: &mut [u16], elements: &[u16], base: usize, most: usize) -> usize
     requires { ⌜ (length (now lists) ≤ 4096) × (most + 2 ≤ length (now lists)) × (length (now elements) ≤ 65536) ⌝ }
     requires { ⌜ elementsRefusal (length (now elements)) (length (now lists)) (now elements) ≡ 0 ⌝ }
     ensures { λ r. ⌜ (r ≤ most) × (1 ≤ r → Listed (now (elements .entry)) base r (now (lists .exit))) ⌝ }
 {
     let mut rows = most;
-    while 0 < rows {
+    while 64 < rows {
         if list(lists, elements, base, rows) {
             return rows;
         }

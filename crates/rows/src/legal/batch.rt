@@ -1,12 +1,12 @@
 // All rows, as many at a time as the lists of their elements have room.
 ghost use mathlib.Core.Path.{_≡_};
-ghost use Prim.Native.Nat.{_+_, _≤_, _<_, max};
-ghost use lib.ListN.{length};
+ghost use Prim.Native.Nat.{_+_, _≤_, _<_};
+ghost use lib.ListN.{length, replicate};
 ghost use Rattle.spec.specs.Mesh.{elementsRefusal};
 ghost use Rattle.spec.specs.CallsMesh.{graphOfElements};
 ghost use Rattle.rowset.specs.Set.{Empty};
 ghost use Rattle.incidence.specs.Cells.{Listed};
-ghost use Rattle.rows.specs.Rows.{entriesTo, Ready, Goes, Laid};
+ghost use Rattle.rows.specs.Rows.{entriesTo, Ready, Clean, Goes, Laid};
 
 // How many rows to try first, of those guessed: twice as many as had room last at most, or all where none had.
 fn to_try(guess: usize, last: usize) -> usize
@@ -19,8 +19,8 @@ fn to_try(guess: usize, last: usize) -> usize
     words::smaller(guess, 2 * last)
 }
 
-// Lists the elements of some rows after base, and returns of how many: 0 where not even one row has room, or positions don't fit a word.
-// A row takes a word, and two for each element: a guess by the elements that a row has in the mean. `last` is what this returned last: near a
+// Lists the elements of some rows after base, and returns of how many: 0 where 64 rows or fewer have room, or positions don't fit a word.
+// A row takes a word, and two for each element: a guess by the elements that a row has in the mean. `last` is how many rows went last: near a
 // node of very many elements, the guess would fail again.
 fn list_some(lists: &mut [u16], elements: &[u16], base: usize, last: usize) -> usize
     requires { ⌜ (length (now lists) ≤ 4096) × (base < length (now lists)) × (last ≤ 4096) ⌝ }
@@ -40,6 +40,16 @@ fn list_some(lists: &mut [u16], elements: &[u16], base: usize, last: usize) -> u
     incidence::legal::listing::list_rows(lists, elements, base, most)
 }
 
+// How many rows go next, after base: over 64 where the elements of so many are listed now, else those of a group, 64 or as many as are left.
+fn next_rows(lists: &mut [u16], elements: &[u16], base: usize, last: usize) -> usize
+    requires { ⌜ (length (now lists) ≤ 4096) × (base < length (now lists)) × (last ≤ 4096) ⌝ }
+    requires { ⌜ elementsRefusal (length (now elements)) (length (now lists)) (now elements) ≡ 0 ⌝ }
+    ensures { λ r. ⌜ (1 ≤ r) × (base + r ≤ length (now (lists .entry))) × (64 < r → Listed (now (elements .entry)) base r (now (lists .exit))) ⌝ }
+{
+    let group = words::smaller(lists.len() - base, 64);
+    words::larger(list_some(lists, elements, base, last), group)
+}
+
 // The rows after base whose elements are listed.
 fn listed_rows(
     bits: &mut [u64],
@@ -51,7 +61,7 @@ fn listed_rows(
     starts: &mut [u16],
     neighbours: &mut [u16],
 ) -> usize
-    requires { ⌜ Ready (length (now lists)) (now elements) (now bits) (now starts) ⌝ }
+    requires { ⌜ Ready (length (now lists)) (now elements) (now starts) × Clean (now bits) ⌝ }
     requires { ⌜ Listed (now elements) base rows (now lists) × (base + rows ≤ length (now lists)) ⌝ }
     requires { ⌜ at ≡ entriesTo (graphOfElements (length (now lists)) (now elements)) base ⌝ }
     ensures { λ _. ⌜ Empty (now (bits .exit)) ⌝ }
@@ -76,7 +86,51 @@ fn listed_rows(
     to
 }
 
-// The rows after base whose elements are listed, or one row where none is.
+// The rows after base, 64 of them at most, out of their sets: one pass over the elements fills these.
+fn gathered_rows(
+    group: &mut [u64],
+    n: usize,
+    elements: &[u16],
+    base: usize,
+    rows: usize,
+    at: usize,
+    starts: &mut [u16],
+    neighbours: &mut [u16],
+) -> usize
+    requires { ⌜ Ready n (now elements) (now starts) × (rows ≤ 64) × (base + rows ≤ n) ⌝ }
+    requires { ⌜ now group ≡ replicate 4096 0 ⌝ }
+    requires { ⌜ at ≡ entriesTo (graphOfElements n (now elements)) base ⌝ }
+    ensures { λ r. ⌜ Goes (graphOfElements n (now (elements .entry))) base (now (starts .entry)) (now (neighbours .entry)) (base + rows) (now (starts .exit)) (now (neighbours .exit)) r ⌝ }
+{
+    gathering::legal::gather(group, elements, base);
+    let mut to = at;
+    let mut row = 0;
+    while row < rows {
+        to = super::row::gathered_row(group, base, row, to, starts, neighbours);
+        row += 1;
+    }
+    to
+}
+
+// The same rows, with their sets: a fresh array, 32 KB.
+fn group_rows(
+    n: usize,
+    elements: &[u16],
+    base: usize,
+    rows: usize,
+    at: usize,
+    starts: &mut [u16],
+    neighbours: &mut [u16],
+) -> usize
+    requires { ⌜ Ready n (now elements) (now starts) × (rows ≤ 64) × (base + rows ≤ n) ⌝ }
+    requires { ⌜ at ≡ entriesTo (graphOfElements n (now elements)) base ⌝ }
+    ensures { λ r. ⌜ Goes (graphOfElements n (now (elements .entry))) base (now (starts .entry)) (now (neighbours .entry)) (base + rows) (now (starts .exit)) (now (neighbours .exit)) r ⌝ }
+{
+    let mut group = [0u64; 4096];
+    gathered_rows(&mut group, n, elements, base, rows, at, starts, neighbours)
+}
+
+// The rows after base: listed where they are over 64, else a group.
 fn some_rows(
     bits: &mut [u64],
     lists: &[u16],
@@ -87,15 +141,15 @@ fn some_rows(
     starts: &mut [u16],
     neighbours: &mut [u16],
 ) -> usize
-    requires { ⌜ Ready (length (now lists)) (now elements) (now bits) (now starts) ⌝ }
-    requires { ⌜ (1 ≤ rows → Listed (now elements) base rows (now lists)) × (base + max rows 1 ≤ length (now lists)) ⌝ }
+    requires { ⌜ Ready (length (now lists)) (now elements) (now starts) × Clean (now bits) ⌝ }
+    requires { ⌜ (64 < rows → Listed (now elements) base rows (now lists)) × (base + rows ≤ length (now lists)) ⌝ }
     requires { ⌜ at ≡ entriesTo (graphOfElements (length (now lists)) (now elements)) base ⌝ }
     ensures { λ _. ⌜ Empty (now (bits .exit)) ⌝ }
-    ensures { λ r. ⌜ Goes (graphOfElements (length (now (lists .entry))) (now (elements .entry))) base (now (starts .entry)) (now (neighbours .entry)) (base + max rows 1) (now (starts .exit)) (now (neighbours .exit)) r ⌝ }
+    ensures { λ r. ⌜ Goes (graphOfElements (length (now (lists .entry))) (now (elements .entry))) base (now (starts .entry)) (now (neighbours .entry)) (base + rows) (now (starts .exit)) (now (neighbours .exit)) r ⌝ }
 {
-    if rows == 0 {
+    if rows <= 64 {
         let n = lists.len();
-        return super::row::direct_row(bits, n, elements, base, at, starts, neighbours);
+        return group_rows(n, elements, base, rows, at, starts, neighbours);
     }
     listed_rows(bits, lists, elements, base, rows, at, starts, neighbours)
 }
@@ -108,7 +162,7 @@ pub(crate) fn all_rows(
     starts: &mut [u16],
     neighbours: &mut [u16],
 ) -> usize
-    requires { ⌜ Ready (length (now lists)) (now elements) (now bits) (now starts) ⌝ }
+    requires { ⌜ Ready (length (now lists)) (now elements) (now starts) × Clean (now bits) ⌝ }
     ensures { λ r. ⌜ r ≡ entriesTo (graphOfElements (length (now (lists .entry))) (now (elements .entry))) (length (now (lists .entry))) ⌝ }
     ensures { λ _. ⌜ Laid (graphOfElements (length (now (lists .entry))) (now (elements .entry))) (now (starts .entry)) (now (neighbours .entry)) (length (now (lists .entry))) (now (starts .exit)) (now (neighbours .exit)) ⌝ }
 {
@@ -117,9 +171,9 @@ pub(crate) fn all_rows(
     let mut base = 0;
     let mut rows = 0;
     while base < n {
-        rows = list_some(lists, elements, base, rows);
+        rows = next_rows(lists, elements, base, rows);
         to = some_rows(bits, lists, elements, base, rows, to, starts, neighbours);
-        base += words::larger(rows, 1);
+        base += rows;
     }
     to
 }

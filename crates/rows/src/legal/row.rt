@@ -1,12 +1,13 @@
 // One row: its set is filled out of its elements, and emptied into the lists. Past the end of a list, what would be written is only counted.
 ghost use mathlib.Core.Path.{_≡_};
-ghost use Prim.Native.Nat.{_+_, _≤_, _<_};
+ghost use Prim.Native.Nat.{ℕ, _+_, _≤_, _<_};
 ghost use lib.ListN.{length, set};
 ghost use lib.Seq.{sets};
 ghost use Rattle.spec.specs.CallsMesh.{graphOfElements};
 ghost use Rattle.rowset.specs.Set.{Covered, Empty, members};
 ghost use Rattle.incidence.specs.Cells.{Listed};
-ghost use Rattle.rows.specs.Rows.{entriesTo, Ready, Goes};
+ghost use Rattle.gathering.specs.Sets.{setAt};
+ghost use Rattle.rows.specs.Rows.{entriesTo, Ready, Clean, Goes};
 
 // Writes where row p ends.
 fn mark_end(starts: &mut [u16], p: usize, to: usize)
@@ -51,7 +52,7 @@ pub(crate) fn listed_row(
     starts: &mut [u16],
     neighbours: &mut [u16],
 ) -> usize
-    requires { ⌜ Ready (length (now lists)) (now elements) (now bits) (now starts) ⌝ }
+    requires { ⌜ Ready (length (now lists)) (now elements) (now starts) × Clean (now bits) ⌝ }
     requires { ⌜ Listed (now elements) base rows (now lists) × (row < rows) × (base + rows ≤ length (now lists)) ⌝ }
     requires { ⌜ at ≡ entriesTo (graphOfElements (length (now lists)) (now elements)) (base + row) ⌝ }
     ensures { λ _. ⌜ Empty (now (bits .exit)) ⌝ }
@@ -61,22 +62,30 @@ pub(crate) fn listed_row(
     close_row(bits, mask, base + row + 1, at, starts, neighbours)
 }
 
-// The next row, that of base + 1 of n, out of all elements.
-pub(crate) fn direct_row(
-    bits: &mut [u64],
-    n: usize,
-    elements: &[u16],
+// The next row, out of its set in a group of sets: that of row base + row + 1. The mask that has all bits covers every set.
+pub(crate) fn gathered_row(
+    group: &mut [u64],
     base: usize,
+    row: usize,
     at: usize,
     starts: &mut [u16],
     neighbours: &mut [u16],
 ) -> usize
-    requires { ⌜ Ready n (now elements) (now bits) (now starts) × (base < n) ⌝ }
-    requires { ⌜ at ≡ entriesTo (graphOfElements n (now elements)) base ⌝ }
-    ensures { λ _. ⌜ Empty (now (bits .exit)) ⌝ }
-    ensures { λ r. ⌜ Goes (graphOfElements n (now (elements .entry))) base (now (starts .entry)) (now (neighbours .entry)) (base + 1) (now (starts .exit)) (now (neighbours .exit)) r ⌝ }
+    requires { ⌜ (length (now group) ≡ 4096) × (row < 64) × (base + row < 4096) × (at ≤ 2147483648) ⌝ }
+    requires { ⌜ (base + row + 1 < length (now starts) → at + length (members (base + row + 1) (setAt (now group) row)) ≤ 32768) ⌝ }
+    ensures { λ r. ⌜ r ≡ at + length (members (base + row + 1) (setAt (now (group .entry)) row)) ⌝ }
+    ensures { λ _. ⌜ ((k : ℕ) → row < k → setAt (now (group .exit)) k ≡ setAt (now (group .entry)) k) ⌝ }
+    ensures { λ r. ⌜ now (starts .exit) ≡ set (now (starts .entry)) (base + row + 1) r ⌝ }
+    ensures { λ _. ⌜ now (neighbours .exit) ≡ sets (now (neighbours .entry)) at (members (base + row + 1) (setAt (now (group .entry)) row)) ⌝ }
 {
-    let p = base + 1;
-    let mask = incidence::legal::adding::add_all(bits, elements, p as u16);
-    close_row(bits, mask, p, at, starts, neighbours)
+    let first = 64 * row;
+    let next = first + 64;
+    close_row(
+        &mut group[first..next],
+        18446744073709551615,
+        base + row + 1,
+        at,
+        starts,
+        neighbours,
+    )
 }

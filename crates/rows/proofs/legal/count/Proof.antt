@@ -8,14 +8,14 @@ use lib.ListN.{length}
 use Rattle.basis.proofs.Lists.{length-none}
 use Rattle.laws.proofs.Lent.{zeroed-all}
 use Rattle.rows.proofs.Laying.{entries-all}
-use Rattle.rows.proofs.Rows.{zeros-empty}
+use Rattle.rows.proofs.Rows.{zeros-clean}
 use Rattle.rows.proofs.legal.count.Statement.{statement}
 use Rattle.rows.proofs.legal.count.Tie as tie
 
 all-rows-requires : tie.Need-all-rows-requires
 all-rows-requires c κs =
     let s = c .before .before .before .before .before .before .before .before in
-    record { few = s .pre .0; good = s .pre .1; size = refl; empty = zeros-empty; small = λ h. absurd (omega arith) }
+    (record { few = s .pre .0; good = s .pre .1; small = λ h. absurd (omega arith) }, zeros-clean)
 
 -- nothing was written
 starts-kept : (c : tie.After-all-rows) → c .all-rows .last .1 .1 .1 .0 ++ now (c .before .before .before .before .before .before .before .before .before .args .starts) ≡ now (c .before .before .before .before .before .before .before .before .before .args .starts)

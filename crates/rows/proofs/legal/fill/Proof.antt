@@ -5,14 +5,14 @@ use denote.Ref.{now}
 use lib.ListN.{length, set, length-set}
 use Rattle.laws.proofs.Lent.{zeroed-all}
 use Rattle.rows.proofs.Laying.{entries-all, laid-starts, laid-neighbours}
-use Rattle.rows.proofs.Rows.{zeros-empty}
+use Rattle.rows.proofs.Rows.{zeros-clean}
 use Rattle.rows.proofs.legal.fill.Statement.{statement}
 use Rattle.rows.proofs.legal.fill.Tie as tie
 
 all-rows-requires : tie.Need-all-rows-requires
 all-rows-requires c κs =
     let s = c .before .before .before .before .before .before .before .before in
-    record { few = s .pre .1 .few; good = s .pre .0; size = refl; empty = zeros-empty; small = λ h. s .pre .1 .small }
+    (record { few = s .pre .1 .few; good = s .pre .0; small = λ h. s .pre .1 .small }, zeros-clean)
 
 returns : tie.Need-returns
 returns c =

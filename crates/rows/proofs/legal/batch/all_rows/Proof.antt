@@ -1,90 +1,97 @@
 -- `rows::legal::batch::all_rows` meets its contract. Assumes nothing.
-use Prim.Native.Nat.{ℕ, _+_, _-_, _≤_, max}
-use mathlib.Core.Path.{_≡_, refl, sym, ap, subst, subst₂, _∙_}
+use Prim.Native.Nat.{ℕ, _+_, _-_, _≤_}
+use mathlib.Core.Path.{_≡_, refl, sym, ap, subst, _∙_}
 use native.Mathlib.Omega.{arith}
 use denote.Ref.{now}
-use borrow.Author.Needs.{needs}
 use lib.ListN.{length}
 use Rattle.spec.specs.Mesh.{elementsRefusal}
 use Rattle.spec.specs.CallsMesh.{graphOfElements}
-use Rattle.rows.specs.Rows.{entriesTo, Laid, Ready, Goes}
+use Rattle.rows.specs.Rows.{entriesTo, Laid, Ready, Clean, Goes}
 use Rattle.rows.proofs.Laying.{to-none, laid-begin, Filling, filling-begin, filling-step}
 use Rattle.rows.proofs.legal.batch.all_rows.Statement.{statement}
 use Rattle.rows.proofs.legal.batch.all_rows.Tie as tie
 
 abbrev Inv-loop : tie.InvT-loop
 Inv-loop bits₀ lists₀ elements starts₀ neighbours₀ n to₀ base₀ rows₀ bits lists starts neighbours to base rows =
-    (n ≡ length lists₀) × (base ≤ length lists₀) × (length lists ≡ length lists₀) × Filling (length lists₀) elements 0 starts₀ neighbours₀ bits starts neighbours to base × (rows ≤ 4096)
+    (n ≡ length lists₀) × (base ≤ length lists₀) × (length lists ≡ length lists₀) × Filling (length lists₀) elements 0 starts₀ neighbours₀ starts neighbours to base × Clean bits × (rows ≤ 4096)
 
 abbrev μ-loop : tie.MeasureT-loop
 μ-loop bits₀ lists₀ elements starts₀ neighbours₀ n to₀ base₀ rows₀ bits lists starts neighbours to base rows = n - base
+
+-- the places, from the end back to the start
+abbrev done : tie.After-slice-known8 Inv-loop μ-loop → tie.After-some-rows Inv-loop μ-loop
+done c = c .before .before .before .before .before .before
+
+abbrev chosen : tie.After-some-rows Inv-loop μ-loop → tie.After-next-rows Inv-loop μ-loop
+chosen c = c .before .before .before .before .before .before .before
+
+abbrev looped : tie.After-next-rows Inv-loop μ-loop → tie.At-loop Inv-loop μ-loop
+looped c = c .before .before .before
+
+abbrev first : tie.At-loop Inv-loop μ-loop → tie.Start Inv-loop μ-loop
+first l = l .before .before .before .before .before .before
 
 loop-holds : tie.Need-loop-holds Inv-loop μ-loop
 loop-holds c =
     let s = c .before .before .before .before .before in
     let a = s .args in
-    (refl, omega arith, refl, filling-begin (length (now (a .lists))) (now (a .elements)) 0 (now (a .bits)) (now (a .starts)) (now (a .neighbours)) 0 (s .pre) (to-none _), omega arith)
+    (refl, omega arith, refl, filling-begin (length (now (a .lists))) (now (a .elements)) 0 (now (a .starts)) (now (a .neighbours)) 0 (s .pre .0) (to-none _), s .pre .1, omega arith)
 
-list-some-requires : tie.Need-list-some-requires Inv-loop μ-loop
-list-some-requires c κs =
-    let i = c .before .before .loop .inv in
-    let W = now (c .before .before .before .before .before .before .before .before .args .elements) in
-    ((omega (arith, i .2, i .3 .ready .few), omega (arith, i .2, i .0, c .before .loop-test .taken), i .4), ap (λ (n : ℕ). elementsRefusal (length W) n W) (i .2) ∙ i .3 .ready .good)
+next-rows-requires : tie.Need-next-rows-requires Inv-loop μ-loop
+next-rows-requires c κs =
+    let l = c .before .before in
+    let i = l .loop .inv in
+    let W = now (first l .args .elements) in
+    ((omega (arith, i .2, i .3 .ready .few), omega (arith, i .2, i .0, c .before .loop-test .taken), i .5), ap (λ (n : ℕ). elementsRefusal (length W) n W) (i .2) ∙ i .3 .ready .good)
 
 -- the lists keep their number of words
-same : (c : tie.After-list-some Inv-loop μ-loop) → length (now (c .before .before .before .before .before .before .before .before .before .args .lists)) ≡ length (c .list-some .last .0)
-same c = sym (c .list-some .kept .0 ∙ c .before .before .before .loop .inv .2)
+same : (c : tie.After-next-rows Inv-loop μ-loop) → length (now (first (looped c) .args .lists)) ≡ length (c .next-rows .last .0)
+same c = sym (c .next-rows .kept .0 ∙ looped c .loop .inv .2)
 
--- the rows lie within the graph
-within : (c : tie.After-list-some Inv-loop μ-loop) → c .before .before .before .loop .base + max (c .list-some .result) 1 ≤ length (now (c .before .before .before .before .before .before .before .before .before .args .lists))
-within c =
-    let i = c .before .before .before .loop .inv in
-    omega (arith, c .list-some .ensures .0, i .0, i .2, c .before .before .loop-test .taken)
+-- there are rows, within the graph
+within : (c : tie.After-next-rows Inv-loop μ-loop) → (1 ≤ c .next-rows .result) × (looped c .loop .base + c .next-rows .result ≤ length (now (first (looped c) .args .lists)))
+within c = (c .next-rows .ensures .0, omega (arith, c .next-rows .ensures .1, looped c .loop .inv .2))
 
 some-rows-requires : tie.Need-some-rows-requires Inv-loop μ-loop
 some-rows-requires c κs =
     let d = c .before .before .before .before .before .before in
-    let l = c .before .before .before .before .before .before .before .before .before in
-    let F = l .loop .inv .3 in
-    let W = now (c .before .before .before .before .before .before .before .before .before .before .before .before .before .before .before .args .elements) in (
-      subst (λ (n : ℕ). Ready n W (l .loop .bits) (l .loop .starts)) (same d) (F .ready),
-      ((d .list-some .ensures .1, omega (arith, within d, same d)), F .gone .end ∙ ap (λ (n : ℕ). entriesTo (graphOfElements n W) (l .loop .base)) (same d)),
+    let l = looped d .loop in
+    let F = l .inv .3 in
+    let W = now (first (looped d) .args .elements) in (
+      (subst (λ (n : ℕ). Ready n W (l .starts)) (same d) (F .ready), l .inv .4),
+      ((d .next-rows .ensures .2, omega (arith, within d .1, same d)), F .gone .end ∙ ap (λ (n : ℕ). entriesTo (graphOfElements n W) (l .base)) (same d)),
     )
-
--- the next base
-next : (c : tie.After-larger Inv-loop μ-loop) → (c .larger .result ≡ max (c .before .before .before .before .before .before .before .before .before .before .before .before .before .before .list-some .result) 1) × (c .before .before .before .before .before .before .before .before .before .before .before .before .before .before .before .before .before .loop .base + c .larger .result ≤ length (now (c .before .before .before .before .before .before .before .before .before .before .before .before .before .before .before .before .before .before .before .before .before .before .before .args .lists)))
-next c = (c .larger .ensures, omega (arith, c .larger .ensures, within (c .before .before .before .before .before .before .before .before .before .before .before .before .before .before)))
 
 loop-again : tie.Need-loop-again Inv-loop μ-loop
 loop-again c =
-    let k = c .before .before .before .before .before .before .before .some-rows in
-    let d = c .before .before .before .before .before .before .before .before .before .before .before .before .before .before in
-    let l = c .before .before .before .before .before .before .before .before .before .before .before .before .before .before .before .before .before in
-    let a = c .before .before .before .before .before .before .before .before .before .before .before .before .before .before .before .before .before .before .before .before .before .before .before .args in
+    let k = done c .some-rows in
+    let d = chosen (done c) in
+    let l = looped d .loop in
+    let a = first (looped d) .args in
     let W = now (a .elements) in
-    let i = l .loop .inv in (
+    let i = l .inv in (
       i .0,
-      next c .1,
-      d .list-some .kept .0 ∙ i .2,
-      filling-step (length (now (a .lists))) W 0 (now (a .starts)) (now (a .neighbours)) (l .loop .bits) (l .loop .starts) (l .loop .neighbours) (l .loop .to) (l .loop .base) (i .3) (k .last .0)
-          (k .last .1 .1 .1 .1 .1 .1 .0) (k .last .1 .1 .1 .1 .1 .1 .1 .0) (k .result) (l .loop .base + c .larger .result) (k .kept .0) (k .kept .1 .1 .1 .1 .1 .1 .0)
-          (k .kept .1 .1 .1 .1 .1 .1 .1 .0) (k .ensures .0)
-          (subst₂
-          (λ (n j : ℕ).
-          Goes (graphOfElements n W) (l .loop .base) (l .loop .starts) (l .loop .neighbours) (l .loop .base + j) (k .last .1 .1 .1 .1 .1 .1 .0) (k .last .1 .1 .1 .1 .1 .1 .1 .0) (k .result))
-          (sym (same d)) (sym (c .larger .ensures)) (k .ensures .1)),
-      omega (arith, next c, i .3 .ready .few),
+      within d .1,
+      d .next-rows .kept .0 ∙ i .2,
+      filling-step (length (now (a .lists))) W 0 (now (a .starts)) (now (a .neighbours)) (l .starts) (l .neighbours) (l .to) (l .base) (i .3) (k .last .1 .1 .1 .1 .1 .1 .0)
+          (k .last .1 .1 .1 .1 .1 .1 .1 .0) (k .result) (l .base + d .next-rows .result) (k .kept .1 .1 .1 .1 .1 .1 .0) (k .kept .1 .1 .1 .1 .1 .1 .1 .0)
+          (subst
+          (λ (n : ℕ).
+          Goes (graphOfElements n W) (l .base) (l .starts) (l .neighbours) (l .base + d .next-rows .result) (k .last .1 .1 .1 .1 .1 .1 .0) (k .last .1 .1 .1 .1 .1 .1 .1 .0) (k .result))
+          (sym (same d)) (k .ensures .1)),
+      record { size = k .kept .0 ∙ i .4 .size; empty = k .ensures .0 },
+      omega (arith, within d .1, i .3 .ready .few),
     )
 
 returns : tie.Need-returns Inv-loop μ-loop
 returns c =
-    let l = c .before in
-    let a = c .before .before .before .before .before .before .before .args in
-    let i = l .loop .inv in
+    let l = c .before .loop in
+    let a = first (c .before) .args in
+    let i = l .inv in
     let g = graphOfElements (length (now (a .lists))) (now (a .elements)) in
-    let e : l .loop .base ≡ length (now (a .lists)) = omega (arith, i .0, i .1, c .loop-test .left) in (
+    let e : l .base ≡ length (now (a .lists)) = omega (arith, i .0, i .1, c .loop-test .left) in (
       i .3 .gone .end ∙ ap (entriesTo g) e,
-      subst (λ (j : ℕ). Laid g (now (a .starts)) (now (a .neighbours)) j (l .loop .starts) (l .loop .neighbours)) e
+      subst (λ (j : ℕ). Laid g (now (a .starts)) (now (a .neighbours)) j (l .starts) (l .neighbours)) e
           (i .3 .gone .goes (now (a .starts)) (now (a .neighbours)) (laid-begin g (now (a .starts)) (now (a .neighbours)))),
     )
 
@@ -95,13 +102,12 @@ all-rows-spec =
     Inv-loop
     μ-loop
     loop-holds
-    list-some-requires
+    next-rows-requires
     some-rows-requires
-    (λ c κs. search needs)
-    (λ c. omega (arith, next c, c .before .before .before .before .before .before .before .before .before .before .before .before .before .before .before .before .before .loop .inv .3 .ready .few))
-    (λ c. omega (arith, next c, c .before .before .before .before .before .before .before .before .before .before .before .before .before .before .before .before .before .loop .inv .0, c .before .before .before .before .before .before .before .before .before .before .before .before .before .before .before .before .loop-test .taken))
+    (λ c. let d = chosen (done c) in omega (arith, within d .1, looped d .loop .inv .3 .ready .few))
+    (λ c. let d = chosen (done c) in omega (arith, within d .0, within d .1, looped d .loop .inv .0, d .before .before .loop-test .taken))
     loop-again
-    (λ c. c .before .loop .inv .3 .ready .size ∙ sym (c .before .before .before .before .before .before .before .pre .size))
+    (λ c. c .before .loop .inv .4 .size ∙ sym (first (c .before) .pre .1 .size))
     (λ c. c .before .loop .inv .2)
     (λ c. c .before .loop .inv .3 .starts-length)
     (λ c. c .before .loop .inv .3 .neighbours-length)
