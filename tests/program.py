@@ -8,6 +8,7 @@ import glob
 import os
 import random
 import shutil
+import signal
 import subprocess
 import sys
 import tempfile
@@ -163,6 +164,82 @@ def nothing_done(c, folder):
     c.holds('--help says how', out.startswith(b'usage: renumber '))
 
 
+# A stand-in for the program: it prints the file `text` and ends with the status in the file `status`.
+PROGRAM = '#!/bin/sh\ncat text\nexit $(cat status)\n'
+
+
+def put(path, content):
+    os.makedirs(os.path.dirname(path), exist_ok=True)
+    with open(path, 'wb') as file:
+        file.write(content)
+
+
+def stand_in(place):
+    """The script beside a program of ours, and a function that runs it on what that program prints."""
+    put(os.path.join(place, 'crates.txt'), b'renumber: io\n')
+    script, program = os.path.join(place, 'renumber'), os.path.join(place, 'target', 'bin', 'renumber')
+    put(program, PROGRAM.encode('ascii'))
+    os.chmod(program, 0o755)
+    put(os.path.join(place, 'target', 'renumber.built'), b'')
+    shutil.copy(SCRIPT, script)
+
+    def ran(text, status=0):
+        put(os.path.join(place, 'text'), text)
+        put(os.path.join(place, 'status'), b'%d\n' % status)
+        return run(given=SAMPLE, script=script)
+    return ran
+
+
+def changed(lines, at, *others):
+    """The text with others in place of the line at that place."""
+    return b''.join(lines[:at] + list(others) + lines[at + 1:])
+
+
+def cut_short(c, folder):
+    """A text that is no whole answer is not printed: status 2 and a message."""
+    ran = stand_in(os.path.join(folder, 'stand-in'))
+    listing = sample_text()
+    # the last level has two digits: cut by one it is a number still
+    two_digits = listing[:-2] + b'12\n'
+    for text in (listing, two_digits, b'refused 9\n', b'refused 12\n', text_for(grd_file(4096))):
+        c.equal('whole: %r' % text[:30], ran(text), expected(text))
+    cuts = [text[:size] for text in (two_digits, b'refused 12\n') for size in range(len(text))]
+    lines = listing.splitlines(keepends=True)
+    figures, row = lines[0], lines[3]
+    broken = [changed(lines, 3), changed(lines, 5), changed(lines, 3, row, row), changed(lines, 5, lines[5], b'6 6 6\n'),
+              changed(lines, 3, lines[4], row), changed(lines, 3, b'\n'), changed(lines, 3, b'\n', row), listing + b'\n',
+              changed(lines, 3, row[:-3] + b'\n'), changed(lines, 3, row[:-1] + b' 1\n'), changed(lines, 3, row[:-1] + b'x\n'),
+              changed(lines, 0), changed(lines, 0, figures, figures), changed(lines, 0, figures[:-1] + b' \n'), changed(lines, 0, figures[:-3] + b'\n'),
+              changed(lines, 0, figures.replace(b'nodes 5', b'nodes 6')), changed(lines, 0, figures.replace(b'nodes 5', b'nodes 4')),
+              changed(lines, 0, figures.replace(b'parts', b'part')), listing + listing, b'\n', b'refused\n', b'refused \n', b'refused x\n',
+              b'refused 9\nrefused 9\n', b'refused 9\n1 1 1\n', b'refused 9' + listing, listing + b'refused 9\n', figures]
+    for text in cuts + broken:
+        status, out, err = ran(text)
+        c.equal('not whole: %r' % text, (status, out, err), (2, b'', b"renumber: the program's output is cut short\n"))
+    for text in (listing, b'refused 9\n', b''):
+        c.equal('stopped: %r' % text, ran(text, 3), (2, b'', b'renumber: the program was stopped before its end\n'))
+
+
+def not_written(c, folder):
+    """Where standard output takes nothing, or only a part, the status is neither 0 nor 1."""
+    message = b'renumber: standard output cannot be written\n'
+    for content in (SAMPLE, grd_file(4096), b''):
+        path = written(folder, content)
+        if os.path.exists('/dev/full'):
+            with open('/dev/full', 'wb') as device:
+                done = subprocess.run([SCRIPT, path], stdout=device, stderr=subprocess.PIPE, check=False)
+            c.equal('a full device', (done.returncode, done.stderr), (2, message))
+        done = subprocess.run(['bash', '-c', '"$0" "$1" >&-', SCRIPT, path], stderr=subprocess.PIPE, check=False)
+        c.equal('no standard output', (done.returncode, done.stderr), (2, message))
+        for kept, wanted in ((True, (-signal.SIGPIPE, b'')), (False, (2, message))):
+            # a pipe that nobody reads any more, with the signal for it and with the signal ignored
+            there, here = os.pipe()
+            os.close(there)
+            done = subprocess.run([SCRIPT, path], stdout=here, stderr=subprocess.PIPE, restore_signals=kept, check=False)
+            os.close(here)
+            c.equal('a closed pipe', (done.returncode, done.stderr), wanted)
+
+
 # A stand-in for the toolchain: it notes that it was called, and its program refuses everything by 12.
 RT = """#!/usr/bin/env bash
 echo "$*" >> calls
@@ -236,6 +313,8 @@ def main():
         pieces(c)
         explained(c, folder)
         nothing_done(c, folder)
+        cut_short(c, folder)
+        not_written(c, folder)
         building(c, folder)
         without_toolchain(c, folder)
     return c.report()
