@@ -181,6 +181,9 @@ for it, and `NAME.svg` the matrix before and after. The listings come from `test
     ..
 
 `tools/README.md` says how a picture is made, and how meshes come from other formats.
+
+`c`, `fortran` and `rust` have callers of the library: `bracket` renumbers a mesh file, eliminates by the new numbers and opens the store. In `c`,
+`grd.c` reads such a file and makes its graph, refused as the program refuses it, and `renumber.c` prints its listing.
 '''
 
 

@@ -4,7 +4,7 @@
    and writes only to what is lent, so calls on different buffers may run at the same time.
 
    LISTS. A list is a pointer and its length in its elements: uint16_t words, uint64_t figures, uint8_t bytes. Nodes are numbered from 1. n, the
-   number of nodes, is the length of `starts` less 1, but for wagonepoch_mesh, which is given n, and wagonepoch_listing, whose file has it.
+   number of nodes, is the length of `starts` less 1, but for wagonepoch_mesh, which is given n.
 
    WHAT A CALLER OWES. Each pointer is aligned and not null, also that of an empty list, and has as many elements as its length says; and no
    list that is lent, here without `const`, overlaps another list of the same call. Nothing else is asked: whatever numbers the lists hold, a
@@ -13,7 +13,7 @@
    GRAPHS. `starts` has n + 1 words, the first 0, and `neighbours` as many as the last start says: the neighbours of node p are the words
    neighbours[starts[p - 1]] to neighbours[starts[p] - 1]. They rise, never hold p, and hold q exactly if the row of q holds p.
 
-   ANSWERS. 0, or the number of the first test that refuses. Tests run in this order, but for those of wagonepoch_listing:
+   ANSWERS. 0, or the number of the first test that refuses. Tests run in this order:
 
      1   n is 0 or over 4,096, or `starts` is empty
      2   the first start is not 0, starts fall, or the last start is not the length of `neighbours` or is over 32,768
@@ -26,11 +26,15 @@
      9   unknown element kind, or a record runs past the end
      10  an element's node is 0, above n or repeated
      11  over 32,768 neighbour entries result
-     12  a file with a wrong mark or version, over 65,535 or under 9 bytes, or with bytes left over or missing
+
+   12, a broken file, is the refusal of the program ./renumber alone: no call here is given a file. examples/c/grd.c reads one.
 
    WHAT IS LEFT. Where a call answers 0 its figures stand in the front of `figures`, its results in the front of their lists, and the scratch
    words that it asks for are 0. A longer list keeps its excess. A refusal leaves every lent list as it was, but for the first n scratch words,
-   which are 0 after 7, 8 and 11; wagonepoch_listing also writes the line of its refusal and may fill `words`. Lent lists need not be cleared. */
+   which are 0 after 7, 8 and 11. Lent lists need not be cleared.
+
+   ONE CALL AFTER ANOTHER. wagonepoch_mesh makes the two lists, wagonepoch_run the numbers of their nodes, wagonepoch_eliminate the marks of the
+   store by both. That these go together holds as long as nobody writes the two lists or the numbers between the calls. */
 
 #ifndef WAGONEPOCH_H
 #define WAGONEPOCH_H
@@ -46,10 +50,6 @@ extern "C" {
 #define WAGONEPOCH_NODES 4096
 #define WAGONEPOCH_ENTRIES 32768
 
-/* The most words of a file after its header, and bytes that hold every listing of n nodes. */
-#define WAGONEPOCH_FILE_WORDS 32763
-#define WAGONEPOCH_OUTPUT_BYTES(n) (99 + 15 * (size_t)(n))
-
 /* How many figures each call writes. */
 #define WAGONEPOCH_ROOTED_FIGURES 3
 #define WAGONEPOCH_ENDS_FIGURES 6
@@ -58,9 +58,7 @@ extern "C" {
 #define WAGONEPOCH_PART_REPORT_FIGURES 6
 #define WAGONEPOCH_RUN_FIGURES 8
 #define WAGONEPOCH_ELIMINATE_FIGURES 2
-#define WAGONEPOCH_RUN_ELIMINATE_FIGURES 11
 #define WAGONEPOCH_MESH_FIGURES 1
-#define WAGONEPOCH_LISTING_FIGURES 1
 
 /* The direction of a part report. */
 #define WAGONEPOCH_FORWARD 0
@@ -127,6 +125,8 @@ uint16_t wagonepoch_part_report(const uint16_t *starts, size_t starts_len,
 /* The whole run: every part renumbered.
    Lent: numbers n (the new number of each node), levels n (the combined level of each node), scratch 8n, figures 8.
    Figures: nodes, parts, bandwidth, profile, front, levels, width, passes. Levels and passes are sums over the parts, width is the greatest.
+   The n numbers, without the excess of a longer list, are a numbering for wagonepoch_measures, which finds the same bandwidth, profile and
+   front, and for wagonepoch_eliminate, whose mark bytes the profile gives.
    Refusals: 1 to 5. */
 uint16_t wagonepoch_run(const uint16_t *starts, size_t starts_len,
                         const uint16_t *neighbours, size_t neighbours_len,
@@ -141,6 +141,9 @@ uint16_t wagonepoch_run(const uint16_t *starts, size_t starts_len,
    or by an elimination. Spare bits of the last byte used are 0.
    Lent: scratch n, bytes (profile + 7) / 8, figures 2.
    Figures: marks that are 1, newly joined pairs.
+   After a run, on the same two lists and with the run's n numbers as it left them, only a short list is refused: 5, or 8 where the bytes are
+   fewer than the run's profile asks for. The profile is then the run's fourth figure, and the scratch may be the run's. The numbers are read
+   and not written, so after 8 all that the run gave still stands, and this call can be made again with bytes enough.
    Refusals: 1 to 5, and 7 and 8, which leave the first n scratch words 0. */
 uint16_t wagonepoch_eliminate(const uint16_t *starts, size_t starts_len,
                               const uint16_t *neighbours, size_t neighbours_len,
@@ -148,20 +151,6 @@ uint16_t wagonepoch_eliminate(const uint16_t *starts, size_t starts_len,
                               uint16_t *scratch, size_t scratch_len,
                               uint8_t *bytes, size_t bytes_len,
                               uint64_t *figures, size_t figures_len);
-
-/* The whole run, then the elimination by its numbers, in the first n scratch words.
-   Lent: numbers n, levels n, scratch 8n, bytes (profile + 7) / 8 of the run's profile, figures 11.
-   Figures: the run's eight; the elimination's answer, 0, or 8 where the mark bytes are short; marks that are 1, newly joined pairs.
-   Where the ninth figure is 8 the call is accepted all the same: it answers 0, numbers, levels and the run's figures stand, the mark bytes are
-   untouched and the last two figures are 0. The bytes that are needed can then be had from the profile, and wagonepoch_eliminate called.
-   Refusals: 1 to 5. */
-uint16_t wagonepoch_run_eliminate(const uint16_t *starts, size_t starts_len,
-                                  const uint16_t *neighbours, size_t neighbours_len,
-                                  uint16_t *numbers, size_t numbers_len,
-                                  uint16_t *levels, size_t levels_len,
-                                  uint16_t *scratch, size_t scratch_len,
-                                  uint8_t *bytes, size_t bytes_len,
-                                  uint64_t *figures, size_t figures_len);
 
 /* The graph of a mesh of n nodes. `elements` has a record for each element, its kind and then its nodes, to the end of the list:
      kind         1    2         3              4            5        6      7      8                9                     10
@@ -177,29 +166,6 @@ uint16_t wagonepoch_mesh(size_t n,
                          uint16_t *neighbours, size_t neighbours_len,
                          uint16_t *scratch, size_t scratch_len,
                          uint64_t *figures, size_t figures_len);
-
-/* The listing of a mesh file, from its bytes to the text that the program prints. The file: the letters GRD, then words of two bytes, low byte
-   first: version 1, n, the count of elements, and the elements as wagonepoch_mesh has them.
-   Lent: words 32,763, starts n + 1, neighbours 32,768, scratch 8n, numbers n, levels n, output 99 + 15n bytes, figures 1.
-   Figures: bytes of the listing. They are the front of `output`: a line with the eight figures of wagonepoch_run and their names, then for each
-   node a line with its number, its new number and its level. A line ends with a line feed; no byte 0 follows.
-   An accepted file's graph is in `starts` and `neighbours`, of which starts[n] words are written, its new numbers in `numbers`, its levels in
-   `levels`, and `words` has the file's words after its header.
-   Refusals: 12 by the length, the mark or the version, then 1, then 5; then element by element 9, 12 where it runs past the file's end, 10; then 12
-   by bytes left over; then 11.
-   A refusal writes its line, as `refused 9` and a line feed, to the front of `output` if it has room there: 10 bytes where the number has one
-   digit, 11 where it has two. The line ends with the first line feed. An output with less room is untouched; that can only be with 12, 1 and 5,
-   and a short `figures` is 5 here too. `words` is working memory: once it is clear that the answer is not 1, not 5 and not 12 by the header, it
-   has the file's words after its header. 11 leaves the first n scratch words 0. A refusal leaves all else as it was. */
-uint16_t wagonepoch_listing(const uint8_t *file, size_t file_len,
-                            uint16_t *words, size_t words_len,
-                            uint16_t *starts, size_t starts_len,
-                            uint16_t *neighbours, size_t neighbours_len,
-                            uint16_t *scratch, size_t scratch_len,
-                            uint16_t *numbers, size_t numbers_len,
-                            uint16_t *levels, size_t levels_len,
-                            uint8_t *output, size_t output_len,
-                            uint64_t *figures, size_t figures_len);
 
 #ifdef __cplusplus
 }

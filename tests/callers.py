@@ -1,7 +1,7 @@
 #!/usr/bin/env python3
-"""The examples in C, Fortran and Rust: built over the static library, run on two meshes, held to the independent program.
+"""The examples in C, Fortran and Rust: built over the static library, run on two meshes and on broken files, held to the independent program.
 
-One without its compiler here is skipped, as 'skipped: no gfortran'. The library is built first where it is older than the crates.
+`renumber` must print what the program prints for every file, so it is run on many. One without its compiler here is skipped, as 'skipped: no gfortran'. The library is built first where it is older than the crates.
 """
 
 import os
@@ -11,20 +11,24 @@ import sys
 import tempfile
 
 TOP = os.path.dirname(os.path.dirname(os.path.abspath(__file__)))
-sys.path.insert(0, os.path.join(TOP, 'tests', 'reference'))
+sys.path[:0] = [os.path.join(TOP, 'tests', part) for part in ('reference', 'vectors')]
 
 import calls
-import program
+from files import all_files
 from listing import nodes_of_file, words_after_header
+from program import text_for
 
 LIBRARY = os.path.join('target', 'staticlib', 'libcapi.a')
 MESHES = ('bracket', 'two_parts')
 
+# `renumber` is run on every so many-th of the files that reading_test is run on.
+STEP = 3
+
 # example: its compiler, and the words behind it; {out} is the folder for what is made
-C_WORDS = '-std=c99 -Wall -Wextra -pedantic -Werror -O2 -Iinclude examples/c/{0}.c ' + LIBRARY + ' -o {{out}}/{1}'
+C_WORDS = '-std=c99 -Wall -Wextra -pedantic -Werror -O2 -Iinclude examples/c/{0}.c examples/c/grd.c ' + LIBRARY + ' -o {{out}}/{1}'
 EXAMPLES = {
     'C': ('cc', C_WORDS.format('bracket', 'C')),
-    'listing': ('cc', C_WORDS.format('listing', 'listing')),
+    'renumber': ('cc', C_WORDS.format('renumber', 'renumber')),
     'Fortran': ('gfortran', '-std=f2008 -Wall -Werror -fcheck=all -O2 -J {out} examples/fortran/wagonepoch.f90 examples/fortran/bracket.f90 '
                 + LIBRARY + ' -o {out}/Fortran'),
     'Rust': ('rustc', '--edition 2021 -D warnings -O -L target/staticlib -l static=capi examples/rust/bracket.rs -o {out}/Rust'),
@@ -37,13 +41,8 @@ def value(answer):
     return figures
 
 
-def listing(file):
-    """The listing of these bytes, or the line of its refusal."""
-    return program.text_for(file).decode('ascii')
-
-
 def expected(file):
-    """What the other examples print for the mesh in these bytes."""
+    """What the brackets print for the mesh in these bytes."""
     n = nodes_of_file(file)
     starts, neighbours, scratch = [0] * (n + 1), [0] * 32768, [0] * (8 * n)
     entries, = value(calls.mesh(n, words_after_header(file), starts, neighbours, scratch))
@@ -73,25 +72,63 @@ def build_library():
         subprocess.run(['rt', 'staticlib', 'capi'], check=True, stdout=subprocess.DEVNULL)
 
 
-def try_example(example, files, out):
-    """'ok', or what is wrong."""
+def broken(mesh):
+    """The mesh with its end, its header or an element damaged."""
+    return {'empty': b'', 'short header': mesh[:8], 'mark': b'grd' + mesh[3:], 'version': mesh[:3] + b'\2' + mesh[4:], 'cut': mesh[:-1],
+            'word cut': mesh[:-2], 'byte more': mesh + b'\0', 'element more': mesh + b'\1\0\1\0\2\0', 'count less': mesh[:7] + b'\1\0' + mesh[9:],
+            'count more': mesh[:7] + b'\xff\xff' + mesh[9:], 'no nodes': mesh[:5] + b'\0\0' + mesh[7:], 'kind': mesh[:9] + b'\13' + mesh[10:],
+            'node': mesh[:11] + b'\0\0' + mesh[13:], 'too long': mesh + bytes(65536)}
+
+
+def wrong(example, file, run):
+    """What is wrong with a run of an example on these bytes, or ''."""
+    text = text_for(file).decode('ascii')
+    refused = text.startswith('refused')
+    if example != 'renumber' and not refused:
+        text = expected(file)
+    if example == 'C' and refused:
+        text = 'mesh: ' + text
+    if example in ('Fortran', 'Rust') and refused:
+        # they tell a broken file in a line of their own, or the call's refusal
+        due = run.stdout.count('\n') == 1 and (' is no mesh\n' in run.stdout or run.stdout == 'mesh: ' + text)
+    else:
+        due = run.stdout == text
+    return '' if due and run.returncode == refused else 'printed\n%swith status %d, wanted\n%s' % (run.stdout, run.returncode, text)
+
+
+def built(example, out):
+    """'', or why it is not built."""
     compiler, words = EXAMPLES[example]
     if not shutil.which(compiler):
         return 'skipped: no ' + compiler
-    built = subprocess.run([compiler] + words.format(out=out).split(), stdout=subprocess.PIPE, stderr=subprocess.STDOUT, text=True)
-    if built.returncode:
-        print(built.stdout)
+    done = subprocess.run([compiler] + words.format(out=out).split(), stdout=subprocess.PIPE, stderr=subprocess.STDOUT, text=True)
+    if done.returncode:
+        print(done.stdout)
         return 'FAILED: not built'
+    return ''
+
+
+def try_example(example, files, out):
+    """'ok' and how many files it was run on, or what is wrong."""
+    why = built(example, out)
+    if why:
+        return why
     for name, file in files.items():
-        path = os.path.join(out, name)
+        path = os.path.join(out, 'mesh')
         with open(path, 'wb') as f:
             f.write(file)
-        text = (listing if example == 'listing' else expected)(file)
-        run = subprocess.run([os.path.join(out, example), path], stdout=subprocess.PIPE, text=True)
-        if run.returncode != text.startswith('refused') or run.stdout != text:
-            print('%s, %s: printed\n%swanted\n%s' % (example, name, run.stdout, text))
+        run = subprocess.run([os.path.join(out, example), path], stdout=subprocess.PIPE, stderr=subprocess.DEVNULL, text=True)
+        why = wrong(example, file, run)
+        if why:
+            print('%s, %s: %s' % (example, name, why))
             return 'FAILED: ' + name
-    return 'ok'
+    return 'ok (%d files)' % len(files)
+
+
+def not_written(out):
+    """Whether `renumber` says by its status that its output could not be written."""
+    with open('/dev/full', 'wb') as device:
+        return subprocess.run([os.path.join(out, 'renumber')], stdout=device).returncode == 2
 
 
 def main():
@@ -101,9 +138,12 @@ def main():
     for name in MESHES:
         with open('examples/%s.grd' % name, 'rb') as f:
             meshes[name] = f.read()
-    broken = {'cut': meshes['bracket'][:-1], 'empty': b'', 'kind': b'GRD\1\0\5\0\1\0\13\0'}
+    meshes.update(broken(meshes['bracket']))
+    many = {'file %d (%s)' % (i, kind): file for i, (kind, file) in list(enumerate(all_files(), 1))[::STEP]}
     with tempfile.TemporaryDirectory() as out:
-        results = {example: try_example(example, dict(meshes, **broken) if example == 'listing' else meshes, out) for example in EXAMPLES}
+        results = {example: try_example(example, dict(meshes, **many) if example == 'renumber' else meshes, out) for example in EXAMPLES}
+        if results['renumber'].startswith('ok') and os.path.exists('/dev/full') and not not_written(out):
+            results['renumber'] = 'FAILED: a full device'
     print('; '.join('%s %s' % pair for pair in results.items()))
     return any(result.startswith('FAILED') for result in results.values())
 

@@ -1,6 +1,8 @@
 #!/usr/bin/env python3
 """The script `renumber` and the program that it runs: every text is held to the independent program's, and each exit status to the rule.
 
+The program is run on thousands of generated files, valid and damaged; the script on fewer, and beside stand-ins for the program and the toolchain.
+
 Each wrong case is printed, then one line, 'N cases, M wrong'. Status 1 where one is wrong.
 """
 
@@ -16,10 +18,13 @@ import time
 
 TOP = os.path.dirname(os.path.dirname(os.path.abspath(__file__)))
 SCRIPT = os.path.join(TOP, 'renumber')
-sys.path[:0] = [os.path.join(TOP, 'tests', part) for part in ('tools', 'reference')]
+PROGRAM = os.path.join(TOP, 'target', 'bin', 'renumber')
+sys.path[:0] = [os.path.join(TOP, 'tests', part) for part in ('tools', 'reference', 'vectors')]
 
+from files import all_files, random_damaged, random_valid
 from harness import Cases, grd_file
 from program import text_for
+from vectors import Draw
 
 # What the script calls, for a path on which no toolchain is.
 COMMANDS = 'awk bash cat chmod dirname env find flock head mkdir mktemp mv python3 readlink rm sleep tail tee touch'.split()
@@ -118,6 +123,15 @@ def listings(c, folder):
         c.equal('damaged %d: %r' % (i, content), run(given=content), expected(text_for(content)))
 
 
+def generated(c, count):
+    """The program itself, without the script: every file that reading_test is run on, and so many random valid and damaged ones."""
+    draw = Draw(13)
+    made = [file for _, file in all_files()] + list(random_valid(draw, count)) + list(random_damaged(draw, count))
+    for number, content in enumerate(made, 1):
+        done = subprocess.run([PROGRAM], input=content, stdout=subprocess.PIPE, stderr=subprocess.PIPE, check=False)
+        c.equal('generated %d: %r' % (number, content[:60]), (done.returncode, done.stdout, done.stderr), (0, text_for(content), b''))
+
+
 def in_pieces(content, size, pause):
     """A run whose input comes in small pieces."""
     with subprocess.Popen([SCRIPT], stdin=subprocess.PIPE, stdout=subprocess.PIPE, stderr=subprocess.PIPE) as process:
@@ -165,7 +179,7 @@ def nothing_done(c, folder):
 
 
 # A stand-in for the program: it prints the file `text` and ends with the status in the file `status`.
-PROGRAM = '#!/bin/sh\ncat text\nexit $(cat status)\n'
+STAND_IN = '#!/bin/sh\ncat text\nexit $(cat status)\n'
 
 
 def put(path, content):
@@ -178,7 +192,7 @@ def stand_in(place):
     """The script beside a program of ours, and a function that runs it on what that program prints."""
     put(os.path.join(place, 'crates.txt'), b'renumber: io\n')
     script, program = os.path.join(place, 'renumber'), os.path.join(place, 'target', 'bin', 'renumber')
-    put(program, PROGRAM.encode('ascii'))
+    put(program, STAND_IN.encode('ascii'))
     os.chmod(program, 0o755)
     put(os.path.join(place, 'target', 'renumber.built'), b'')
     shutil.copy(SCRIPT, script)
@@ -310,6 +324,7 @@ def main():
     c = Cases()
     with tempfile.TemporaryDirectory() as folder:
         listings(c, folder)
+        generated(c, 1500)
         pieces(c)
         explained(c, folder)
         nothing_done(c, folder)

@@ -52,13 +52,38 @@ contains
     if (command_argument_count() > 0) call get_command_argument(1, name)
     open (newunit=unit, file=trim(name), access='stream', form='unformatted', status='old', action='read')
     inquire (unit, size=bytes_in_all)
+    call stop_unless(bytes_in_all >= 9 .and. bytes_in_all <= 65535 .and. mod(bytes_in_all, 2) == 1, name)
     read (unit) mark, head
-    if (mark /= 'GRD' .or. head(1) /= 1) stop 1
+    call stop_unless(mark == 'GRD' .and. head(1) == 1, name)
     n = word(head(2))
     words = (bytes_in_all - 9) / 2
     read (unit) elements(1:words)
     close (unit)
+    call stop_unless(elements_read() == word(head(3)), name)
   end subroutine
+
+  subroutine stop_unless(whole, name)
+    logical, intent(in) :: whole
+    character(*), intent(in) :: name
+    if (whole) return
+    print '(a,a)', trim(name), ' is no mesh'
+    stop 1
+  end subroutine
+
+  ! How many elements the words are, to their end: the mesh call knows no such number. -1 where a kind is unknown or the last element runs past
+  ! the end.
+  integer function elements_read()
+    integer, parameter :: node_count(10) = [2, 3, 4, 4, 5, 6, 8, 6, 8, 10]
+    integer :: at
+    elements_read = 0
+    at = 1
+    do while (at <= words)
+      if (elements(at) < 1 .or. elements(at) > 10) exit
+      at = at + 1 + node_count(elements(at))
+      elements_read = elements_read + 1
+    end do
+    if (at /= words + 1) elements_read = -1
+  end function
 
   subroutine print_measures(when)
     character(*), intent(in) :: when

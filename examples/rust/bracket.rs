@@ -2,14 +2,30 @@
 //! rustc --edition 2021 -L target/staticlib -l static=capi examples/rust/bracket.rs
 mod wagonepoch;
 
-/// The file's words after its header, low byte first; n is the second word of the header.
+/// How many nodes an element has, by its kind less 1.
+const NODE_COUNT: [usize; 10] = [2, 3, 4, 4, 5, 6, 8, 6, 8, 10];
+
+/// How many elements the words are, to their end; none where a kind is unknown or the last element runs past the end.
+fn elements_in(words: &[u16]) -> Option<usize> {
+    let (mut at, mut count) = (0, 0);
+    while at < words.len() {
+        at += 1 + NODE_COUNT.get(usize::from(words[at]).wrapping_sub(1))?;
+        count += 1;
+    }
+    (at == words.len()).then_some(count)
+}
+
+/// The file's words after its header of 9 bytes, low byte first; n is the second word of the header. The third says how many elements there are:
+/// they are counted here, as the mesh call knows no such number.
 fn read_mesh(name: &str) -> Result<(usize, Vec<u16>), String> {
     let file = std::fs::read(name).map_err(|e| format!("{name}: {e}"))?;
-    if file.len() < 9 || &file[..5] != b"GRD\x01\x00" {
+    let word = |b: &[u8]| u16::from_le_bytes([b[0], b[1]]);
+    let words: Vec<u16> = file.get(9..).unwrap_or(&[]).chunks_exact(2).map(word).collect();
+    let whole = file.len() >= 9 && file.len() <= 65535 && file.len() % 2 == 1 && file.starts_with(b"GRD\x01\x00");
+    if !whole || elements_in(&words) != Some(word(&file[7..]).into()) {
         return Err(format!("{name} is no mesh"));
     }
-    let word = |b: &[u8]| u16::from_le_bytes([b[0], b[1]]);
-    Ok((word(&file[5..]).into(), file[9..].chunks_exact(2).map(word).collect()))
+    Ok((word(&file[5..]).into(), words))
 }
 
 /// A graph by its two lists.

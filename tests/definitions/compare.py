@@ -37,8 +37,8 @@ use Rattle.spec.specs.CallsNumbering.{reportAnswer, reportScratch, runAnswer, r
 use Rattle.spec.specs.CallsNumbering.{measuresAnswer, measuresScratch}
 use Rattle.spec.specs.CallsStore.{eliminationAnswer, eliminationScratch, eliminationBytes, runEliminateAnswer, runEliminateBytes}
 use Rattle.spec.specs.CallsMesh.{meshAnswer, meshStarts, meshNeighbours, meshScratch}
-use Rattle.spec.specs.CallsListing.{listingAnswer, listingWords, listingStarts, listingNeighbours, listingScratch}
-use Rattle.spec.specs.CallsListing.{listingNumbers, listingLevels, listingOutput}
+use Rattle.spec.specs.Mesh.{startList, neighbourList}
+use Rattle.spec.specs.File.{fileGraph, fileRefusal, programOutput}
 use Rattle.spec.proofs.Compute.{computes}
 '''
 BATCH = 60

@@ -3,6 +3,9 @@
 import calls
 from antt import (COMBINED_FIGURES, ELIMINATION_FIGURES, ENDS, FIGURES, LEVEL_FIGURES, MEASURE_FIGURES,
                   PART_REPORT, figures, nothing, one_number, outcome, record, words)
+from graph import MOST_ENTRIES
+from listing import nodes_of_file, words_after_header
+from program import text_for
 
 
 def called(call, given, lent):
@@ -61,14 +64,13 @@ def of_mesh(i):
                    'meshAnswer', one_number, ('meshStarts', 'meshNeighbours', 'meshScratch'))
 
 
-BUFFERS = ('words', 'starts', 'neighbours', 'scratch', 'numbers', 'levels', 'output')
-AFTER = ('listingWords', 'listingStarts', 'listingNeighbours', 'listingScratch', 'listingNumbers',
-         'listingLevels', 'listingOutput')
-
-
-def of_file(i):
-    """Equations for the listing of a file."""
-    arguments = '%s %s' % (words(i.file), record(BUFFERS, [words(b) for b in i.lent]))
-    answer, after = called(calls.listing, (i.file,), i.lent)
-    return ([('listingAnswer %s' % arguments, outcome(answer, one_number))]
-            + [('%s %s' % (name, arguments), words(buffer)) for name, buffer in zip(AFTER, after)])
+def of_file(file):
+    """Equations for the program on a file: its refusal, what it prints, and the graph of a file that it accepts."""
+    text, given = text_for(file), words(file)
+    refused = text.startswith(b'refused ')
+    rows = [('fileRefusal %s' % given, text.split()[1].decode('ascii') if refused else '0'), ('programOutput %s' % given, words(text))]
+    if refused:
+        return rows
+    n = nodes_of_file(file)
+    (_, (entries,)), (starts, neighbours, _) = called(calls.mesh, (n, words_after_header(file)), ([0] * (n + 1), [0] * MOST_ENTRIES, [0] * n))
+    return rows + [('startList (fileGraph %s)' % given, words(starts)), ('neighbourList (fileGraph %s)' % given, words(neighbours[:entries]))]

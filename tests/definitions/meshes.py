@@ -1,14 +1,12 @@
-"""Inputs of the mesh call and of the listing: elements and files, valid and damaged."""
+"""Inputs of the mesh call and of the program: elements and files, valid and damaged."""
 
 from collections import namedtuple
 
 from graphs import lent
-from listing import MOST_FILE_WORDS, most_output_bytes
 from graph import MOST_ENTRIES
 from mesh import NODE_COUNT
 
 MeshInput = namedtuple('MeshInput', 'n elements starts neighbours scratch')
-FileInput = namedtuple('FileInput', 'file lent')
 
 
 def elements(rng, n, count):
@@ -57,12 +55,4 @@ def file_bytes(rng, n):
 
 
 def file_inputs(rng, count):
-    inputs = []
-    for _ in range(count):
-        n = rng.choice([0, 4097] + [rng.randint(1, 7)] * 8)
-        needs = (MOST_FILE_WORDS, n + 1, MOST_ENTRIES, 8 * n, n, n, most_output_bytes(n))
-        if n == 4097:
-            needs = (0, 0, 0, 0, 0, 0, rng.randint(9, 12))
-        buffers = [lent(rng, need) if rng.random() < 0.3 else [9] * need for need in needs]
-        inputs.append(FileInput(file_bytes(rng, n), buffers))
-    return inputs
+    return [file_bytes(rng, rng.choice([0, 4097] + [rng.randint(1, 7)] * 8)) for _ in range(count)]

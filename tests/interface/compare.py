@@ -5,8 +5,8 @@
   compare.py --seconds T                             then further random ones, with other seeds, until T seconds have passed
   compare.py --replay FILE                           one case again that was saved
 
-Of each case the answer, every list given or lent, the figures among them, and eight elements behind each list are compared word by word. A case
-that differs, or that ends the process, is saved in target/failed. All expected values come from tests/reference.
+Of each case the answer, every list given or lent, the figures among them, and eight elements behind each list are compared word by word, after
+each call where the run and then the elimination by its numbers are called. A case that differs, or that ends the process, is saved in target/failed. All expected values come from tests/reference.
 """
 
 import argparse
@@ -21,7 +21,7 @@ sys.path[:0] = [os.path.join(TOP, 'tests', part) for part in ('reference', 'defi
 
 import kinds
 from library import FIGURES, Library
-from trials import FUNCTIONS, difference, got, of_text, to_text, wanted
+from trials import FUNCTIONS, difference, got, name_of, of_text, to_text, wanted
 from vectors import Draw
 
 FAILED = os.path.join(TOP, 'target', 'failed')
@@ -34,11 +34,13 @@ class Tally:
     def __init__(self):
         self.kinds, self.answers, self.short, self.differ = {}, {}, {}, {}
 
-    def add(self, trial, answer, text):
-        for counts, name in ((self.kinds, trial.kind), (self.answers, 'refused %d' % answer if answer else 'accepted')):
+    def add(self, trial, answers, text):
+        said = ', then '.join('refused %d' % answer if answer else 'accepted' for answer in answers)
+        for counts, name in ((self.kinds, trial.kind), (self.answers, said)):
             of_call = counts.setdefault(trial.call, {})
             of_call[name] = of_call.get(name, 0) + 1
-        self.short[trial.call] = self.short.get(trial.call, 0) + (trial.figures < FIGURES[FUNCTIONS[trial.call]])
+        needs = [FIGURES[function] for function in FUNCTIONS[trial.call]]
+        self.short[trial.call] = self.short.get(trial.call, 0) + any(length < need for length, need in zip(trial.figures, needs))
         self.differ[trial.call] = self.differ.get(trial.call, 0) + (text != '')
 
     def of_call(self, call):
@@ -65,7 +67,7 @@ def report(folder, trial, text):
     os.makedirs(folder, exist_ok=True)
     number = len(os.listdir(folder)) + 1
     if number <= MOST_SAVED:
-        path = os.path.join(folder, '%s-%d.json' % (FUNCTIONS[trial.call], number))
+        path = os.path.join(folder, '%s-%d.json' % (name_of(trial.call), number))
         with open(path, 'w') as f:
             f.write(to_text(trial, text))
         print('  again: tests/interface/compare.py --replay %s' % os.path.relpath(path, TOP), flush=True)
@@ -74,7 +76,7 @@ def report(folder, trial, text):
 def compare(library, trial, tally, folder):
     must = wanted(trial)
     text = difference(trial, got(library, trial), must)
-    tally.add(trial, must[0], text)
+    tally.add(trial, [answer for answer, _ in must], text)
     if text:
         report(folder, trial, text)
 
@@ -91,7 +93,7 @@ def replay(library, path):
 def trials(asked, seed):
     """The trials of a round; the first has the fixed kinds too."""
     made = (kinds.some if seed == asked.seed else kinds.more)(Draw(seed), asked.cases)
-    return (trial for trial in made if asked.only in (None, FUNCTIONS[trial.call]))
+    return (trial for trial in made if asked.only in (None, name_of(trial.call)))
 
 
 def rounds(library, asked, at, folder):
@@ -126,7 +128,7 @@ def options(words=None):
     parser = argparse.ArgumentParser(description=__doc__.split('\n')[0])
     parser.add_argument('--seed', type=int, default=1976)
     parser.add_argument('--cases', type=int, default=1000)
-    parser.add_argument('--only', choices=sorted(FUNCTIONS.values()))
+    parser.add_argument('--only', choices=sorted(map(name_of, FUNCTIONS)))
     parser.add_argument('--seconds', type=int, default=0)
     parser.add_argument('--replay')
     return parser.parse_args(words)

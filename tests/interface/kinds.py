@@ -1,25 +1,34 @@
 """Trials of each kind: the cases of tests/vectors with lists of figures short, exact and long, numbers that sixteen bits can't hold, full size."""
 
 import cases
-import files
 import paper
 import shapes
 from cases import CALLS, Case, fields
-from graph import MOST_ENTRIES, MOST_NODES, from_edges
+from graph import from_edges
 from library import FIGURES
-from listing import HEADER_BYTES, MOST_FILE_WORDS, most_output_bytes, nodes_of_file
-from trials import FILLS, FUNCTIONS, Trial
+from trials import FILLS, FUNCTIONS, PAIR, Trial
+
+
+def length_of_figures(draw, need):
+    """Short, exact or long."""
+    way = draw.below(10)
+    return draw.below(need + 1) if way == 0 else need if way < 7 else need + 1 + draw.below(5)
 
 
 def trial(draw, kind, call, given, lent):
-    """With a list of figures that is short, exact or long, and lent lists that hold this or that."""
-    need, way = FIGURES[FUNCTIONS[call]], draw.below(10)
-    figures = draw.below(need + 1) if way == 0 else need if way < 7 else need + 1 + draw.below(5)
+    """With lists of figures of this length or that, and lent lists that hold this or that."""
+    figures = [length_of_figures(draw, FIGURES[function]) for function in FUNCTIONS[call] if FIGURES[function]]
     return Trial(kind, call, given, lent, figures, draw.below(len(FILLS)))
 
 
 def of_case(draw, c):
-    return trial(draw, c.kind, c.call, fields(c, CALLS[c.call].given), fields(c, CALLS[c.call].lent))
+    """The trial of a case. Run and eliminate is here the two calls, with one scratch or with two."""
+    given, lent = fields(c, CALLS[c.call].given), fields(c, CALLS[c.call].lent)
+    if c.call != 'run and eliminate':
+        return trial(draw, c.kind, c.call, given, lent)
+    n = max(0, len(c.starts) - 1)
+    other = None if draw.chance(0.5) else cases.lent(draw, n)
+    return trial(draw, c.kind, PAIR, given, lent[:3] + [other] + lent[3:])
 
 
 def every_call(kind, lists, node, numbering, n):
@@ -72,35 +81,13 @@ def full_size(draw):
                 yield c
 
 
-# Listings.
-
-def needs(n):
-    """words, starts, neighbours, scratch, numbers, levels, output"""
-    return [MOST_FILE_WORDS, n + 1, MOST_ENTRIES, 8 * n, n, n, most_output_bytes(n)]
-
-
-def lent_to_listing(draw, file):
-    """Lengths of all seven: exact, longer, one of them short; or any, with an output that has room for a line or hardly."""
-    n = min(nodes_of_file(file), MOST_NODES + 1) if len(file) >= HEADER_BYTES else 3
-    need, way = needs(n), draw.below(10)
-    if way < 4:
-        return need
-    if way < 7:
-        return [cases.enough(draw, size) for size in need]
-    if way < 8:
-        return [draw.below(40) for _ in need[:-1]] + [draw.below(13)]
-    at = draw.below(len(need))
-    return need[:at] + [draw.one([max(0, need[at] - 1), draw.below(need[at])])] + need[at + 1:]
-
-
-def listings(draw, made):
-    for kind, file in made:
-        yield trial(draw, 'file: ' + kind, 'listing', [list(file)], lent_to_listing(draw, file))
-
-
-def random_files(draw, count):
-    return ([('random valid', file) for file in files.random_valid(draw, count)]
-            + [('random damaged', file) for file in files.random_damaged(draw, count)])
+def pairs(draw, count):
+    """Random graphs of up to 40 nodes: the run, then the elimination, with mark bytes short, exact and long."""
+    for _ in range(count):
+        n = 1 + draw.below(40)
+        lists = cases.random_graph(draw, n)
+        sizes = [cases.enough(draw, size) for size in (n, n, 8 * n)]
+        yield Case('random graph', 'run and eliminate', *lists, [], 0, *sizes, cases.lent(draw, cases.run_byte_count(lists)))
 
 
 # All kinds.
@@ -110,6 +97,7 @@ def at_random(draw, count):
     yield from cases.telling(draw, count)
     yield from cases.at_random(draw, count // 2, 3)
     yield from cases.runs_at_random(draw, count // 2)
+    yield from pairs(draw, 4 * count)
     yield from cases.large(draw, count // 20)
     yield from cases.illegal(draw, 4 * count)
     yield from cases.meshes(draw, 2 * count)
@@ -121,7 +109,6 @@ def some(draw, count):
                  cases.of_many_parts(), cases.full_meshes(), cases.long_meshes(), full_size(draw)):
         for c in made:
             yield of_case(draw, c)
-    yield from listings(draw, files.all_files() + random_files(draw, count))
 
 
 def more(draw, count):
@@ -129,4 +116,3 @@ def more(draw, count):
     for made in (cases.some_of_five(draw, count), at_random(draw, count), cases.of_full_size(draw)):
         for c in made:
             yield of_case(draw, c)
-    yield from listings(draw, random_files(draw, 10 * count))

@@ -19,6 +19,9 @@ BEHIND = 8
 # Of a list `code` is that of its elements, of a number None.
 Parameter = namedtuple('Parameter', 'name code number')
 
+# What a call gets of a list: its memory, and the length that it is told.
+Span = namedtuple('Span', 'words length')
+
 
 def parameters_of(texts):
     """The parameters; a length belongs to the list before it and is none of its own."""
@@ -34,6 +37,9 @@ def parameters_of(texts):
 
 PARAMETERS = {name.replace('wagonepoch_', ''): parameters_of(texts) for name, (texts, _) in declared().items()}
 FIGURES = {name.replace('wagonepoch_', ''): count for name, (_, count) in declared().items()}
+
+# The code of a list by its name, which is the same in every call.
+CODE_OF = {parameter.name: parameter.code for parameters in PARAMETERS.values() for parameter in parameters if parameter.code}
 
 
 def guarded(code, values):
@@ -55,14 +61,13 @@ class Library:
         self.loaded = load()
 
     def call(self, function, values):
-        """What the function answers, and each list with what is behind it as it is then; a list of values for every list, else a number."""
-        words, lists = [], []
+        """What the function answers; a value is a number, or a span, whose words the function may write."""
+        words = []
         for parameter, value in zip(PARAMETERS[function], values):
             if parameter.code is None:
                 words.append(parameter.number(value))
-                continue
-            lists.append(guarded(parameter.code, value))
-            words += [ctypes.c_void_p(lists[-1].buffer_info()[0]), ctypes.c_size_t(len(value))]
+            else:
+                words += [ctypes.c_void_p(value.words.buffer_info()[0]), ctypes.c_size_t(value.length)]
         called = getattr(self.loaded, 'wagonepoch_' + function)
         called.restype = ctypes.c_uint16
-        return called(*words), lists
+        return called(*words)

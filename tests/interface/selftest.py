@@ -13,25 +13,37 @@ import tempfile
 
 import compare
 from cases import CALLS, Case, fields
-from files import ALONE
 from graph import from_edges
-from kinds import every_call, needs
-from library import BEHIND, FIGURES, Library
-from trials import FUNCTIONS, Trial, got
+from kinds import every_call
+from library import BEHIND, FIGURES, Library, Span
+from trials import FUNCTIONS, PAIR, Trial, got
 
 
 class Altered:
-    """The library, with the answer changed, or the word at a place of a list."""
+    """The library, of which one function changes the answer, or the word at a place of a list."""
 
-    def __init__(self, library, number, place):
-        self.library, self.number, self.place = library, number, place
+    def __init__(self, library, function, number, place):
+        self.library, self.function, self.number, self.place = library, function, number, place
 
     def call(self, function, values):
-        answer, lists = self.library.call(function, values)
+        answer = self.library.call(function, values)
+        if function != self.function:
+            return answer
         if self.number is None:
-            return answer ^ 1, lists
-        lists[self.number][self.place] ^= 1
-        return answer, lists
+            return answer ^ 1
+        [value for value in values if isinstance(value, Span)][self.number].words[self.place] ^= 1
+        return answer
+
+
+class Recorded:
+    """The library, which notes how long the lists of each call are, with what is behind them."""
+
+    def __init__(self, library):
+        self.library, self.lengths = library, []
+
+    def call(self, function, values):
+        self.lengths.append((function, [len(value.words) for value in values if isinstance(value, Span)]))
+        return self.library.call(function, values)
 
 
 class Faulting:
@@ -40,20 +52,24 @@ class Faulting:
 
 
 def trials():
-    """Each call on three nodes, with one word more than it needs in every list that is lent."""
+    """Each call on three nodes, with one word more than it needs in every list that is lent; the pair of calls with one scratch and with two."""
     on_graph = list(every_call('self-test', from_edges(3, [(1, 2), (2, 3)]), 1, [1, 2, 3], 3))
     for c in on_graph + [Case('self-test', 'mesh', [], [], [1, 1, 2], 3, 4, 32768, 3, 0)]:
-        lent = [size + 1 for size in fields(c, CALLS[c.call].lent)]
-        yield Trial(c.kind, c.call, fields(c, CALLS[c.call].given), lent, FIGURES[FUNCTIONS[c.call]] + 1, 0)
-    yield Trial('self-test', 'listing', [list(ALONE)], [size + 1 for size in needs(3)], 2, 0)
+        given, lent = fields(c, CALLS[c.call].given), [size + 1 for size in fields(c, CALLS[c.call].lent)]
+        paired = [(PAIR, lent[:3] + [other] + lent[3:]) for other in (None, 4)]
+        for call, lengths in paired if c.call == 'run and eliminate' else [(c.call, lent)]:
+            yield Trial(c.kind, call, given, lengths, [FIGURES[function] + 1 for function in FUNCTIONS[call] if FIGURES[function]], 0)
 
 
 def places(library, trial):
-    """Every alteration of a trial: a list and a place, or none."""
-    yield None, 0
-    for number, words in enumerate(got(library, trial)[1]):
-        for place in (0, len(words) - BEHIND - 1, len(words) - 1):
-            yield number, place
+    """Every alteration of a trial: a function, and a list and a place, or none."""
+    recorded = Recorded(library)
+    got(recorded, trial)
+    for function, lengths in recorded.lengths:
+        yield function, None, 0
+        for number, length in enumerate(lengths):
+            for place in (0, length - BEHIND - 1, length - 1):
+                yield function, number, place
 
 
 def saved_in(folder):
@@ -79,11 +95,11 @@ def fault_seen():
 def main():
     library, tried, missed = Library(), 0, 0
     for trial in trials():
-        for number, place in places(library, trial):
+        for function, number, place in places(library, trial):
             tried += 1
-            if not seen(library, Altered(library, number, place), trial):
+            if not seen(library, Altered(library, function, number, place), trial):
                 missed += 1
-                print('%s: not seen: list %s, place %d' % (trial.call, number, place))
+                print('%s: not seen: %s, list %s, place %d' % (trial.call, function, number, place))
     if not fault_seen():
         missed += 1
         print('a fault is not seen')

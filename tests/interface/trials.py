@@ -1,28 +1,45 @@
-"""A trial of the C interface: what a call is given and lent, and what the independent program says that it must answer and leave."""
+"""A trial of the C interface: what a call is given and lent, and what the independent program says that it must answer and leave.
+
+A trial has one call, or the whole run and then the elimination on the n numbers that the run left, in the memory that it left them in.
+"""
 
 import json
+from array import array
 from collections import namedtuple
 
 import calls
 from cases import CALLS as CASE_CALLS
 from graph import adjacency_refusal, wrong_node_count
-from library import FIGURES, PARAMETERS, guarded
-from listing import header_refusal
+from library import CODE_OF, FIGURES, PARAMETERS, Span, guarded
 
-# What is given, lists and numbers in the order of the call; the lengths of what is lent, and that of the list of figures; what is in them.
+# What is given, lists and numbers in the order of the call; the lengths of what is lent, and of the list of figures of each call; what is in them.
 Trial = namedtuple('Trial', 'kind call given lent figures fill')
 
+# Lent to the pair of calls: numbers, levels and scratch to the run; to the elimination a scratch of its own, or None for the run's, and bytes.
+PAIR = 'run, then eliminate'
+LENT_TO_PAIR = ('numbers', 'levels', 'scratch', 'other scratch', 'bytes')
+
+# The functions that a trial calls, one after the other.
 FUNCTIONS = {
-    'adjacency test': 'test_adjacency', 'rooted levels': 'rooted_levels', 'ends': 'ends', 'combined levels': 'combined_levels',
-    'measures': 'measures', 'part report': 'part_report', 'whole run': 'run', 'elimination': 'eliminate', 'run and eliminate': 'run_eliminate',
-    'mesh': 'mesh', 'listing': 'listing',
+    'adjacency test': ('test_adjacency',), 'rooted levels': ('rooted_levels',), 'ends': ('ends',), 'combined levels': ('combined_levels',),
+    'measures': ('measures',), 'part report': ('part_report',), 'whole run': ('run',), 'elimination': ('eliminate',), PAIR: ('run', 'eliminate'),
+    'mesh': ('mesh',),
 }
-REFERENCE = dict({call: CASE_CALLS[call].reference for call in CASE_CALLS}, listing=calls.listing)
+REFERENCE = {functions[0]: CASE_CALLS[call].reference for call, functions in FUNCTIONS.items() if call != PAIR}
 
 # What a lent list holds before the call, by place, below the modulus of its elements: falling from the top, zeros, ones, small numbers.
 FILLS = (lambda i: -1 - i % 5000, lambda i: 0, lambda i: -1, lambda i: 1 + i % 7)
 MODULUS = {'B': 256, 'H': 65536, 'Q': 2 ** 64}
 patterns = {}
+
+
+def name_of(call):
+    """What the call is named by in a command and in a file's name."""
+    return '_then_'.join(FUNCTIONS[call])
+
+
+def code_of(name):
+    return CODE_OF[name.replace('other ', '')]
 
 
 def filled(fill, code, count):
@@ -31,77 +48,107 @@ def filled(fill, code, count):
     return known[:count]
 
 
-def lists_of(trial):
-    """The lent lists and the list of figures, before the call."""
-    codes = [parameter.code for parameter in PARAMETERS[FUNCTIONS[trial.call]][len(trial.given):]]
-    lengths = list(trial.lent) + ([trial.figures] if 'Q' in codes else [])
-    lent = [filled(trial.fill, code, count) for code, count in zip(codes, lengths)]
-    return (lent[:-1], lent[-1]) if 'Q' in codes else (lent, [])
+# What is given and lent, by name, and the calls.
+
+def before(trial):
+    """Numbers and lists by name, as they are before the first call."""
+    if trial.call == PAIR:
+        names = ('starts', 'neighbours') + LENT_TO_PAIR + ('figures', 'other figures')
+    else:
+        names = [parameter.name for parameter in PARAMETERS[FUNCTIONS[trial.call][0]]]
+    lengths = [length or 0 for length in list(trial.lent) + list(trial.figures)]
+    lent = zip(names[len(trial.given):], lengths)
+    return dict(list(zip(names, trial.given)) + [(name, filled(trial.fill, code_of(name), length)) for name, length in lent])
 
 
-def figures_of(call, value):
-    """An accepted value of the reference as figures: a direction is 0 or 1, and run and eliminate has the elimination's refusal or 0."""
-    if call == 'part report':
+def lists_in(values):
+    return {name: value for name, value in values.items() if isinstance(value, list)}
+
+
+def whole(values, *names):
+    """Each with its length; a number has None."""
+    return [(name, len(values[name]) if isinstance(values[name], list) else None) for name in names]
+
+
+def steps(trial, values):
+    """The calls: a function, and the name of each argument with the length that the call is told."""
+    if trial.call != PAIR:
+        return [(FUNCTIONS[trial.call][0], whole(values, *values))]
+    n = max(0, len(values['starts']) - 1)
+    scratch = 'scratch' if trial.lent[LENT_TO_PAIR.index('other scratch')] is None else 'other scratch'
+    return [('run', whole(values, 'starts', 'neighbours', 'numbers', 'levels', 'scratch', 'figures')),
+            ('eliminate', whole(values, 'starts', 'neighbours') + [('numbers', n)] + whole(values, scratch, 'bytes', 'other figures'))]
+
+
+# By the reference.
+
+def figures_of(function, value):
+    """An accepted value of the reference as figures: a direction is 0 or 1."""
+    if function == 'part_report':
         return list(value[:5]) + [('Forward', 'Reversed').index(value[5])]
-    if call == 'run and eliminate':
-        run, (state, counts) = value
-        return list(run) + ([0] + list(counts) if state == 'accepted' else [counts, 0, 0])
     return list(value)
 
 
-def before_five(call, given):
+def before_five(function, given):
     """The refusal by a test that comes before 5, or 0."""
-    if call == 'mesh':
+    if function == 'mesh':
         return 1 if wrong_node_count(given[0]) else 0
-    if call == 'listing':
-        return header_refusal(given[0])
     return adjacency_refusal(given[0], given[1])
 
 
-def refused_short(trial, lent):
-    """A short list of figures is 5, tested with the other lists; nothing is written but the line of a listing."""
-    number = before_five(trial.call, trial.given) or 5
-    if trial.call == 'listing':
-        calls.refused_with_line(number, lent[-1])
-    return number
+def front(value, length):
+    """A list itself where all of it is meant, so that it can be written; else its front alone, which is only given. A number is itself."""
+    return value if length is None or length == len(value) else value[:length]
+
+
+def reference_answer(function, values, arguments):
+    """0 or the refusal; the lists are left as they must be. A short list of figures is 5, tested with the other lists."""
+    given = [front(values[name], length) for name, length in arguments]
+    figures = given.pop() if FIGURES[function] else []
+    if len(figures) < FIGURES[function]:
+        return before_five(function, given) or 5
+    state, value = REFERENCE[function](*given)
+    if state == 'refused':
+        return value
+    calls.put(figures, figures_of(function, value))
+    return 0
 
 
 def wanted(trial):
-    """The answer, and every list with what is behind it, by the reference."""
-    lent, figures = lists_of(trial)
-    if len(figures) < FIGURES[FUNCTIONS[trial.call]]:
-        answer = refused_short(trial, lent)
-    else:
-        state, value = REFERENCE[trial.call](*trial.given, *lent)
-        answer = value if state == 'refused' else 0
-        if state == 'accepted':
-            calls.put(figures, figures_of(trial.call, value))
-    return answer, in_memory(trial, lent, figures)
+    """Of each call that is made its answer, and every list with what is behind it; none is made after a refusal."""
+    values, made = before(trial), []
+    for function, arguments in steps(trial, values):
+        answer = reference_answer(function, values, arguments)
+        made.append((answer, [guarded(code_of(name), value) for name, value in lists_in(values).items()]))
+        if answer:
+            break
+    return made
 
 
-def values_of(trial, lent, figures):
-    return list(trial.given) + lent + [figures]
-
-
-def in_memory(trial, lent, figures):
-    values = zip(PARAMETERS[FUNCTIONS[trial.call]], values_of(trial, lent, figures))
-    return [guarded(parameter.code, value) for parameter, value in values if parameter.code]
-
+# By the library.
 
 def got(library, trial):
-    """The answer and the lists by the library."""
-    return library.call(FUNCTIONS[trial.call], values_of(trial, *lists_of(trial)))
+    """The same by the library. The lists of the trial stay in one place from its first call to its last."""
+    values, made = before(trial), []
+    memory = {name: guarded(code_of(name), value) for name, value in lists_in(values).items()}
+    for function, arguments in steps(trial, values):
+        answer = library.call(function, [values[name] if length is None else Span(memory[name], length) for name, length in arguments])
+        made.append((answer, [array(words.typecode, words) for words in memory.values()]))
+        if answer:
+            break
+    return made
 
 
 def difference(trial, was, must):
     """What differs first, or ''."""
-    if was[0] != must[0]:
-        return 'answered %d, must answer %d' % (was[0], must[0])
-    names = [parameter.name for parameter in PARAMETERS[FUNCTIONS[trial.call]] if parameter.code]
-    for name, one, other in zip(names, was[1], must[1]):
-        if one != other:
-            i = next(i for i in range(len(one)) if one[i] != other[i])
-            return '%s[%d] is %d, must be %d' % (name, i, one[i], other[i])
+    names = list(lists_in(before(trial)))
+    for function, one, other in zip(FUNCTIONS[trial.call], was, must):
+        if one[0] != other[0]:
+            return '%s answered %d, must answer %d' % (function, one[0], other[0])
+        for name, words, due in zip(names, one[1], other[1]):
+            if words != due:
+                i = next(i for i in range(len(words)) if words[i] != due[i])
+                return 'after %s %s[%d] is %d, must be %d' % (function, name, i, words[i], due[i])
     return ''
 
 

@@ -11,8 +11,6 @@ from graph import (MOST_ENTRIES, adjacency_refusal, from_edges, lists_of, part_o
                    rows_of, small_graphs, wrong_node_count)
 from levels import by_old_number, depth, width
 from levels import rooted_levels as levels_from
-from listing import (MOST_FILE_WORDS, element_refusal, header_refusal, most_output_bytes,
-                     nodes_of_file, output_text, refusal_line, words_after_header)
 from measures import adjoining, bandwidth, front, fronts, is_numbering, number_of_nodes, profile
 from mesh import mesh_rows, read_elements, too_many_entries
 from numbering import number_part
@@ -198,7 +196,7 @@ def run_and_eliminate(starts, neighbours, numbers, levels, scratch, mark_bytes):
     return accepted(run[1], elimination(starts, neighbours, numbers[:n], scratch, mark_bytes))
 
 
-# Mesh, listing.
+# Mesh.
 
 def mesh(n, element_words, starts, neighbours, scratch):
     """(entries,)"""
@@ -219,40 +217,6 @@ def mesh(n, element_words, starts, neighbours, scratch):
     # "Neighbour words past the last used are untouched."
     put(neighbours, new_neighbours)
     return accepted(len(new_neighbours))
-
-
-def listing(file, words, starts, neighbours, scratch, numbers, levels, output):
-    """(count,) of the output bytes written."""
-    number = header_refusal(file)
-    if number:
-        return refused_with_line(number, output)
-    n = nodes_of_file(file)
-    if is_short((words, MOST_FILE_WORDS), (starts, n + 1), (neighbours, MOST_ENTRIES),
-                (scratch, 8 * n), (numbers, n), (levels, n), (output, most_output_bytes(n))):
-        return refused_with_line(5, output)
-    # From here on the words stand in the lent list, whatever follows.
-    element_words = words_after_header(file)
-    put(words, element_words)
-    number = element_refusal(file)
-    if number:
-        return refused_with_line(number, output)
-    # All else has been tested: the mesh can only refuse with 11.
-    made = mesh(n, element_words, starts, neighbours, scratch)
-    if made[0] == 'refused':
-        return refused_with_line(made[1], output)
-    (entries,) = made[1]
-    run = whole_run(starts[:n + 1], neighbours[:entries], numbers, levels, scratch)
-    text = output_text(run[1], numbers[:n], levels[:n])
-    put(output, text)
-    return accepted(len(text))
-
-
-def refused_with_line(number, output):
-    """Refuse, with the line at the front of output where it fits."""
-    line = refusal_line(number)
-    if len(line) <= len(output):
-        put(output, line)
-    return refused(number)
 
 
 # For comparisons, on legal input. Pairs are (p, q) with p < q, new numbers.

@@ -5,8 +5,6 @@ from mesh import NODE_COUNT, wrong_nodes
 
 MOST_FILE_BYTES = 65535
 HEADER_BYTES = 9
-# Words of the longest file after its header.
-MOST_FILE_WORDS = (MOST_FILE_BYTES - HEADER_BYTES) // 2
 FIGURE_NAMES = ('nodes', 'parts', 'bandwidth', 'profile', 'front', 'levels', 'width', 'passes')
 
 
@@ -66,11 +64,6 @@ def element_refusal(file):
         at = end
     # "bytes left over once all elements pass, before 11"
     return 12 if at < len(file) else 0
-
-
-def most_output_bytes(n):
-    """Bytes that hold the output text for any file of n nodes."""
-    return 99 + 15 * n
 
 
 def output_text(figures, numbers, levels):

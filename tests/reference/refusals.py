@@ -196,29 +196,7 @@ def mesh_refusals(checks):
                        [[0, 2, 4, 6, 6, OLD], [2, 3, 1, 3, 1, 2] + words(32762), [0] * 4 + [OLD]])
 
 
-# Listing and program.
-
-def lent_to_listing(n):
-    """words, starts, neighbours, scratch, numbers, levels, output"""
-    return [words(32763), words(n + 1), words(32768), words(8 * n), words(n), words(n),
-            [OLD_BYTE] * (99 + 15 * n)]
-
-
-def with_line(output, number):
-    line = list(b'refused %d\n' % number)
-    return line + output[len(line):] if len(line) <= len(output) else output
-
-
-def listing_refused(checks, name, file, lent, number, words_written=(), zeroed=0):
-    after = [list(buffer) for buffer in lent]
-    after[0][:len(words_written)] = words_written
-    after[3][:zeroed] = [0] * zeroed
-    after[6] = with_line(after[6], number)
-    answer_and_buffers(checks, 'listing, ' + name, calls.listing, [list(file)], lent,
-                       ('refused', number), after)
-    if number != 5:
-        checks.equal('program, ' + name, text_for(file), b'refused %d\n' % number)
-
+# The program.
 
 WRONG_HEADERS = [
     ('no byte', b'', 12), ('8 bytes', b'GRD\x01\x00\x03\x00\x00', 12),
@@ -246,34 +224,20 @@ WRONG_ELEMENTS = [
 ]
 
 
-def listing_refusals(checks):
+def program_refusals(checks):
     for name, file, number in WRONG_HEADERS:
-        listing_refused(checks, name, file, lent_to_listing(3), number)
-        for room in (0, 9, 10, 11):
-            listing_refused(checks, '%s, output of %d' % (name, room), file,
-                            [[], [], [], [], [], [], [OLD_BYTE] * room], number)
+        checks.equal('program, ' + name, text_for(file), b'refused %d\n' % number)
     for name, count, element, last, number in WRONG_ELEMENTS:
-        listing_refused(checks, name, grd_file(3, count, element) + last, lent_to_listing(3),
-                        number, element)
-    listing_refused(checks, '32,770 entries', grd_file(3650, 369, element_words(5)),
-                    lent_to_listing(3650), 11, element_words(5), 3650)
+        checks.equal('program, ' + name, text_for(grd_file(3, count, element) + last), b'refused %d\n' % number)
+    over = grd_file(3650, 369, element_words(5))
+    checks.equal('program, 32,770 entries', text_for(over), b'refused 11\n')
     # Bytes left over come before 11.
-    listing_refused(checks, '32,770 entries and a byte', grd_file(3650, 369, element_words(5)) + b'\x00',
-                    lent_to_listing(3650), 12, element_words(5))
-    for t in range(7):
-        lent = lent_to_listing(3)
-        lent[t].pop()
-        listing_refused(checks, 'buffer %d short' % t, grd_file(3, 1, [0]), lent, 5)
+    checks.equal('program, 32,770 entries and a byte', text_for(over + b'\x00'), b'refused 12\n')
 
 
-def listing_accepted(checks):
-    lent = [buffer + [OLD_BYTE] for buffer in lent_to_listing(3)]
-    text = (b'nodes 3 parts 2 bandwidth 1 profile 1 front 2 levels 3 width 1 passes 2\n'
-            b'1 1 1\n2 3 1\n3 2 2\n')
-    after = [[1, 3, 1] + words(32760), [0, 1, 1, 2], [3, 1] + words(32766), [0] * 24,
-             [1, 3, 2], [1, 1, 2], list(text) + [OLD_BYTE] * (144 - len(text))]
-    answer_and_buffers(checks, 'listing', calls.listing, [list(grd_file(3, 1, [1, 3, 1]))], lent,
-                       ('accepted', (len(text),)), [buffer + [OLD_BYTE] for buffer in after])
+def program_accepted(checks):
+    checks.equal('program, a bar', text_for(grd_file(3, 1, [1, 3, 1])),
+                 b'nodes 3 parts 2 bandwidth 1 profile 1 front 2 levels 3 width 1 passes 2\n1 1 1\n2 3 1\n3 2 2\n')
 
 
 # Any words at all.
@@ -314,7 +278,7 @@ def random_files(checks):
 def main():
     checks = Checks('table of refusals')
     for subject in (broken_lists, short_buffers, wrong_nodes, wrong_numberings, short_mark_bytes,
-                    accepted_buffers, mesh_refusals, listing_refusals, listing_accepted,
+                    accepted_buffers, mesh_refusals, program_refusals, program_accepted,
                     random_input, random_files):
         subject(checks)
     return checks.report()
