@@ -1,7 +1,8 @@
 #!/usr/bin/env python3
 """The examples in C, Fortran and Rust: built over the static library, run on two meshes and on broken files, held to the independent program.
 
-`renumber` must print what the program prints for every file, so it is run on many. One without its compiler here is skipped, as 'skipped: no gfortran'. The library is built first where it is older than the crates.
+`renumber` must print what the program prints for every file, so it is run on many. One without its compiler here is skipped, as 'skipped: no
+gfortran'. The library is built first where it is older than the crates.
 """
 
 import os

@@ -221,12 +221,13 @@ def cut_short(c, folder):
     lines = listing.splitlines(keepends=True)
     figures, row = lines[0], lines[3]
     broken = [changed(lines, 3), changed(lines, 5), changed(lines, 3, row, row), changed(lines, 5, lines[5], b'6 6 6\n'),
-              changed(lines, 3, lines[4], row), changed(lines, 3, b'\n'), changed(lines, 3, b'\n', row), listing + b'\n',
+              changed(lines, 3, lines[4], row), changed(lines, 3, b'\n'), changed(lines, 3, b'\n', row), listing + b'\n', listing + listing,
               changed(lines, 3, row[:-3] + b'\n'), changed(lines, 3, row[:-1] + b' 1\n'), changed(lines, 3, row[:-1] + b'x\n'),
-              changed(lines, 0), changed(lines, 0, figures, figures), changed(lines, 0, figures[:-1] + b' \n'), changed(lines, 0, figures[:-3] + b'\n'),
+              changed(lines, 0), changed(lines, 0, figures, figures), changed(lines, 0, figures[:-1] + b' \n'),
+              changed(lines, 0, figures[:-3] + b'\n'), changed(lines, 0, figures.replace(b'parts', b'part')),
               changed(lines, 0, figures.replace(b'nodes 5', b'nodes 6')), changed(lines, 0, figures.replace(b'nodes 5', b'nodes 4')),
-              changed(lines, 0, figures.replace(b'parts', b'part')), listing + listing, b'\n', b'refused\n', b'refused \n', b'refused x\n',
-              b'refused 9\nrefused 9\n', b'refused 9\n1 1 1\n', b'refused 9' + listing, listing + b'refused 9\n', figures]
+              b'\n', b'refused\n', b'refused \n', b'refused x\n', b'refused 9\nrefused 9\n', b'refused 9\n1 1 1\n', b'refused 9' + listing,
+              listing + b'refused 9\n', figures]
     for text in cuts + broken:
         status, out, err = ran(text)
         c.equal('not whole: %r' % text, (status, out, err), (2, b'', b"renumber: the program's output is cut short\n"))
