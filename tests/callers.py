@@ -78,7 +78,7 @@ def broken(mesh):
     return {'empty': b'', 'short header': mesh[:8], 'mark': b'grd' + mesh[3:], 'version': mesh[:3] + b'\2' + mesh[4:], 'cut': mesh[:-1],
             'word cut': mesh[:-2], 'byte more': mesh + b'\0', 'element more': mesh + b'\1\0\1\0\2\0', 'count less': mesh[:7] + b'\1\0' + mesh[9:],
             'count more': mesh[:7] + b'\xff\xff' + mesh[9:], 'no nodes': mesh[:5] + b'\0\0' + mesh[7:], 'kind': mesh[:9] + b'\13' + mesh[10:],
-            'node': mesh[:11] + b'\0\0' + mesh[13:], 'too long': mesh + bytes(65536)}
+            'node': mesh[:11] + b'\0\0' + mesh[13:], 'too long': mesh + bytes(65536), 'too long, no nodes': b'GRD\1' + bytes(65532)}
 
 
 def wrong(example, file, run):

@@ -173,13 +173,18 @@ def nothing_done(c, folder):
         status, out, err = run(*words)
         c.equal('%s: status and output' % words, (status, out), (2, b''))
         c.holds('%s: %s' % (words, err), message in err)
+    # reading it fails at once
+    for words in ([], ['--explain'], ['-']) if os.path.exists('/proc/self/mem') else []:
+        with open('/proc/self/mem', 'rb', buffering=0) as file:
+            done = subprocess.run([SCRIPT, *words], stdin=file, stdout=subprocess.PIPE, stderr=subprocess.PIPE, check=False)
+        c.equal('a read that fails', (done.returncode, done.stdout, done.stderr), (2, b'', b'renumber: the mesh cannot be read to its end\n'))
     status, out, err = run('--help')
     c.equal('--help', (status, err), (0, b''))
     c.holds('--help says how', out.startswith(b'usage: renumber '))
 
 
 # A stand-in for the program: it prints the file `text` and ends with the status in the file `status`.
-STAND_IN = '#!/bin/sh\ncat text\nexit $(cat status)\n'
+STAND_IN = '#!/bin/sh\ncat > /dev/null\ncat text\nexit $(cat status)\n'
 
 
 def put(path, content):
@@ -262,7 +267,7 @@ if [ -e broken ]; then echo 'error: a fact'; exit 1; fi
 echo 'rt: renumber proved (3 s)'
 sleep 0.2
 mkdir -p target/bin
-printf '#!/bin/sh\\necho refused 12\\n' > target/bin/renumber
+printf '#!/bin/sh\\ncat > /dev/null\\necho refused 12\\n' > target/bin/renumber
 chmod +x target/bin/renumber
 """
 
