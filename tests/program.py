@@ -1,11 +1,14 @@
 #!/usr/bin/env python3
 """The script `renumber` and the program that it runs: every text is held to the independent program's, and each exit status to the rule.
 
-The program is run on thousands of generated files, valid and damaged; the script on fewer, and beside stand-ins for the program and the toolchain.
+  program.py                       all of it
+  program.py --files N --seed S    only the program, on N random files and N damaged ones
 
+The program is run on thousands of generated files, valid and damaged; the script on fewer, and beside stand-ins for the program and the toolchain.
 Each wrong case is printed, then one line, 'N cases, M wrong'. Status 1 where one is wrong.
 """
 
+import argparse
 import glob
 import os
 import random
@@ -123,13 +126,16 @@ def listings(c, folder):
         c.equal('damaged %d: %r' % (i, content), run(given=content), expected(text_for(content)))
 
 
-def generated(c, count):
-    """The program itself, without the script: every file that reading_test is run on, and so many random valid and damaged ones."""
-    draw = Draw(13)
-    made = [file for _, file in all_files()] + list(random_valid(draw, count)) + list(random_damaged(draw, count))
+def generated(c, made):
+    """The program itself, without the script."""
     for number, content in enumerate(made, 1):
         done = subprocess.run([PROGRAM], input=content, stdout=subprocess.PIPE, stderr=subprocess.PIPE, check=False)
-        c.equal('generated %d: %r' % (number, content[:60]), (done.returncode, done.stdout, done.stderr), (0, text_for(content), b''))
+        c.equal('generated %d: %r' % (number, content[:200]), (done.returncode, done.stdout, done.stderr), (0, text_for(content), b''))
+
+
+def random_files(seed, count):
+    draw = Draw(seed)
+    return list(random_valid(draw, count)) + list(random_damaged(draw, count))
 
 
 def in_pieces(content, size, pause):
@@ -323,14 +329,22 @@ def without_toolchain(c, folder):
 
 
 def main():
+    parser = argparse.ArgumentParser(description=__doc__.split('\n')[0])
+    parser.add_argument('--files', type=int)
+    parser.add_argument('--seed', type=int, default=13)
+    asked = parser.parse_args()
     status, _, err = run(given=SAMPLE)
     if status:
         print(err.decode('utf-8', 'replace'))
         return 1
     c = Cases()
+    if asked.files is not None:
+        generated(c, random_files(asked.seed, asked.files))
+        return c.report()
     with tempfile.TemporaryDirectory() as folder:
         listings(c, folder)
-        generated(c, 1500)
+        # every file that reading_test is run on, and random ones
+        generated(c, [file for _, file in all_files()] + random_files(asked.seed, 1500))
         pieces(c)
         explained(c, folder)
         nothing_done(c, folder)

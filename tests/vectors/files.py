@@ -32,7 +32,7 @@ LENT = (35000, 4100, 32780, 4100)
 # What is expected.
 
 def read(file, words, starts, neighbours, scratch):
-    """The listing's steps up to the two lists; 5 can't be, as enough is lent."""
+    """The program's steps up to the two lists; 5 can't be, as enough is lent."""
     refusal = header_refusal(file)
     if refusal:
         return calls.refused(refusal)
