@@ -1,0 +1,112 @@
+-- DEMAND 3 of `wagonepoch_run` and then `wagonepoch_eliminate` on its n numbers: "nobody writes them or the two lists between the calls". The
+-- premises are just what the two contracts ensure, and that the run answered 0. Assumes nothing.
+use mathlib.Core.Path.{_≡_, refl, sym, ap, _∙_}
+use mathlib.Core.Bool.{Bool, true, false, cond, _||_}
+use mathlib.Core.List.{List}
+use mathlib.Core.Logic.{_↔_}
+use Prim.Native.Nat.{ℕ, zero, suc, _+_, _*_, _/_, _<_}
+use native.Mathlib.Omega.{arith}
+use lib.ListN.{take}
+use Rattle.basis.specs.Lists.{overwrite}
+use Rattle.spec.specs.CallsNumbering.{runRefusal, runAnswer, runNumbers, runLevels}
+use Rattle.spec.specs.CallsStore.{EliminationFigures, eliminationFigures, eliminationAnswer, eliminationBytes}
+use Rattle.spec.specs.Claim.{JoinedPlace, StoreClaim, Claim}
+use Rattle.spec.specs.Graph.{Graph, graphOf, graphRefusal, sizeOf}
+use Rattle.spec.specs.Lent.{Outcome, accepted, refused, outcome, short}
+use Rattle.spec.specs.Measures.{renumbered}
+use Rattle.spec.specs.Numbering.{Figures, run}
+use Rattle.spec.specs.Refusal.{refuse, _orElse_}
+use Rattle.spec.specs.Store.{markAt}
+use Rattle.laws.proofs.Claim.{claim}
+use Rattle.capi_figures.specs.Figures.{number, written, answerC, lentC, figuresC, runList, eliminationList}
+use Rattle.capi_figures.specs.Claimed.{figuresIn, ClaimedC}
+
+-- ---- an answer of 0
+
+-- k figures with the list F lent, a first refusal and an outcome: where 0 is answered the list is long enough and nothing was refused
+zero-answer : {A : Type 0} (k : ℕ) (F : List ℕ) (first c : ℕ) (a : A) → answerC k F first (outcome c a) ≡ 0 → (short F k ≡ false) × (c ≡ 0)
+unfolding answerC number outcome
+zero-answer k F first c a e = go (short F k) refl first c e
+  where
+    go : (b : Bool) → short F k ≡ b → (f d : ℕ) → cond b (f orElse 5) (number (outcome d a)) ≡ 0 → (b ≡ false) × (d ≡ 0)
+    go true s zero d h = absurd (omega (arith, h))
+    go true s (suc f) d h = absurd (omega (arith, h))
+    go false s f zero h = (refl, refl)
+    go false s f (suc d) h = absurd (omega (arith, h))
+
+-- the figures read from the list are those written to it
+read-back : (F : Figures) (P : List ℕ) → figuresIn (overwrite (runList F) P) ≡ F
+read-back F P = refl
+
+-- ---- the elimination, whose two lists are legal: it is refused as its outcome is, or by 5 where its list of figures is short
+
+module _ (Q : List ℕ) (c : ℕ) (a : EliminationFigures) where
+  late-answer : (b d : Bool) (e : ℕ) → c ≡ (refuse d 5 orElse e) → short Q 2 ≡ b → cond b (0 orElse 5) (number (outcome c a)) ≡ (refuse (b || d) 5 orElse e)
+  unfolding number outcome
+  late-answer true d e h s = refl
+  late-answer false true e h s = rw h
+  late-answer false false e h s = rw h (same e)
+    where
+      same : (x : ℕ) → number (outcome x a) ≡ x
+      same zero = refl
+      same (suc x) = refl
+
+-- ---- the two calls
+
+-- the run: lists S and N, numbers X₀, levels L₀, scratch W and figures P₀ are lent; it answered 0 and left P, X and L
+module _ (S N X₀ L₀ W P₀ P X L : List ℕ) {r : ℕ} (run-answers : r ≡ answerC 8 P₀ (graphRefusal S N) (runAnswer S N X₀ L₀ W)) (run-figures : P ≡ figuresC 8 P₀ runList (runAnswer S N X₀ L₀ W)) (run-numbers : X ≡ lentC 8 P₀ X₀ (runNumbers S N X₀ L₀ W)) (run-levels : L ≡ lentC 8 P₀ L₀ (runLevels S N X₀ L₀ W)) (accepts : r ≡ 0) where
+  abbrev F : Figures
+  F = run (graphOf S N) .figures
+
+  passed : (short P₀ 8 ≡ false) × (runRefusal S N X₀ L₀ W ≡ 0)
+  unfolding runAnswer
+  passed = zero-answer 8 P₀ (graphRefusal S N) (runRefusal S N X₀ L₀ W) F (sym run-answers ∙ accepts)
+
+  answer-is : runAnswer S N X₀ L₀ W ≡ accepted F
+  unfolding runAnswer outcome
+  answer-is = rw (passed .1)
+
+  figures-are : figuresIn P ≡ F
+  unfolding figuresC written
+  figures-are = rw (run-figures, passed .0, answer-is) (read-back F P₀)
+
+  run-claim : Claim S N (figuresIn P) (take (sizeOf S) X) (take (sizeOf S) L)
+  unfolding lentC
+  run-claim = rw (figures-are, run-numbers, run-levels, passed .0) (claim S N X₀ L₀ W F answer-is)
+
+  abbrev Y : List ℕ
+  Y = take (sizeOf S) X
+
+  abbrev h : Graph
+  h = renumbered (graphOf S N) Y
+
+  -- the elimination by the run's n numbers, lent C, B and Q₀: it answered s and left Q and B′
+  module _ (C B B′ Q₀ Q : List ℕ) {s : ℕ} (answers : s ≡ answerC 2 Q₀ (graphRefusal S N) (eliminationAnswer S N Y C B)) (figures : Q ≡ figuresC 2 Q₀ eliminationList (eliminationAnswer S N Y C B)) (bytes : B′ ≡ lentC 2 Q₀ B (eliminationBytes S N Y C B)) where
+    abbrev refusal : ℕ
+    refusal = refuse (short C (sizeOf S)) 5 orElse refuse (short B ((figuresIn P .profile + 7) / 8)) 8
+
+    outcome-is : eliminationAnswer S N Y C B ≡ outcome refusal (eliminationFigures h)
+    outcome-is = run-claim .store .refuses C B
+
+    refuses : s ≡ (refuse (short Q₀ 2 || short C (sizeOf S)) 5 orElse refuse (short B ((figuresIn P .profile + 7) / 8)) 8)
+    unfolding answerC
+    refuses = answers ∙ rw (run-claim .numbered .legal, outcome-is) (late-answer Q₀ refusal (eliminationFigures h) (short Q₀ 2) (short C (sizeOf S)) _ refl refl)
+
+    module _ (zero-is : s ≡ 0) where
+      taken : (short Q₀ 2 ≡ false) × (refusal ≡ 0)
+      taken = zero-answer 2 Q₀ (graphRefusal S N) refusal (eliminationFigures h) (rw (← outcome-is) (sym answers ∙ zero-is))
+
+      accepted-is : eliminationAnswer S N Y C B ≡ accepted (eliminationFigures h)
+      unfolding outcome
+      accepted-is = rw (outcome-is, taken .1)
+
+      marks : (t : ℕ) → t < 8 * ((figuresIn P .profile + 7) / 8) → (markAt B′ t ≡ 1) ↔ JoinedPlace h t
+      unfolding lentC
+      marks t l = rw (bytes, taken .0) (run-claim .store .marks C B (eliminationFigures h) accepted-is t l)
+
+      counts : Q ≡ overwrite (eliminationList (eliminationFigures h)) Q₀
+      unfolding figuresC written
+      counts = rw (figures, taken .0, accepted-is)
+
+    pub two-calls : ClaimedC S N P X L C B Q₀ s Q B′
+    two-calls = record { claim = run-claim; refuses = refuses; marks = marks; counts = counts }
