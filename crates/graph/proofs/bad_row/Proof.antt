@@ -40,7 +40,7 @@ returns-3 : tie.Need-returns-3 Inv-loop μ-loop
 returns-3 c =
     let l = c .before .before .before .before .before in
     let a = l .before .args in
-    sym (row-holds (a .n) (a .p) (now (a .row)) (l .loop .j) (omega arith) (c .if3 .taken))
+    sym (row-holds (a .n) (a .p) (now (a .row)) (l .loop .j) (omega arith) (omega (arith, c .if3 .taken)))
 
 loop-again : tie.Need-loop-again Inv-loop μ-loop
 loop-again c =

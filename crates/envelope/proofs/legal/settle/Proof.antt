@@ -38,7 +38,7 @@ returns-2 c =
 returns-3 : tie.Need-returns-3 Inv-loop μ-loop
 returns-3 c =
     let l = c .before .before .before .before .before .before .before in (
-      settle-taken _ (l .loop .order) (l .loop .i) _ (l .loop .inv .3) (omega arith) (c .before .before .before .before .wide .ensures) (omega arith) (omega arith) (c .if3 .taken),
+      settle-taken _ (l .loop .order) (l .loop .i) _ (l .loop .inv .3) (omega arith) (c .before .before .before .before .wide .ensures) (omega arith) (omega arith) (λ z. absurd (omega (arith, z, c .if3 .taken))),
       λ e. absurd (false≢true e),
     )
 
