@@ -1,4 +1,4 @@
-// The C interface: every entry point over plain numbers and slices, a slice being a pointer and a length. Each call answers 0 or the number of
+// The C interface: the adjacency test and the calls of document 01 over plain numbers and slices, a slice being a pointer and a length. Each answers 0 or the number of
 // a refusal, and an accepted call writes its figures into a lent list of 64-bit words. Nothing is required of the numbers and the lists.
 mod calls_levels;
 mod calls_mesh;
