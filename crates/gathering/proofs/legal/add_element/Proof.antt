@@ -27,7 +27,7 @@ place : (c : tie.After-row-of Inv-loop μ-loop)
 place c k h = c .row-of .ensures k (omega (arith, h))
 
 add-to-requires : tie.Need-add-to-requires Inv-loop μ-loop
-add-to-requires c κs = (c .before .before .before .before .before .loop .inv .1, c .before .if1 .taken, c .before .before .before .before .before .before .before .before .pre .1)
+add-to-requires c κs = (c .before .before .before .before .before .loop .inv .1, omega (arith, c .before .if1 .taken), c .before .before .before .before .before .before .before .before .pre .1)
 
 loop-again : tie.Need-loop-again Inv-loop μ-loop
 loop-again c =
@@ -39,7 +39,7 @@ loop-again c =
       ⊎-elim (λ w. rw (w .5) (w .2 .kept .0 ∙ l .inv .1)) (λ w. rw (w .1) (l .inv .1)) (c .if1 .came),
       ⊎-elim
           (λ w. rw (w .5) (towards-step (l .inv .2) (w .2 .ensures) (node-next (a .base) (now (a .nodes)) (l .j) (r .row-of .result) (place r) h)))
-          (λ w. rw (w .1) (towards-skip (l .inv .2) (node-past (a .base) (now (a .nodes)) (l .j) (r .row-of .result) (place r) h (w .0 .left))))
+          (λ w. rw (w .1) (towards-skip (l .inv .2) (node-past (a .base) (now (a .nodes)) (l .j) (r .row-of .result) (place r) h (omega (arith, w .0 .left)))))
           (c .if1 .came),
     )
 
