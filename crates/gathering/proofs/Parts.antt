@@ -21,8 +21,8 @@ pub part-lent : (xs : List ℕ) (row : ℕ) → midOf (64 * row) (64 * row + 64 
 unfolding setAt
 part-lent xs row = let e : 64 * row + 64 - 64 * row ≡ 64 = omega arith in ap (λ (i : ℕ). take i (drop (64 * row) xs)) e
 
-pub part-size : (xs : List ℕ) (row : ℕ) → length xs ≡ 4096 → row < 64 → length (midOf (64 * row) (64 * row + 64 - 64 * row) xs) ≡ 64
-part-size xs row size h = omega (arith, mid-len (64 * row) (64 * row + 64) xs (omega (arith, size)))
+pub part-size : (xs : List ℕ) (a : ℕ) → a + 64 ≤ length xs → length (midOf a (a + 64 - a) xs) ≡ 64
+part-size xs a h = omega (arith, mid-len a (a + 64) xs h)
 
 -- ---- and put back with other words
 

@@ -29,7 +29,7 @@ start c = before-call (c .before .before .before .before .before .before)
 close-row-requires : tie.Need-close-row-requires
 close-row-requires c κs =
     let s = c .before .before .before .before .before .before in (
-      (part-size (now (s .args .group)) (s .args .row) (s .pre .0 .0) (s .pre .0 .1), covered-all _, s .pre .0 .3),
+      (part-size (now (s .args .group)) (64 * s .args .row) (omega (arith, s .pre .0)), covered-all _, s .pre .0 .3),
       λ h. omega (arith, ap length (same s), s .pre .1 h),
     )
 
@@ -40,7 +40,7 @@ returns c =
     let a = s .args in (
       k .ensures .0 ∙ ap (λ (l : List ℕ). a .at + length l) (same s),
       (
-        λ i h. put-other (now (a .group)) (k .last .0) (a .row) (s .pre .0 .0) (s .pre .0 .1) (k .kept .0 ∙ part-size (now (a .group)) (a .row) (s .pre .0 .0) (s .pre .0 .1)) i (λ e. absurd (omega (arith, h, e))),
+        λ i h. put-other (now (a .group)) (k .last .0) (a .row) (s .pre .0 .0) (s .pre .0 .1) (k .kept .0 ∙ part-size (now (a .group)) (64 * a .row) (omega (arith, s .pre .0))) i (λ e. absurd (omega (arith, h, e))),
         (k .ensures .1 .1 .0, k .ensures .1 .1 .1 ∙ ap (sets (now (a .neighbours)) (a .at)) (same s)),
       ),
     )
