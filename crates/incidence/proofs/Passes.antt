@@ -168,8 +168,3 @@ module _ (ws : List ℕ) (rows : ℕ) (words : List ℕ) (K : Linked ws rows wor
     walking-done z = record {
       at = λ x l. sym (or-false (has bits x)) ∙ ap (λ (c : ℕ). has bits x || holdIn (nodeIn ws) c rows words c (suc x)) (sym z) ∙ W .at x l;
     }
-
--- ---- another word for the same test
-
-pub added-by : {t t′ : ℕ → Bool} {a b : List ℕ} → Added t a b → ((q : ℕ) → t q ≡ t′ q) → Added t′ a b
-added-by {a = a} A e = record { at = λ x l. A .at x l ∙ ap (λ c. has a x || c) (e (suc x)) }

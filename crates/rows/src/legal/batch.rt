@@ -1,4 +1,4 @@
-// All rows, as many at a time as the lists of their elements have room.
+// All rows, as many at a time as the lists of their elements have room for, or 64 without lists.
 ghost use mathlib.Core.Path.{_≡_};
 ghost use Prim.Native.Nat.{_+_, _≤_, _<_};
 ghost use lib.ListN.{length, replicate};
@@ -8,7 +8,7 @@ ghost use Rattle.rowset.specs.Set.{Empty};
 ghost use Rattle.incidence.specs.Cells.{Listed};
 ghost use Rattle.rows.specs.Rows.{entriesTo, Ready, Clean, Goes, Laid};
 
-// How many rows to try first, of those guessed: twice as many as had room last at most, or all where none had.
+// How many rows to try first, of those guessed: twice as many as went last at most, or all where none went.
 fn to_try(guess: usize, last: usize) -> usize
     requires { ⌜ last ≤ 4096 ⌝ }
     ensures { λ r. ⌜ r ≤ guess ⌝ }
