@@ -61,8 +61,9 @@ def before(trial):
     return dict(list(zip(names, trial.given)) + [(name, filled(trial.fill, code_of(name), length)) for name, length in lent])
 
 
-def lists_in(values):
-    return {name: value for name, value in values.items() if isinstance(value, list)}
+def in_memory(values):
+    """The lists by name, each with what is behind it."""
+    return {name: guarded(code_of(name), value) for name, value in values.items() if isinstance(value, list)}
 
 
 def whole(values, *names):
@@ -119,7 +120,7 @@ def wanted(trial):
     values, made = before(trial), []
     for function, arguments in steps(trial, values):
         answer = reference_answer(function, values, arguments)
-        made.append((answer, [guarded(code_of(name), value) for name, value in lists_in(values).items()]))
+        made.append((answer, list(in_memory(values).values())))
         if answer:
             break
     return made
@@ -127,12 +128,17 @@ def wanted(trial):
 
 # By the library.
 
+def told(values, memory, arguments):
+    """What a call gets: numbers, and lists in their memory."""
+    return [values[name] if length is None else Span(memory[name], length) for name, length in arguments]
+
+
 def got(library, trial):
     """The same by the library. The lists of the trial stay in one place from its first call to its last."""
     values, made = before(trial), []
-    memory = {name: guarded(code_of(name), value) for name, value in lists_in(values).items()}
+    memory = in_memory(values)
     for function, arguments in steps(trial, values):
-        answer = library.call(function, [values[name] if length is None else Span(memory[name], length) for name, length in arguments])
+        answer = library.call(function, told(values, memory, arguments))
         made.append((answer, [array(words.typecode, words) for words in memory.values()]))
         if answer:
             break
@@ -141,7 +147,7 @@ def got(library, trial):
 
 def difference(trial, was, must):
     """What differs first, or ''."""
-    names = list(lists_in(before(trial)))
+    names = list(in_memory(before(trial)))
     for function, one, other in zip(FUNCTIONS[trial.call], was, must):
         if one[0] != other[0]:
             return '%s answered %d, must answer %d' % (function, one[0], other[0])
