@@ -6,7 +6,6 @@ does not refuse, hubs, few nodes, and lists that are refused. Each is compared w
 calls: a word of the longest list takes at most FACTOR times what a word of one just below 65,536 takes, and so does a word just above it.
 """
 
-import ctypes
 import os
 import random
 import sys
@@ -16,9 +15,9 @@ TOP = os.path.dirname(os.path.dirname(os.path.abspath(__file__)))
 sys.dont_write_bytecode = True
 sys.path[:0] = [os.path.join(TOP, 'tests', part) for part in ('reference', 'definitions', 'vectors', 'interface', '')]
 
-from library import PARAMETERS, Library, guarded
+from library import Library
 from mesh import NODE_COUNT
-from trials import Trial, difference, got, lists_of, values_of, wanted
+from trials import Trial, before, difference, got, in_memory, steps, told, wanted
 
 SEED = 1976
 NODES, ENTRIES = 4096, 32768
@@ -72,7 +71,7 @@ def trial(kind, mesh, length, fill=0, damage=None):
     words = words_of(elements, length)
     if damage:
         words[-len(damage):] = damage
-    return Trial(kind, 'mesh', (n, words), (n + 3, ENTRIES + 2, n + 2), 1, fill)
+    return Trial(kind, 'mesh', [n, words], [n + 3, ENTRIES + 2, n + 2], [1], fill)
 
 
 def trials():
@@ -96,18 +95,12 @@ def trials():
 def seconds(library, mesh, length):
     """Processor time of one call on a list of so many words, the best of some."""
     one = trial('time', mesh, length)
-    values = values_of(one, *lists_of(one))
-    call, words, lists = library.loaded.wagonepoch_mesh, [], []
-    for parameter, value in zip(PARAMETERS['mesh'], values):
-        if parameter.code is None:
-            words.append(parameter.number(value))
-        else:
-            lists.append(guarded(parameter.code, value))
-            words += [ctypes.c_void_p(lists[-1].buffer_info()[0]), ctypes.c_size_t(len(value))]
-    times = []
+    values = before(one)
+    (function, arguments), = steps(one, values)
+    given, times = told(values, in_memory(values), arguments), []
     for _ in range(3 if length > 10 * LISTED else 9):
         begin = time.thread_time()
-        call(*words)
+        library.call(function, given)
         times.append(time.thread_time() - begin)
     return min(times)
 
