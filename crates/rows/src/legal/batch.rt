@@ -154,7 +154,7 @@ fn some_rows(
     listed_rows(bits, lists, elements, base, rows, at, starts, neighbours)
 }
 
-// All rows from the first on; returns the entry count. The lists of elements have a word for each node.
+// All rows from the first on; returns the entry count. The lists of elements have a word for each node. Few nodes are one group.
 pub(crate) fn all_rows(
     bits: &mut [u64],
     lists: &mut [u16],
@@ -167,6 +167,9 @@ pub(crate) fn all_rows(
     ensures { λ _. ⌜ Laid (graphOfElements (length (now (lists .entry))) (now (elements .entry))) (now (starts .entry)) (now (neighbours .entry)) (length (now (lists .entry))) (now (starts .exit)) (now (neighbours .exit)) ⌝ }
 {
     let n = lists.len();
+    if n <= 64 {
+        return group_rows(n, elements, 0, n, 0, starts, neighbours);
+    }
     let mut to = 0;
     let mut base = 0;
     let mut rows = 0;

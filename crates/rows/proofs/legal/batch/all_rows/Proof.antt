@@ -1,6 +1,7 @@
 -- `rows::legal::batch::all_rows` meets its contract. Assumes nothing.
 use Prim.Native.Nat.{ℕ, _+_, _-_, _≤_}
 use mathlib.Core.Path.{_≡_, refl, sym, ap, subst, _∙_}
+use native.Mathlib.Nat.{zero-add}
 use native.Mathlib.Omega.{arith}
 use denote.Ref.{now}
 use lib.ListN.{length}
@@ -19,7 +20,7 @@ abbrev μ-loop : tie.MeasureT-loop
 μ-loop bits₀ lists₀ elements starts₀ neighbours₀ n to₀ base₀ rows₀ bits lists starts neighbours to base rows = n - base
 
 -- the places, from the end back to the start
-abbrev done : tie.After-slice-known8 Inv-loop μ-loop → tie.After-some-rows Inv-loop μ-loop
+abbrev done : tie.After-slice-known10 Inv-loop μ-loop → tie.After-some-rows Inv-loop μ-loop
 done c = c .before .before .before .before .before .before
 
 abbrev chosen : tie.After-some-rows Inv-loop μ-loop → tie.After-next-rows Inv-loop μ-loop
@@ -28,12 +29,33 @@ chosen c = c .before .before .before .before .before .before .before
 abbrev looped : tie.After-next-rows Inv-loop μ-loop → tie.At-loop Inv-loop μ-loop
 looped c = c .before .before .before
 
+abbrev known : tie.After-slice-known4 Inv-loop μ-loop → tie.Start Inv-loop μ-loop
+known c = c .before .before .before .before .before
+
 abbrev first : tie.At-loop Inv-loop μ-loop → tie.Start Inv-loop μ-loop
-first l = l .before .before .before .before .before .before
+first l = known (l .before .before)
+
+-- few nodes: one group
+group-rows-requires : tie.Need-group-rows-requires Inv-loop μ-loop
+group-rows-requires c κs =
+    let t = c .before .before in
+    let s = known (t .before) in
+    ((s .pre .0, t .if1 .taken, omega arith), to-none _)
+
+returns : tie.Need-returns Inv-loop μ-loop
+returns c =
+    let k = c .before .before .before .before in
+    let a = known (k .before .before .before .before) .args in
+    let g = graphOfElements (length (now (a .lists))) (now (a .elements)) in
+    let e = zero-add (length (now (a .lists))) in (
+      k .group-rows .ensures .end ∙ ap (entriesTo g) e,
+      subst (λ (j : ℕ). Laid g (now (a .starts)) (now (a .neighbours)) j (k .group-rows .last .1 .1 .1 .1 .1 .0) (k .group-rows .last .1 .1 .1 .1 .1 .1 .0)) e
+          (k .group-rows .ensures .goes (now (a .starts)) (now (a .neighbours)) (laid-begin g (now (a .starts)) (now (a .neighbours)))),
+    )
 
 loop-holds : tie.Need-loop-holds Inv-loop μ-loop
 loop-holds c =
-    let s = c .before .before .before .before .before in
+    let s = known (c .before) in
     let a = s .args in
     (refl, omega arith, refl, filling-begin (length (now (a .lists))) (now (a .elements)) 0 (now (a .starts)) (now (a .neighbours)) 0 (s .pre .0) (to-none _), s .pre .1, omega arith)
 
@@ -83,8 +105,8 @@ loop-again c =
       omega (arith, within d .1, i .3 .ready .few),
     )
 
-returns : tie.Need-returns Inv-loop μ-loop
-returns c =
+returns-2 : tie.Need-returns-2 Inv-loop μ-loop
+returns-2 c =
     let l = c .before .loop in
     let a = first (c .before) .args in
     let i = l .inv in
@@ -101,6 +123,10 @@ all-rows-spec =
     (tie.spec
     Inv-loop
     μ-loop
+    group-rows-requires
+    (λ c. c .before .before .before .before .group-rows .kept .1 .1 .1 .1 .1 .0)
+    (λ c. c .before .before .before .before .group-rows .kept .1 .1 .1 .1 .1 .1 .0)
+    returns
     loop-holds
     next-rows-requires
     some-rows-requires
@@ -111,4 +137,4 @@ all-rows-spec =
     (λ c. c .before .loop .inv .2)
     (λ c. c .before .loop .inv .3 .starts-length)
     (λ c. c .before .loop .inv .3 .neighbours-length)
-    returns)
+    returns-2)
