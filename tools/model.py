@@ -14,6 +14,9 @@ Element = namedtuple('Element', 'kind nodes line name')
 class Fault(Exception):
     """A mistake in a file; line 0 stands for the file as a whole. Without a path it is the command's first file."""
 
+    # the exit status of the command
+    status = 1
+
     def __init__(self, line, text, path=None):
         super().__init__(text)
         self.line = line
@@ -22,6 +25,12 @@ class Fault(Exception):
     def message(self, path):
         place = '%s:%d' % (self.path or path, self.line) if self.line else self.path or path
         return '%s: %s' % (place, self)
+
+
+class Stop(Fault):
+    """Something that is no mistake, but not understood or not allowed: nothing is done."""
+
+    status = 2
 
 
 class Model:

@@ -1,9 +1,9 @@
 #!/usr/bin/env python3
 """Gmsh, CalculiX, Abaqus and NASTRAN meshes to GRD.
 
-  to_grd.py IN OUT.grd              by IN's ending: .msh, .inp, or .bdf .nas .dat .fem
-  to_grd.py --from gmsh|abaqus|nastran IN OUT.grd
-  to_grd.py --compact IN OUT.grd    close gaps in the node numbers; OUT.nodes has the map
+  to_grd.py IN -o OUT.grd              by IN's ending: .msh, .inp, or .bdf .nas .dat .fem
+  to_grd.py --from gmsh|abaqus|nastran IN -o OUT.grd
+  to_grd.py --compact IN -o OUT.grd    close gaps in the node numbers; OUT.nodes has the map
 """
 
 import argparse
@@ -14,7 +14,7 @@ import abaqus
 import gmsh
 import grd
 import nastran
-from files import command, read_lines, write_all
+from files import GRD, NODES, Output, add_output_options, command, read_lines, write_own
 from model import Fault, mesh_of
 
 READERS = {'gmsh': gmsh.read, 'abaqus': abaqus.read, 'nastran': nastran.read}
@@ -41,10 +41,10 @@ def convert(arguments):
     read = READERS[arguments.format or format_of(arguments.input)]
     model = read(read_lines(arguments.input))
     mesh, numbers = mesh_of(model, arguments.compact)
-    outputs = [(arguments.output, grd.write(mesh))]
+    outputs = [Output(arguments.output, grd.write(mesh), GRD)]
     if arguments.compact:
-        outputs.append((map_path(arguments.output), map_bytes(numbers)))
-    write_all(outputs)
+        outputs.append(Output(map_path(arguments.output), map_bytes(numbers), NODES))
+    write_own(outputs, [arguments.input], arguments.force)
     report(arguments, model, mesh)
 
 
@@ -64,7 +64,7 @@ def main(words):
     parser.add_argument('--from', dest='format', choices=sorted(READERS), help="the input's format; otherwise its ending tells")
     parser.add_argument('--compact', action='store_true', help='renumber nodes by rising number; OUT.nodes has the map')
     parser.add_argument('input', metavar='IN')
-    parser.add_argument('output', metavar='OUT.grd')
+    add_output_options(parser, 'OUT.grd')
     arguments = parser.parse_args(words)
     return command(lambda: convert(arguments), arguments.input)
 

@@ -1,9 +1,9 @@
 #!/usr/bin/env python3
 """The program's listing to NASTRAN's SEQGP cards (source document 004): pairs of a grid point's number and its new number, four to a card.
 
-  to_seqgp.py LISTING OUT                    small field, 8 columns
-  to_seqgp.py --free LISTING OUT             free field
-  to_seqgp.py --nodes MAP LISTING OUT        with the numbers from before to_grd.py --compact
+  to_seqgp.py LISTING -o OUT                 small field, 8 columns
+  to_seqgp.py --free LISTING -o OUT          free field
+  to_seqgp.py --nodes MAP LISTING -o OUT     with the numbers from before to_grd.py --compact
 """
 
 import argparse
@@ -12,7 +12,7 @@ import sys
 
 import grd
 import result
-from files import command, read_lines, write_all
+from files import CARDS, Output, add_output_options, command, read_lines, write_own
 from model import Fault
 
 PAIRS = 4
@@ -57,7 +57,8 @@ def convert(arguments):
     names = read_map(arguments.nodes, n) if arguments.nodes else list(range(n + 1))
     pairs = [(names[p], listed.numbers[p]) for p in range(1, n + 1)]
     lines = list(cards(pairs, free_field if arguments.free else small_field))
-    write_all([(arguments.output, ''.join(line + '\n' for line in lines).encode('ascii'))])
+    data = ''.join(line + '\n' for line in lines).encode('ascii')
+    write_own([Output(arguments.output, data, CARDS)], [arguments.listing] + [arguments.nodes] * bool(arguments.nodes), arguments.force)
     print('%s: %s, %s' % (arguments.output, grd.counted(len(lines), 'card'), grd.counted(n, 'grid point')))
 
 
@@ -66,7 +67,7 @@ def main(words):
     parser.add_argument('--free', action='store_true', help='free field; otherwise small field')
     parser.add_argument('--nodes', metavar='MAP', help='the map that to_grd.py --compact wrote')
     parser.add_argument('listing', metavar='LISTING')
-    parser.add_argument('output', metavar='OUT')
+    add_output_options(parser, 'OUT')
     arguments = parser.parse_args(words)
     return command(lambda: convert(arguments), arguments.listing)
 

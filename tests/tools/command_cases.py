@@ -20,7 +20,7 @@ def cases(c):
     compact(c)
     printed(c)
     left_behind(c)
-    command = subprocess.run([sys.executable, os.path.join(TOP, 'tools', 'to_grd.py'), 'no such file.msh', 'a.grd'],
+    command = subprocess.run([sys.executable, os.path.join(TOP, 'tools', 'to_grd.py'), 'no such file.msh', '-o', 'a.grd'],
                              stdout=subprocess.PIPE, stderr=subprocess.PIPE, cwd=os.path.join(TOP, 'tests', 'tools', 'data'), check=False)
     c.equal('to_grd: started as a command', (command.returncode, command.stdout, command.stderr),
             (1, b'', b'no such file.msh: No such file or directory\n'))
@@ -52,36 +52,36 @@ def tetrahedra():
 
 def compact(c):
     text = 'GRID,30\nGRID,7\nGRID,1000000\nCTRIA3,1,1,7,1000000,30\n'
-    status, out, err, made = run(to_grd.main, ['--compact', 'a.bdf', 'out.grd'], {'a.bdf': text})
+    status, out, err, made = run(to_grd.main, ['--compact', 'a.bdf', '-o', 'out.grd'], {'a.bdf': text})
     c.equal('compact: mesh', made.get('out.grd'), grd_file(3, (2, 1, 3, 2)))
     c.equal('compact: map', made.get('out.nodes'), b'1 7\n2 30\n3 1000000\n')
     c.equal('compact: printed', (status, out, err),
             (0, 'out.grd: 3 nodes, 1 element (triangle 1)\nout.nodes: the numbers before and after closing gaps\n', ''))
-    status, _, _, made = run(to_grd.main, ['--compact', 'kinds.inp', 'out.grd'], {'kinds.inp': data('kinds.inp')})
+    status, _, _, made = run(to_grd.main, ['--compact', 'kinds.inp', '-o', 'out.grd'], {'kinds.inp': data('kinds.inp')})
     c.equal('compact: no gap changes nothing', (status, made.get('out.grd')), (0, KINDS))
     fails(c, 'compact: no such node all the same', 'a.bdf', text + 'CROD,2,1,7,8\n', ':5: element 2 (CROD): there is no node 8', '--compact')
 
 
 def printed(c):
     """What it prints: kinds, one-node elements left out, nodes in no element."""
-    got = run(to_grd.main, ['kinds22.msh', 'a.grd'], {'kinds22.msh': data('kinds22.msh')})
+    got = run(to_grd.main, ['kinds22.msh', '-o', 'a.grd'], {'kinds22.msh': data('kinds22.msh')})
     c.equal('to_grd: printed', got[1],
             'a.grd: 12 nodes, 10 elements (bar 1, triangle 1, quadrilateral 1, tetrahedron 1, pyramid 1, wedge 1, brick 1, '
             '6-node triangle 1, 8-node quadrilateral 1, 10-node tetrahedron 1)\n'
             'one-node elements left out, as they join nothing: 1\n')
-    got = run(to_grd.main, ['a.bdf', 'a.grd'], {'a.bdf': 'GRID,1\nGRID,2\nGRID,3\nGRID,4\nCROD,1,1,1,2\n'})
+    got = run(to_grd.main, ['a.bdf', '-o', 'a.grd'], {'a.bdf': 'GRID,1\nGRID,2\nGRID,3\nGRID,4\nCROD,1,1,1,2\n'})
     c.equal('to_grd: nodes alone', got[1], 'a.grd: 4 nodes, 1 element (bar 1)\nnodes in no element, each a part of its own: 2\n')
 
 
 def left_behind(c):
     fails(c, 'to_grd: ending', 'a.xyz', '', ": the ending '.xyz' tells no format: say --from gmsh, abaqus or nastran")
     good = {'a.bdf': bars([(1, 2)])}
-    c.equal('to_grd: no such folder', run(to_grd.main, ['a.bdf', 'b/a.grd'], good), (1, '', 'b/a.grd: No such file or directory\n', {}))
+    c.equal('to_grd: no such folder', run(to_grd.main, ['a.bdf', '-o', 'b/a.grd'], good), (1, '', 'b/a.grd: No such file or directory\n', {}))
     old = {'a.bdf': bars([(1, 1)]), 'a.grd': b'older', 'a.nodes': b'older'}
 
     def main(words):
         status = to_grd.main(words)
         with open('a.grd', 'rb') as file:
             return status, file.read()
-    c.equal('to_grd: an older file stays', run(main, ['--compact', 'a.bdf', 'a.grd'], old),
+    c.equal('to_grd: an older file stays', run(main, ['--compact', 'a.bdf', '-o', 'a.grd'], old),
             ((1, b'older'), '', 'a.bdf:1: element 1 (CROD): node 1 stands twice\n', {}))

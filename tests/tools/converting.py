@@ -11,7 +11,7 @@ KINDS = grd_file(12, (1, 2, 1), (2, 3, 1, 2), (3, 4, 1, 3, 2), (4, 5, 2, 4, 3), 
 
 def converts(c, name, file, text, wanted, *options):
     """The text, under this file name, becomes the wanted GRD bytes."""
-    status, _, err, made = run(to_grd.main, list(options) + [file, 'out.grd'], {file: text})
+    status, _, err, made = run(to_grd.main, list(options) + [file, '-o', 'out.grd'], {file: text})
     c.equal(name, (status, err, made.get('out.grd')), (0, '', wanted))
 
 
@@ -21,5 +21,5 @@ def all_kinds(c, file):
 
 def fails(c, name, file, text, message, *options):
     """The text is refused with this message behind the file's name, and nothing is left behind."""
-    got = run(to_grd.main, list(options) + [file, 'out.grd'], {file: text})
+    got = run(to_grd.main, list(options) + [file, '-o', 'out.grd'], {file: text})
     c.equal(name, got, (1, '', file + message + '\n', {}))

@@ -9,13 +9,14 @@ import command_cases
 import gmsh_cases
 import grd_cases
 import nastran_cases
+import output_cases
 import picture_cases
 import seqgp_cases
 
 
 def main():
     counted = harness.Cases()
-    for module in (grd_cases, gmsh_cases, abaqus_cases, nastran_cases, command_cases, seqgp_cases, picture_cases):
+    for module in (grd_cases, gmsh_cases, abaqus_cases, nastran_cases, command_cases, output_cases, seqgp_cases, picture_cases):
         try:
             module.cases(counted)
         except Exception as error:

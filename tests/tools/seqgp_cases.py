@@ -31,12 +31,12 @@ def cards(text):
 
 
 def writes(c, name, listing, wanted, *options, files=()):
-    status, _, err, made = run(to_seqgp.main, list(options) + ['a.txt', 'out.bdf'], dict(files, **{'a.txt': listing}))
+    status, _, err, made = run(to_seqgp.main, list(options) + ['a.txt', '-o', 'out.bdf'], dict(files, **{'a.txt': listing}))
     c.equal('seqgp: ' + name, (status, err, made.get('out.bdf', b'').decode('ascii')), (0, '', wanted))
 
 
 def fails(c, name, listing, message, *options, files=()):
-    got = run(to_seqgp.main, list(options) + ['a.txt', 'out.bdf'], dict(files, **{'a.txt': listing}))
+    got = run(to_seqgp.main, list(options) + ['a.txt', '-o', 'out.bdf'], dict(files, **{'a.txt': listing}))
     c.equal('seqgp: ' + name, got, (1, '', message + '\n', {}))
 
 
@@ -46,7 +46,7 @@ def cases(c):
     writes(c, 'with a map', SAMPLE, 'SEQGP         10       2      20       3      35       4      40       1\nSEQGP   12345678       5\n',
            '--nodes', 'm', files={'m': MAP})
     writes(c, 'one node', 'nodes 1 parts 1 bandwidth 0 profile 0 front 1 levels 1 width 1 passes 1\n1 1 1\n', 'SEQGP          1       1\n')
-    c.equal('seqgp: printed', run(to_seqgp.main, ['a.txt', 'out.bdf'], {'a.txt': SAMPLE})[1], 'out.bdf: 2 cards, 5 grid points\n')
+    c.equal('seqgp: printed', run(to_seqgp.main, ['a.txt', '-o', 'out.bdf'], {'a.txt': SAMPLE})[1], 'out.bdf: 2 cards, 5 grid points\n')
     whole_way(c)
     listings(c)
     maps(c)
@@ -56,12 +56,12 @@ def whole_way(c):
     """A deck with gaps, converted, numbered, and back: every grid point has one pair, and the pairs are the listing's."""
     points = [3 * p + 1 for p in range(1, 31)]
     deck = ''.join('CQUAD4,%d,1,%d,%d,%d,%d\n' % (i, points[i], points[i + 1], points[i + 11], points[i + 10]) for i in range(19) if i % 10 != 9)
-    made = run(to_grd.main, ['--compact', 'a.bdf', 'a.grd'], {'a.bdf': deck})[3]
+    made = run(to_grd.main, ['--compact', 'a.bdf', '-o', 'a.grd'], {'a.bdf': deck})[3]
     listing = program.text_for(made['a.grd'])
-    out = run(to_seqgp.main, ['--nodes', 'a.nodes', 'a.txt', 'b.bdf'], {'a.nodes': made['a.nodes'], 'a.txt': listing})[3]['b.bdf']
+    out = run(to_seqgp.main, ['--nodes', 'a.nodes', 'a.txt', '-o', 'b.bdf'], {'a.nodes': made['a.nodes'], 'a.txt': listing})[3]['b.bdf']
     rows = [line.split() for line in listing.decode('ascii').splitlines()[1:]]
     c.equal('seqgp: whole way', cards(out.decode('ascii')), [(points[int(old) - 1], int(new)) for old, new, _ in rows])
-    free = run(to_seqgp.main, ['--free', '--nodes', 'a.nodes', 'a.txt', 'b.bdf'], {'a.nodes': made['a.nodes'], 'a.txt': listing})[3]['b.bdf']
+    free = run(to_seqgp.main, ['--free', '--nodes', 'a.nodes', 'a.txt', '-o', 'b.bdf'], {'a.nodes': made['a.nodes'], 'a.txt': listing})[3]['b.bdf']
     numbers = [int(word) for line in free.decode('ascii').splitlines() for word in line.split(',')[1:]]
     c.equal('seqgp: free and small field agree', numbers, [number for pair in cards(out.decode('ascii')) for number in pair])
 
@@ -78,7 +78,7 @@ def listings(c):
     fails(c, 'above n', SAMPLE.replace('4 1 1', '4 6 1'), 'a.txt:5: new number 6, level 1: the new numbers are 1 to 5, levels start at 1')
     fails(c, 'order', head + '\n2 3 3\n1 2 2\n3 4 4\n4 1 1\n5 5 5\n', 'a.txt:2: old number 1 expected, 2 found')
     fails(c, 'row', SAMPLE.replace('4 1 1', '4 1'), 'a.txt:5: a row has old number, new number and level')
-    c.equal('seqgp: no listing', run(to_seqgp.main, ['b.txt', 'out.bdf'], {}), (1, '', 'b.txt: No such file or directory\n', {}))
+    c.equal('seqgp: no listing', run(to_seqgp.main, ['b.txt', '-o', 'out.bdf'], {}), (1, '', 'b.txt: No such file or directory\n', {}))
 
 
 def maps(c):
