@@ -5,6 +5,7 @@ from string import ascii_uppercase
 
 import grd
 from model import Fault, Model, integer
+from places import point, turned
 
 # Element types by GRD kind. Letters behind the last digit (R, I, H, M, T ..) stand for no further node and are left out here.
 TYPES = {
@@ -48,7 +49,8 @@ def read(texts):
                 raise Fault(block.line, 'a second *PART: node numbers start again in each; write the model without parts')
         elif block.name == 'NODE':
             for line, text in block.data:
-                model.add_node(integer(text.split(',')[0], line, 'node number'), line)
+                number, *words = text.split(',')
+                model.add_node(integer(number, line, 'node number'), line, turned(block.parameters.get('SYSTEM'), point(words)))
         elif block.name == 'ELEMENT':
             read_elements(block, model, seen)
     return model

@@ -1,6 +1,7 @@
 """Gmsh .msh files, versions 2.2 and 4.1 as text."""
 
 from model import Fault, Model, integer
+from places import point
 
 # Gmsh's element type: GRD kind, node count, name. Node order within an element does not matter: all its nodes adjoin.
 TYPES = {1: (1, 2, '2-node line'), 2: (2, 3, '3-node triangle'), 3: (3, 4, '4-node quadrangle'), 4: (4, 4, '4-node tetrahedron'),
@@ -109,7 +110,7 @@ def add_element(lines, model, kind, number, nodes):
 def nodes_22(lines, model):
     for _ in range(lines.integers('count of nodes', 1, 1)[0]):
         words = lines.words('node number and three coordinates', 4, 4)
-        model.add_node(integer(words[0], lines.number, 'node number'), lines.number)
+        model.add_node(integer(words[0], lines.number, 'node number'), lines.number, point(words[1:]))
 
 
 def elements_22(lines, model):
@@ -138,10 +139,12 @@ def blocks_41(lines, what):
 def nodes_41(lines, model):
     for _, _, _, count in blocks_41(lines, 'nodes'):
         # all numbers of the block, then all coordinates
+        numbers = []
         for _ in range(count):
-            model.add_node(lines.integers('node number', 1, 1)[0], lines.number)
-        for _ in range(count):
-            lines.words('three coordinates', 3)
+            numbers.append(lines.integers('node number', 1, 1)[0])
+            model.add_node(numbers[-1], lines.number)
+        for number in numbers:
+            model.places[number] = point(lines.words('three coordinates', 3))
 
 
 def elements_41(lines, model):

@@ -38,16 +38,19 @@ class Model:
 
     def __init__(self):
         self.nodes = {}
+        # coordinates by node number; None, or no entry, where they aren't known
+        self.places = {}
         self.elements = []
         # elements of one node: they join nothing, so GRD needs none
         self.points = 0
 
-    def add_node(self, number, line):
+    def add_node(self, number, line, place=None):
         if number < 1:
             raise Fault(line, 'node %d: numbers start at 1' % number)
         if number in self.nodes:
             raise Fault(line, 'node %d is given twice, first on line %d' % (number, self.nodes[number]))
         self.nodes[number] = line
+        self.places[number] = place
 
     def add_element(self, kind, nodes, line, name):
         self.elements.append(Element(kind, nodes, line, name))

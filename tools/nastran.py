@@ -6,6 +6,7 @@ As in source document 004, a continuation stands right behind its parent card.
 from collections import namedtuple
 
 from model import Fault, Model, integer
+from places import point
 
 # Card: the fields of its nodes (field 1 is the element's number), and the GRD kind for each count of nodes.
 CARDS = {
@@ -40,7 +41,7 @@ def read(texts):
     model, seen = Model(), {}
     for card in cards(bulk(texts)):
         if card.name == 'GRID':
-            model.add_node(node(card, 1), card.line)
+            model.add_node(node(card, 1), card.line, place(card))
         elif card.name == 'INCLUDE':
             raise Fault(card.line, 'INCLUDE takes in another file: put the contents of that file here and try again')
         elif card.name in CARDS:
@@ -134,7 +135,7 @@ def split_free(number, text):
     return words[0], words[1:count + 1], words[count + 1]
 
 
-# Elements from cards.
+# Nodes and elements from cards.
 
 def field(card, place):
     return card.fields[place - 1] if place <= len(card.fields) else ''
@@ -142,6 +143,11 @@ def field(card, place):
 
 def node(card, place):
     return integer(field(card, place), card.line, '%s, field %d' % (card.name, place + 1))
+
+
+def place(card):
+    """A grid point's coordinates, or None where they are given in a system of their own."""
+    return point(card.fields[2:5]) if field(card, 2) in ('', '0') else None
 
 
 def add_element(card, model, seen):
