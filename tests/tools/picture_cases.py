@@ -11,6 +11,7 @@ from seqgp_cases import SAMPLE as LISTING
 import calls
 import figures
 import grd
+import matrix
 import picture
 import program
 
@@ -59,7 +60,7 @@ def drawn(c, name, data):
     """Well-formed, of a sane size, with the six figures, and as many dark cells and envelope cells as there are."""
     mesh = grd.read(data)
     listing = program.text_for(data)
-    status, out, err, made = run(picture.main, ['a.grd', 'a.txt', 'a.svg'], {'a.grd': data, 'a.txt': listing})
+    status, out, err, made = run(picture.main, ['a.grd', 'a.txt', '-o', 'a.svg'], {'a.grd': data, 'a.txt': listing})
     text = made.get('a.svg', b'').decode('utf-8')
     c.equal('picture: %s: printed' % name, (status, out, err), (0, 'a.svg: %d bytes\n' % len(text), ''))
     c.holds('picture: %s: under 200,000 bytes' % name, len(text) < 200000)
@@ -67,11 +68,11 @@ def drawn(c, name, data):
     head = listing.decode('ascii').split()
     before = reference_figures(mesh, list(range(1, mesh.n + 1)))
     c.equal('picture: %s: figures' % name, bold, [str(value) for value in before] + [head[5], head[7], head[9]])
-    if mesh.n <= picture.MOST_CELLS:
+    if mesh.n <= matrix.MOST_CELLS:
         dark = sum(int(count) for count in re.findall(r'M\d+ \d+h(\d+)v1', text))
         entries = sum(len(row) for row in grd.neighbours(mesh))
         c.equal('picture: %s: dark cells, both sides' % name, dark, 2 * (entries + mesh.n))
-        areas = [area(path) for path in re.findall(r'd="(M0 0[^"]*)" fill="' + picture.ENVELOPE, text)]
+        areas = [area(path) for path in re.findall(r'd="(M0 0[^"]*)" fill="' + matrix.ENVELOPE, text)]
         c.equal('picture: %s: envelope cells' % name, areas, [before[1] + mesh.n, int(head[7]) + mesh.n])
 
 
@@ -80,7 +81,7 @@ def largest(c):
     data = quads(64)
     head = 'nodes 4096 parts 1 bandwidth %d profile %d front %d levels 1 width 1 passes 1\n'
     listing = head % figures.figures(grd.neighbours(grd.read(data))) + ''.join('%d %d 1\n' % (p, p) for p in range(1, 4097))
-    status, _, err, made = run(picture.main, ['a.grd', 'a.txt', 'a.svg'], {'a.grd': data, 'a.txt': listing})
+    status, _, err, made = run(picture.main, ['a.grd', 'a.txt', '-o', 'a.svg'], {'a.grd': data, 'a.txt': listing})
     text = made.get('a.svg', b'')
     c.equal('picture: 4,096 nodes', (status, err, tree.fromstring(text).tag), (0, '', SVG + 'svg'))
     c.holds('picture: 4,096 nodes: under 200,000 bytes', len(text) < 200000)
@@ -100,7 +101,7 @@ def area(path):
 
 def refused(c):
     def fails(name, files, message):
-        got = run(picture.main, ['a.grd', 'a.txt', 'a.svg'], files)
+        got = run(picture.main, ['a.grd', 'a.txt', '-o', 'a.svg'], files)
         c.equal('picture: ' + name, got, (1, '', message + '\n', {}))
     fails('broken mesh', {'a.grd': SAMPLE[:-1], 'a.txt': LISTING},
           'a.grd: refused 12: %s; the file ends within element 4 (byte 27), a bar' % grd.MEANING[12])

@@ -19,7 +19,8 @@ def main():
     for module in (grd_cases, gmsh_cases, abaqus_cases, nastran_cases, command_cases, output_cases, seqgp_cases, picture_cases):
         try:
             module.cases(counted)
-        except Exception as error:
+        # argparse leaves by SystemExit
+        except (Exception, SystemExit) as error:
             counted.equal('%s runs to its end' % module.__name__, repr(error), 'no exception')
     return counted.report()
 

@@ -1,0 +1,140 @@
+#!/usr/bin/env python3
+"""One page on a renumbering: figures, mesh and matrix. It holds its pictures itself, so it reads without a network.
+
+  page.py MESH LISTING -o OUT.html
+"""
+
+import argparse
+import html
+import os
+import re
+import sys
+
+import figures
+import fill
+import grd
+import parts
+import picture
+import source
+from files import Kind, Output, add_output_options, command, write_own
+from ink import grouped
+from model import Fault
+
+MARK = '<!-- a page of wagonepoch/tools/page.py -->'
+PAGE = Kind('a page of page.py', re.compile(b'<!doctype html>\n' + re.escape(MARK.encode('ascii')) + b'\n.*</html>\n', re.DOTALL))
+# So many parts have a row of their own.
+MOST_ROWS = 40
+
+STYLE = '''body { font-family: "DejaVu Sans", Arial, Helvetica, sans-serif; color: #1d2b3a; max-width: 970px; margin: 2em auto; padding: 0 1em; line-height: 1.45 }
+h1 { margin-bottom: 0 } h2 { margin-top: 2em } .faint { color: #5b6875 } .warning { color: #a33a0a; white-space: pre-wrap }
+table { border-collapse: collapse; margin: 1em 0 } th, td { padding: .25em .9em; text-align: right; border-bottom: 1px solid #d5dbe1; font-variant-numeric: tabular-nums }
+th:first-child, td:first-child { text-align: left; padding-left: 0 } svg { max-width: 100%; height: auto }
+@media print { h2 { page-break-before: auto } svg { page-break-inside: avoid } }'''
+
+
+def table(head, rows):
+    """Rows of cells; each cell is a text."""
+    def row(cells, tag):
+        return '<tr>%s</tr>' % ''.join('<%s>%s</%s>' % (tag, html.escape(cell), tag) for cell in cells)
+    return ['<table>', row(head, 'th')] + [row(cells, 'td') for cells in rows] + ['</table>']
+
+
+# Figures.
+
+def before_and_after(mesh, listed):
+    """Bandwidth, profile, front and elimination under the old and the new numbers."""
+    sides = []
+    before = grd.neighbours(mesh)
+    for rows in (before, figures.renumbered(before, listed.numbers)):
+        total, new = fill.counts(rows)
+        sides.append(figures.figures(rows) + (total, new))
+    names = ('bandwidth', 'profile: places of the store', 'front', 'places used at the end of elimination', '\u2003of them joined by elimination')
+    return [(name, grouped(old), grouped(now), '%.1f %%' % (100 * now / old) if old else '') for name, old, now in zip(names, *sides)]
+
+
+def part_rows(mesh, listed, numbers):
+    """For each part its nodes, its lowest number in the source, the new numbers that it takes, its levels and their greatest count."""
+    rows = []
+    for i, part in enumerate(parts.parts_of(grd.neighbours(mesh)), 1):
+        new = [listed.numbers[p] for p in part]
+        levels = [listed.levels[p] for p in part]
+        width = max(levels.count(level) for level in set(levels))
+        rows.append((str(i), grouped(len(part)), str(numbers[part[0] - 1]), '%d to %d' % (min(new), max(new)), str(max(levels)), str(width)))
+    return rows
+
+
+# The page.
+
+def head(name, path, found, listed):
+    lines = ['<h1>%s</h1>' % html.escape(name),
+             '<p class="faint">%s, %s; from %s</p>' % (grd.summary(found.mesh), grd.counted(listed.figures.parts, 'part'), html.escape(os.path.basename(path)))]
+    lines += ['<p class="warning">%s</p>' % html.escape('\n'.join(block)) for block in blocks(parts.warnings(found.mesh, found.numbers))]
+    lines += table(('', 'before', 'after', 'after / before'), before_and_after(found.mesh, listed))
+    rows = part_rows(found.mesh, listed, found.numbers)
+    lines += table(('part', 'nodes', 'lowest node', 'new numbers', 'levels', 'width'), rows[:MOST_ROWS])
+    if len(rows) > MOST_ROWS:
+        lines.append('<p class="faint">and %s parts more</p>' % grouped(len(rows) - MOST_ROWS))
+    passes = grd.counted(listed.figures.passes, 'pass').replace('passs', 'passes')
+    return lines + ['<p class="faint">%s to find the ends of the parts.</p>' % passes]
+
+
+def blocks(lines):
+    """Warnings with the lines under each."""
+    made = []
+    for line in lines:
+        if line.startswith(' '):
+            made[-1].append(line)
+        else:
+            made.append([line])
+    return made
+
+
+def pictures(name, found, listed):
+    """The mesh, or why it is not drawn, and the matrix."""
+    try:
+        if found.model is None:
+            raise Fault(0, 'a GRD file has no coordinates, so the mesh is not drawn')
+        mesh = picture.mesh_svg(name, found, listed, 0)
+    except Fault as fault:
+        mesh = '<p class="faint">%s.</p>' % html.escape(str(fault))
+    return ['<h2>The mesh</h2>',
+            '<p>Around each node its share of every face has the node’s colour. A good numbering runs through the mesh from one end to the other.</p>',
+            mesh.rstrip('\n'),
+            '<h2>The matrix</h2>',
+            '<p>Dark cells are entries. Below the diagonal the envelope is what the store holds; orange places are zero at first and are joined by elimination, '
+            'blue ones stay zero.</p>',
+            picture.svg(name, found.mesh, listed, True, 0).rstrip('\n')]
+
+
+def page(name, path, found, listed):
+    lines = ['<!doctype html>', MARK, '<html lang="en">', '<head>', '<meta charset="utf-8">',
+             '<meta name="viewport" content="width=device-width, initial-scale=1">',
+             '<title>%s renumbered</title>' % html.escape(name), '<style>', STYLE, '</style>', '</head>', '<body>']
+    lines += head(name, path, found, listed) + pictures(name, found, listed)
+    lines += ['<p class="faint">New numbers, levels and their figures are the proved program’s. The figures before, the elimination and the drawings are '
+              'unproved help.</p>', '</body>', '</html>', '']
+    return '\n'.join(lines)
+
+
+def write_page(arguments):
+    found = source.read(arguments.mesh, arguments.format)
+    listed = picture.read_listing(arguments.listing)
+    picture.test_match(found.mesh, listed)
+    name = os.path.splitext(os.path.basename(arguments.mesh))[0]
+    data = page(name, arguments.mesh, found, listed).encode('utf-8', 'replace')
+    write_own([Output(arguments.output, data, PAGE)], [arguments.mesh, arguments.listing], arguments.force)
+    print('%s: %d bytes' % (arguments.output, len(data)))
+
+
+def main(words):
+    parser = argparse.ArgumentParser(prog='page.py', description='one page on a renumbering: figures, mesh and matrix')
+    parser.add_argument('--from', dest='format', choices=sorted(source.READERS), help="the mesh's format; otherwise its ending tells")
+    parser.add_argument('mesh', metavar='MESH')
+    parser.add_argument('listing', metavar='LISTING')
+    add_output_options(parser, 'OUT.html')
+    arguments = parser.parse_args(words)
+    return command(lambda: write_page(arguments), arguments.mesh)
+
+
+if __name__ == '__main__':
+    sys.exit(main(sys.argv[1:]))
