@@ -63,6 +63,22 @@ def both_svg(name, found, listed):
     return framed(name + ' before and after the renumbering', height, lines)
 
 
+def any_svg(name, found, listed):
+    """Mesh and matrix, or the matrix alone where there are no coordinates."""
+    return svg(name, found.mesh, listed, True) if undrawable(found) else both_svg(name, found, listed)
+
+
+def undrawable(found):
+    """Why the mesh itself can't be drawn, or an empty text."""
+    if found.model is None:
+        return 'a GRD file has no coordinates: give the mesh file that it was made from'
+    try:
+        drawing.places_of(found.model, found.numbers)
+    except Fault as fault:
+        return str(fault)
+    return ''
+
+
 # The command.
 
 def test_match(mesh, listed):

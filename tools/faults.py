@@ -1,0 +1,61 @@
+"""All faults of a GRD file, in the order in which the program meets them: the first is the one that it refuses the file by."""
+
+import grd
+from grd import Refusal
+
+
+def of_grd(data):
+    """A list of refusals; an empty one for a legal file."""
+    try:
+        grd.test_header(data)
+    except Refusal as refusal:
+        # what follows a wrong length, mark or version can't be told
+        return [refusal]
+    n, count = grd.word_at(data, 5), grd.word_at(data, 7)
+    found = []
+    if n == 0 or n > grd.MOST_NODES:
+        found.append(Refusal(1, 'the file says %d nodes' % n))
+    elements, at = [], grd.HEADER_BYTES
+    for position in range(1, count + 1):
+        name = 'element %d (byte %d)' % (position, at)
+        try:
+            kind, nodes, at = element_at(data, at, name)
+        except Refusal as refusal:
+            # without its kind or its end nobody knows where the next element begins
+            return found + [refusal]
+        wrong = list(node_faults(n, nodes, '%s, a %s,' % (name, grd.KINDS[kind][0])))
+        found += wrong
+        elements += [] if wrong else [(kind, nodes)]
+    if at < len(data):
+        found.append(Refusal(12, 'bytes left over after the last element: %d' % (len(data) - at)))
+    return found + entry_faults(grd.Mesh(n, elements))
+
+
+def element_at(data, at, name):
+    """Kind and nodes of the element that begins at this byte, and the byte after it."""
+    if at + 2 > len(data):
+        raise Refusal(12, 'the file ends before ' + name)
+    kind = grd.word_at(data, at)
+    if kind not in grd.KINDS:
+        raise Refusal(9, '%s has kind %d' % (name, kind))
+    end = at + grd.element_bytes(kind)
+    if end > len(data):
+        raise Refusal(12, 'the file ends within %s, a %s' % (name, grd.KINDS[kind][0]))
+    return kind, [grd.word_at(data, t) for t in range(at + 2, end, 2)], end
+
+
+def node_faults(n, nodes, name):
+    """One for each node that is wrong."""
+    for place, p in enumerate(nodes):
+        if p == 0 or p > n:
+            yield Refusal(10, '%s has node %d, and the nodes are 1 to %d' % (name, p, n))
+        elif p in nodes[:place]:
+            yield Refusal(10, '%s has node %d twice' % (name, p))
+
+
+def entry_faults(mesh):
+    try:
+        grd.test_entries(mesh)
+    except Refusal as refusal:
+        return [refusal]
+    return []
