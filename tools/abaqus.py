@@ -1,74 +1,102 @@
-"""CalculiX and Abaqus .inp files: the keywords *NODE and *ELEMENT."""
+"""CalculiX and Abaqus .inp files: the keywords *NODE and *ELEMENT, and the files that *INCLUDE takes in.
+
+Every other keyword must be known to join nothing: a misspelt *ELEMENT is refused, not passed over.
+"""
 
 from collections import namedtuple
 from string import ascii_uppercase
 
 import grd
-from model import Fault, Model, integer
+import known
+from model import Fault, Model, Stop, integer, line_name, squeezed
 from places import point, turned
 
 # Element types by GRD kind. Letters behind the last digit (R, I, H, M, T ..) stand for no further node and are left out here.
 TYPES = {
-    1: 'B21 B23 B31 B33 PIPE21 PIPE31 T2D2 T3D2 SAX1 MAX1 SPRINGA SPRING2 DASHPOTA DASHPOT2 GAPUNI CONN2D2 CONN3D2',
-    2: 'S3 STRI3 CPS3 CPE3 CAX3 M3D3 R3D3 DC2D3 DCAX3 AC2D3 ACAX3',
-    3: 'S4 S4R5 CPS4 CPE4 CAX4 M3D4 R3D4 DC2D4 DCAX4 AC2D4 ACAX4 SHEAR4 COH2D4 COHAX4',
+    1: 'B21 B23 B31 B33 PIPE21 PIPE31 ELBOW31 T2D2 T3D2 SAX1 MAX1 MGAX1 DSAX1 DC1D2 AC1D2 R2D2 RAX2 RB2D2 RB3D2 '
+       'SPRINGA SPRING2 DASHPOTA DASHPOT2 GAPUNI GAPCYL GAPSPHER JOINTC CONN2D2 CONN3D2',
+    2: 'S3 DS3 STRI3 CPS3 CPE3 CAX3 CGAX3 M3D3 SFM3D3 R3D3 DC2D3 DCAX3 AC2D3 ACAX3',
+    3: 'S4 S4R5 DS4 CPS4 CPE4 CAX4 CGAX4 M3D4 SFM3D4 R3D4 DC2D4 DCAX4 AC2D4 ACAX4 SHEAR4 COH2D4 COHAX4',
     4: 'C3D4 DC3D4 AC3D4 F3D4',
     5: 'C3D5 DC3D5 AC3D5',
     6: 'C3D6 DC3D6 AC3D6 F3D6 SC6 COH3D6',
     7: 'C3D8 DC3D8 AC3D8 F3D8 SC8 COH3D8',
-    8: 'S6 STRI65 CPS6 CPE6 CAX6 M3D6 DC2D6 DCAX6 AC2D6 ACAX6',
-    9: 'S8 S8R5 CPS8 CPE8 CAX8 M3D8 DC2D8 DCAX8 AC2D8 ACAX8',
+    8: 'S6 DS6 STRI65 CPS6 CPE6 CAX6 CGAX6 M3D6 SFM3D6 DC2D6 DCAX6 AC2D6 ACAX6',
+    9: 'S8 S8R5 DS8 CPS8 CPE8 CAX8 CGAX8 M3D8 SFM3D8 DC2D8 DCAX8 AC2D8 ACAX8',
     10: 'C3D10 DC3D10 AC3D10',
 }
-KIND = {name: kind for kind, names in TYPES.items() for name in names.split()}
+# Types that GRD has no kind for: the least and the most nodes, as the nodes in the middle of some faces may be missing, and the kind with the
+# same corners.
+OTHER_TYPES = {
+    (3, 3, 1): 'B22 B32 PIPE22 PIPE32 ELBOW32 T2D3 T3D3 SAX2 MAX2 MGAX2 DSAX2 DC1D3 AC1D3',
+    (9, 9, 3): 'S9R5 CPS9 CPE9 M3D9 SFM3D9',
+    (13, 13, 5): 'C3D13', (14, 14, 5): 'C3D14',
+    (15, 15, 6): 'C3D15 DC3D15 AC3D15', (15, 18, 6): 'C3D15V C3D15VH', (18, 18, 6): 'C3D18',
+    (20, 20, 7): 'C3D20 DC3D20 AC3D20', (21, 27, 7): 'C3D27',
+}
+
+# kind: the GRD kind, or None where GRD has none
+Type = namedtuple('Type', 'kind least most shape')
+TYPE = {name: Type(kind, grd.KINDS[kind][1], grd.KINDS[kind][1], kind) for kind, names in TYPES.items() for name in names.split()}
+TYPE.update((name, Type(None, *rest)) for rest, names in OTHER_TYPES.items() for name in names.split())
 
 # Elements of one node join nothing.
 POINTS = set('MASS ROTARYI SPRING1 DASHPOT1 HEATCAP'.split())
 
 # Keywords that make nodes or elements, or join nodes, in a way that GRD has no place for.
-OUTSIDE = {
-    'NGEN': 'makes nodes', 'NFILL': 'makes nodes', 'NCOPY': 'makes nodes', 'NMAP': 'changes nodes',
-    'ELGEN': 'makes elements', 'ELCOPY': 'makes elements', 'SUBMODEL': 'takes another model',
-    'EQUATION': 'joins nodes', 'MPC': 'joins nodes', 'TIE': 'joins nodes', 'RIGID BODY': 'joins nodes', 'COUPLING': 'joins nodes',
-    'KINEMATIC COUPLING': 'joins nodes', 'DISTRIBUTING COUPLING': 'joins nodes', 'CONTACT PAIR': 'joins nodes',
-    'CYCLIC SYMMETRY MODEL': 'joins nodes', 'EMBEDDED ELEMENT': 'joins nodes', 'SHELL TO SOLID COUPLING': 'joins nodes',
-}
+OUTSIDE = {name: what for what, names in {
+    'makes nodes': 'NGEN, NFILL, NCOPY',
+    'changes nodes': 'NMAP',
+    'makes elements': 'ELGEN, ELCOPY, SYMMETRIC MODEL GENERATION',
+    'changes the mesh': 'REFINE MESH, ADAPTIVE MESH REFINEMENT',
+    'takes another model': 'IMPORT',
+    'adds unknowns': 'ENRICHMENT',
+    'joins nodes': 'EQUATION, MPC, NETWORK MPC, TIE, RIGID BODY, RIGID SURFACE, COUPLING, KINEMATIC COUPLING, DISTRIBUTING COUPLING, '
+                   'SHELL TO SOLID COUPLING, EMBEDDED ELEMENT, CONTACT, CONTACT PAIR, SLIDE LINE, BOND, FASTENER, PRE-TENSION SECTION, '
+                   'CYCLIC SYMMETRY MODEL, PERIODIC MEDIA, MATRIX INPUT, MATRIX ASSEMBLE, FLUID CAVITY, FLUID EXCHANGE',
+    'joins faces': 'EQUATIONF, CAVITY DEFINITION',
+    'may join faces that see one another': 'RADIATE',
+}.items() for name in known.names(names)}
 
-# data: pairs of a line number and a line
+# data: pairs of a line and its text
 Block = namedtuple('Block', 'line name parameters data')
 
 
-def read(texts):
-    """The model of the file's lines."""
-    model, seen, parts = Model(), {}, 0
-    for block in blocks(texts):
-        test_block(block)
-        if block.name == 'PART':
-            parts += 1
-            if parts > 1:
-                raise Fault(block.line, 'a second *PART: node numbers start again in each; write the model without parts')
-        elif block.name == 'NODE':
+def read(source, ignore=()):
+    """The model of the file and of those that it takes in."""
+    model, seen, once = Model(ignore), {}, set()
+    for block in blocks(source):
+        name = squeezed(block.name)
+        if name in ('PART', 'INSTANCE'):
+            test_once(block, once)
+        elif name == 'NODE':
             for line, text in block.data:
                 number, *words = text.split(',')
-                model.add_node(integer(number, line, 'node number'), line, turned(block.parameters.get('SYSTEM'), point(words)))
-        elif block.name == 'ELEMENT':
+                model.add_node(integer(number, line, 'node number'), line, turned(upper(block.parameters.get('SYSTEM', '')), point(words)))
+        elif name == 'ELEMENT':
             read_elements(block, model, seen)
+        elif name in OUTSIDE:
+            model.leave_out(block.line, block.name, '*%s %s, and GRD has no place for that' % (block.name, OUTSIDE[name]))
+        elif name not in known.ABAQUS:
+            model.leave_out(block.line, block.name, '*%s is not known, and might join nodes' % block.name)
     return model
 
 
-def test_block(block):
-    if block.name == 'INCLUDE' or 'INPUT' in block.parameters and block.name in ('NODE', 'ELEMENT'):
-        raise Fault(block.line, '*%s takes in another file: put the contents of that file here and try again' % block.name)
-    if block.name in OUTSIDE:
-        raise Fault(block.line, '*%s %s, and GRD has no place for that' % (block.name, OUTSIDE[block.name]))
+def test_once(block, once):
+    """One part, in its place once: each further one has the same numbers again."""
+    if block.name in once:
+        raise Stop(block.line, 'a second *%s: node numbers start again in each; write the model without parts' % block.name)
+    once.add(block.name)
+    if 'LIBRARY' in block.parameters:
+        raise Stop(block.line, '*%s takes another model, and GRD has no place for that' % block.name)
 
 
 # Keywords.
 
-def blocks(texts):
-    """Each keyword with its parameters and data lines."""
-    block, waiting = None, ''
-    for line, text in enumerate(texts, 1):
+def statements(source, lines):
+    """Keywords on one line each and data lines: pairs of a line and its text. Included files stand in their keyword's place."""
+    waiting = ''
+    for line, text in lines:
         text = text.strip()
         if not text or text.startswith('**'):
             continue
@@ -77,17 +105,46 @@ def blocks(texts):
             # a keyword line that ends with a comma goes on
             if waiting.endswith(','):
                 continue
+            text, waiting = waiting, ''
+            block = keyword(line, text)
+            if block.name == 'INCLUDE':
+                yield from statements(source, taken_in(source, block))
+                continue
+        yield line, text
+    if waiting:
+        raise Fault(line, 'the file ends within a keyword')
+
+
+def taken_in(source, block):
+    """The lines of the file behind INPUT=."""
+    if not block.parameters.get('INPUT'):
+        raise Fault(block.line, '*%s without INPUT=' % block.name)
+    return source.included(block.line, block.parameters['INPUT'])
+
+
+def blocks(source):
+    """Each keyword with its parameters and data lines, those of a file behind INPUT= first."""
+    block = None
+    for line, text in statements(source, source.lines()):
+        if text.startswith('*'):
             if block:
                 yield block
-            block, waiting = keyword(line, waiting), ''
+            block = keyword(line, text)
+            if block.name in ('NODE', 'ELEMENT') and 'INPUT' in block.parameters:
+                block.data.extend(data_lines(source, block))
         elif block:
             block.data.append((line, text))
         else:
             raise Fault(line, 'data before the first keyword')
-    if waiting:
-        raise Fault(line, 'the file ends within a keyword')
     if block:
         yield block
+
+
+def data_lines(source, block):
+    for line, text in statements(source, taken_in(source, block)):
+        if text.startswith('*'):
+            raise Fault(line, 'a keyword in a file of data lines')
+        yield line, text
 
 
 def keyword(line, text):
@@ -95,7 +152,8 @@ def keyword(line, text):
     parameters = {}
     for word in rest:
         key, _, value = word.partition('=')
-        parameters[upper(key)] = upper(value).strip('"')
+        # a file's name keeps its case
+        parameters[upper(key)] = value.strip().strip('"\'')
     return Block(line, upper(name), parameters, [])
 
 
@@ -106,31 +164,40 @@ def upper(text):
 
 # Elements.
 
-def kind_of(name):
-    """The GRD kind of an element type, or None."""
-    return KIND.get(name, KIND.get(name.rstrip(ascii_uppercase)))
+def type_of(name):
+    """The element type, or None."""
+    return TYPE.get(name, TYPE.get(name.rstrip(ascii_uppercase)))
 
 
 def read_elements(block, model, seen):
-    kind_name = block.parameters.get('TYPE', '')
-    if not kind_name:
+    type_name = upper(block.parameters.get('TYPE', ''))
+    if not type_name:
         raise Fault(block.line, '*ELEMENT without TYPE=')
-    if kind_name in POINTS:
+    if type_name in POINTS:
         model.points += len(block.data)
-        return
-    kind = kind_of(kind_name)
-    if kind is None:
-        raise Fault(block.line, 'element type %s: GRD has no kind for it' % kind_name)
-    count = grd.KINDS[kind][1]
-    for line, numbers in records(block.data, count + 1):
-        name = 'element %d (%s)' % (numbers[0], kind_name)
-        if len(numbers) != count + 1:
-            hint = '; a line that goes on ends with a comma' if len(numbers) <= count else ''
-            raise Fault(line, '%s: %d nodes, and it needs %d%s' % (name, len(numbers) - 1, count, hint))
+    elif type_of(type_name):
+        add_elements(block, type_name, model, seen)
+    else:
+        model.leave_out(block.line, type_name, 'element type %s is not known' % type_name)
+
+
+def add_elements(block, type_name, model, seen):
+    kind, least, most, shape = type_of(type_name)
+    for line, numbers in records(block.data, most + 1):
+        name, count = 'element %d (%s)' % (numbers[0], type_name), len(numbers) - 1
+        if not least <= count <= most:
+            wanted = '%d' % least if least == most else '%d to %d' % (least, most)
+            hint = '; a line that goes on ends with a comma' if count < least else ''
+            raise Fault(line, '%s: %d nodes, and it needs %s%s' % (name, count, wanted, hint))
         if numbers[0] in seen:
-            raise Fault(line, '%s is given twice, first on line %d' % (name, seen[numbers[0]]))
+            raise Fault(line, '%s is given twice, first on %s' % (name, line_name(seen[numbers[0]], line)))
         seen[numbers[0]] = line
-        model.add_element(kind, numbers[1:], line, name)
+        model.add_element(kind, corners_first(shape, numbers[1:]), line, name, shape)
+
+
+def corners_first(shape, nodes):
+    """The nodes with the corners first: the middle one of a line of three stands between its ends."""
+    return [nodes[0], nodes[2], nodes[1]] if shape == 1 and len(nodes) == 3 else nodes
 
 
 def records(data, size):

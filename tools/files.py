@@ -5,7 +5,7 @@ import re
 import sys
 from collections import namedtuple
 
-from model import Fault, Stop
+from model import Fault, Line, Stop
 
 # A kind of output: its name in a message, and a pattern of bytes that the whole of such a file fits.
 Kind = namedtuple('Kind', 'name pattern')
@@ -26,11 +26,54 @@ def read_bytes(path):
         raise Fault(0, error.strerror, path) from None
 
 
+# Byte order marks, and the encoding behind each; the longer of two that begin alike comes first. Without one, and in UTF-8, comments may be
+# in any encoding: every byte is a character of latin-1.
+MARKS = [(b'\xff\xfe\0\0', 'utf-32-le'), (b'\0\0\xfe\xff', 'utf-32-be'), (b'\xff\xfe', 'utf-16-le'), (b'\xfe\xff', 'utf-16-be'),
+         (b'\xef\xbb\xbf', 'latin-1')]
+
+
+def read_text(path):
+    """The file's text without its byte order mark."""
+    data = read_bytes(path)
+    mark, encoding = next((pair for pair in MARKS if data.startswith(pair[0])), (b'', 'latin-1'))
+    if not mark and b'\0' in data[:4]:
+        raise Fault(0, 'this is no text file: zeros among its first bytes', path)
+    try:
+        return data[len(mark):].decode(encoding)
+    except UnicodeDecodeError:
+        raise Fault(0, 'the byte order mark says %s, and the text is not in it' % encoding.upper(), path) from None
+
+
 def read_lines(path):
-    # comments may be in any encoding: every byte is a character of this one, and splitlines would split at some of them
-    text = read_bytes(path).decode('latin-1').replace('\r\n', '\n').replace('\r', '\n')
-    lines = text.split('\n')
+    # splitlines would split at other characters too
+    lines = read_text(path).replace('\r\n', '\n').replace('\r', '\n').split('\n')
     return lines[:-1] if lines[-1] == '' else lines
+
+
+class Source:
+    """An input file and the files that it takes in; paths are all those that were read."""
+
+    def __init__(self, path):
+        self.path = path
+        self.paths = []
+
+    def lines(self):
+        """Pairs of a Line and its text."""
+        return self.numbered((self.path,))
+
+    def numbered(self, files):
+        self.paths.append(files[-1])
+        return [(Line(number, files), text) for number, text in enumerate(read_lines(files[-1]), 1)]
+
+    def included(self, line, name):
+        """The lines of the file that this line takes in, sought from the folder of the line's own file."""
+        path = os.path.join(os.path.dirname(line.files[-1]), name)
+        if any(os.path.realpath(path) == os.path.realpath(other) for other in line.files):
+            raise Stop(line, 'takes in %s, which stands around it already' % name)
+        try:
+            return self.numbered(line.files + (path,))
+        except Fault as fault:
+            raise Fault(line, 'takes in %s: %s' % (name, fault)) from None
 
 
 # Writing.

@@ -1,21 +1,32 @@
 """Gmsh .msh files, versions 2.2 and 4.1 as text."""
 
-from model import Fault, Model, integer
+import grd
+import known
+from model import Fault, Model, integer, squeezed
 from places import point
 
-# Gmsh's element type: GRD kind, node count, name. Node order within an element does not matter: all its nodes adjoin.
-TYPES = {1: (1, 2, '2-node line'), 2: (2, 3, '3-node triangle'), 3: (3, 4, '4-node quadrangle'), 4: (4, 4, '4-node tetrahedron'),
-         5: (7, 8, '8-node hexahedron'), 6: (6, 6, '6-node prism'), 7: (5, 5, '5-node pyramid'), 9: (8, 6, '6-node triangle'),
-         16: (9, 8, '8-node quadrangle'), 11: (10, 10, '10-node tetrahedron')}
+# Gmsh's element type: GRD kind and name. Node order within an element does not matter: all its nodes adjoin.
+TYPES = {1: (1, '2-node line'), 2: (2, '3-node triangle'), 3: (3, '4-node quadrangle'), 4: (4, '4-node tetrahedron'), 5: (7, '8-node hexahedron'),
+         6: (6, '6-node prism'), 7: (5, '5-node pyramid'), 9: (8, '6-node triangle'), 16: (9, '8-node quadrangle'), 11: (10, '10-node tetrahedron')}
+
+# Types that GRD has no kind for: the kind with the same corners, and the counts of nodes by type.
+OTHER_TYPES = {
+    (1, 'line'): {8: 3, 26: 4, 27: 5, 28: 6},
+    (2, 'triangle'): {20: 9, 21: 10, 22: 12, 23: 15, 24: 15, 25: 21},
+    (3, 'quadrangle'): {10: 9, 36: 16, 37: 25, 38: 36, 39: 12},
+    (4, 'tetrahedron'): {29: 20, 30: 35, 31: 56},
+    (5, 'pyramid'): {14: 14, 19: 13, 118: 30, 119: 55},
+    (6, 'prism'): {13: 18, 18: 15, 90: 40, 91: 75},
+    (7, 'hexahedron'): {12: 27, 17: 20, 92: 64, 93: 125},
+}
+
+# Type: GRD kind or None, kind with the same corners, node count, name.
+TYPE = {number: (kind, kind, grd.KINDS[kind][1], name) for number, (kind, name) in TYPES.items()}
+TYPE.update((number, (None, shape, count, '%d-node %s' % (count, name)))
+            for (shape, name), counts in OTHER_TYPES.items() for number, count in counts.items())
 
 # A point joins nothing.
 POINT = 15
-
-# Types that GRD has no kind for, by name; others are named by their number.
-NO_KIND = {8: '3-node line', 10: '9-node quadrangle', 12: '27-node hexahedron', 13: '18-node prism', 14: '14-node pyramid',
-           17: '20-node hexahedron', 18: '15-node prism', 19: '13-node pyramid', 20: '9-node triangle', 21: '10-node triangle',
-           22: '12-node triangle', 23: '15-node triangle', 26: '4-node line', 27: '5-node line', 28: '6-node line',
-           29: '20-node tetrahedron', 30: '35-node tetrahedron', 31: '56-node tetrahedron', 92: '64-node hexahedron', 93: '125-node hexahedron'}
 
 
 class Lines:
@@ -56,9 +67,9 @@ class Lines:
         raise Fault(start, '$%s has no $End%s' % (section, section))
 
 
-def read(texts):
-    """The model of the file's lines."""
-    lines, model = Lines(texts), Model()
+def read(source, ignore=()):
+    """The model of the file."""
+    lines, model = Lines([text for _, text in source.lines()]), Model(ignore)
     readers = {}
     while not lines.ended():
         line = lines.take()
@@ -72,12 +83,21 @@ def read(texts):
                 readers[section](lines, model)
                 lines.end(section)
             else:
+                test_section(lines, model, section)
                 lines.skip(section)
         elif line:
             raise Fault(lines.number, 'a section was expected, such as $Nodes')
     if not readers:
         raise Fault(0, 'no $MeshFormat: this is no Gmsh file of version 2.2 or 4.1')
     return model
+
+
+def test_section(lines, model, section):
+    """A section that is not read must be known to join nothing."""
+    if section == 'Periodic':
+        model.leave_out(lines.number, section, '$Periodic makes nodes of two sides one, and GRD has no place for that')
+    elif squeezed(section) not in known.GMSH:
+        model.leave_out(lines.number, section, '$%s is not known, and might join nodes' % section)
 
 
 def version(lines):
@@ -95,14 +115,14 @@ def add_element(lines, model, kind, number, nodes):
     if kind == POINT:
         model.points += 1
         return
-    if kind not in TYPES:
-        name = NO_KIND.get(kind, 'type %d' % kind)
-        raise Fault(lines.number, 'element %d (%s): GRD has no kind for it' % (number, name))
-    grd_kind, count, name = TYPES[kind]
+    if kind not in TYPE:
+        model.leave_out(lines.number, 'type %d' % kind, 'element %d has type %d, which is not known' % (number, kind))
+        return
+    grd_kind, shape, count, name = TYPE[kind]
     name = 'element %d (%s)' % (number, name)
     if len(nodes) != count:
         raise Fault(lines.number, '%s: %d nodes, and it needs %d' % (name, len(nodes), count))
-    model.add_element(grd_kind, nodes, lines.number, name)
+    model.add_element(grd_kind, nodes, lines.number, name, shape)
 
 
 # Version 2.2.

@@ -3,16 +3,37 @@
 import re
 from collections import namedtuple
 
+import cover
 import grd
 
 WHOLE = re.compile(r'[+-]?[0-9]{1,18}')
 
-# name: as a message calls it, such as 'element 7 (CQUAD4)'
-Element = namedtuple('Element', 'kind nodes line name')
+# kind: the GRD kind, or None where GRD has none; name: as a message calls it, such as 'element 7 (CQUAD4)';
+# shape: the kind, or the kind from 1 to 7 that has the same corners, which are the element's first nodes
+Element = namedtuple('Element', 'kind nodes line name shape')
+
+
+class Line(int):
+    """The number of a line, with the files around it: the last is its own, and each one before takes in the next."""
+
+    def __new__(cls, number, files):
+        line = super().__new__(cls, number)
+        line.files = files
+        return line
+
+
+def file_of(line):
+    """The file that a line stands in, or None for the command's first file."""
+    return line.files[-1] if isinstance(line, Line) else None
+
+
+def line_name(line, near):
+    """As a message about a line near it says it."""
+    return 'line %d' % line if file_of(line) == file_of(near) else 'line %d of %s' % (line, file_of(line))
 
 
 class Fault(Exception):
-    """A mistake in a file; line 0 stands for the file as a whole. Without a path it is the command's first file."""
+    """A mistake in a file; line 0 stands for the file as a whole. Without a path it is the line's file, or the command's first."""
 
     # the exit status of the command
     status = 1
@@ -20,7 +41,7 @@ class Fault(Exception):
     def __init__(self, line, text, path=None):
         super().__init__(text)
         self.line = line
-        self.path = path
+        self.path = path or file_of(line)
 
     def message(self, path):
         place = '%s:%d' % (self.path or path, self.line) if self.line else self.path or path
@@ -33,27 +54,43 @@ class Stop(Fault):
     status = 2
 
 
+def squeezed(name):
+    """A keyword as it is compared: in capitals, without blanks and the mark before it."""
+    return ''.join(name.upper().split()).lstrip('*$')
+
+
 class Model:
     """Nodes by their numbers in the input, each with its line; elements in the input's order."""
 
-    def __init__(self):
+    def __init__(self, ignore=()):
         self.nodes = {}
         # coordinates by node number; None, or no entry, where they aren't known
         self.places = {}
         self.elements = []
         # elements of one node: they join nothing, so GRD needs none
         self.points = 0
+        # elements taken out again, as others hold their nodes
+        self.dropped = 0
+        # what the user lets be left out, and how often each was met
+        self.ignored = {squeezed(name): 0 for name in ignore}
 
     def add_node(self, number, line, place=None):
         if number < 1:
             raise Fault(line, 'node %d: numbers start at 1' % number)
         if number in self.nodes:
-            raise Fault(line, 'node %d is given twice, first on line %d' % (number, self.nodes[number]))
+            raise Fault(line, 'node %d is given twice, first on %s' % (number, line_name(self.nodes[number], line)))
         self.nodes[number] = line
         self.places[number] = place
 
-    def add_element(self, kind, nodes, line, name):
-        self.elements.append(Element(kind, nodes, line, name))
+    def add_element(self, kind, nodes, line, name, shape=None):
+        self.elements.append(Element(kind, nodes, line, name, shape or kind))
+
+    def leave_out(self, line, name, text):
+        """A thing that may join nodes and is not read. The user alone may leave it out."""
+        if squeezed(name) not in self.ignored:
+            shown = "'%s'" % name if ' ' in name else name
+            raise Stop(line, '%s; --ignore %s leaves it out' % (text, shown))
+        self.ignored[squeezed(name)] += 1
 
     def nodes_from_elements(self):
         """For a file that gives elements alone: the nodes are those that they name."""
@@ -72,16 +109,19 @@ def integer(text, line, what):
 
 # From a model to a mesh.
 
-def mesh_of(model, compact):
-    """The mesh, and the list of input numbers in the order of the mesh's 1 to n."""
-    test_sizes(model)
+def mesh_of(model, compact, drop=False):
+    """The mesh, and the list of input numbers in the order of the mesh's 1 to n. Elements within others go where asked, or the file is too long."""
+    test_nodes(model)
     for element in model.elements:
         test_element(model, element)
     numbers = sorted(model.nodes)
     if not compact:
         test_gaps(model, numbers)
+    if drop or too_long(model):
+        drop_inner(model)
+    test_length(model)
     place = {number: i for i, number in enumerate(numbers, 1)}
-    mesh = grd.Mesh(len(numbers), [(e.kind, [place[p] for p in e.nodes]) for e in model.elements])
+    mesh = grd.Mesh(len(numbers), [(kind, [place[p] for p in nodes]) for e in model.elements for kind, nodes in records(e)])
     try:
         grd.test_entries(mesh)
     except grd.Refusal as refusal:
@@ -89,15 +129,31 @@ def mesh_of(model, compact):
     return mesh, numbers
 
 
-def test_sizes(model):
+def records(element):
+    """The element as GRD has it: one record of its kind, or several in which the same nodes adjoin."""
+    return [(element.kind, element.nodes)] if element.kind else cover.records(element.nodes)
+
+
+def length(element):
+    return sum(grd.element_bytes(kind) for kind, _ in records(element))
+
+
+def too_long(model):
+    return grd.HEADER_BYTES + sum(length(element) for element in model.elements) > grd.MOST_BYTES
+
+
+def test_nodes(model):
     if not model.elements:
         raise Fault(0, 'no elements found')
     if len(model.nodes) > grd.MOST_NODES:
         line = list(model.nodes.values())[grd.MOST_NODES]
         raise Fault(line, '%d nodes, and GRD has room for %d: this is the first too many' % (len(model.nodes), grd.MOST_NODES))
+
+
+def test_length(model):
     size = grd.HEADER_BYTES
     for element in model.elements:
-        size += grd.element_bytes(element.kind)
+        size += length(element)
         if size > grd.MOST_BYTES:
             raise Fault(element.line, '%s is the first that does not fit: a GRD file has at most %d bytes' % (element.name, grd.MOST_BYTES))
 
@@ -115,3 +171,20 @@ def test_gaps(model, numbers):
         if number != wanted:
             missing = 'number %d' % wanted if number == wanted + 1 else 'numbers %d to %d' % (wanted, number - 1)
             raise Fault(model.nodes[number], 'node %d comes after a gap: no node has %s; --compact closes gaps' % (number, missing))
+
+
+# Elements within others.
+
+def drop_inner(model):
+    """Take out each element whose nodes all lie in another one: the same nodes adjoin without it."""
+    within, kept = {}, set()
+    # the largest first; of two with the same nodes the earlier one stays
+    for place in sorted(range(len(model.elements)), key=lambda i: -len(model.elements[i].nodes)):
+        nodes = set(model.elements[place].nodes)
+        # whatever holds all the nodes holds each of them
+        if not any(nodes <= other for other in min((within.get(p, []) for p in nodes), key=len)):
+            kept.add(place)
+            for p in nodes:
+                within.setdefault(p, []).append(nodes)
+    model.dropped = len(model.elements) - len(kept)
+    model.elements = [element for i, element in enumerate(model.elements) if i in kept]

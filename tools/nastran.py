@@ -1,34 +1,45 @@
-"""NASTRAN bulk data: connection cards in free, small (8 columns) and large (16 columns) field.
+"""NASTRAN bulk data: connection cards in free, small (8 columns) and large (16 columns) field, and the files that INCLUDE takes in.
 
-As in source document 004, a continuation stands right behind its parent card.
+As in source document 004, a continuation stands right behind its parent card. Every other card must be known to join nothing.
 """
 
 from collections import namedtuple
 
-from model import Fault, Model, integer
+import known
+from model import Fault, Model, Stop, integer, line_name
 from places import point
 
-# Card: the fields of its nodes (field 1 is the element's number), and the GRD kind for each count of nodes.
-CARDS = {
-    'CBAR': ((3, 4), {2: 1}), 'CBEAM': ((3, 4), {2: 1}), 'CROD': ((3, 4), {2: 1}), 'CTUBE': ((3, 4), {2: 1}), 'CONROD': ((2, 3), {2: 1}),
-    'CTRIA3': ((3, 5), {3: 2}), 'CTRIAR': ((3, 5), {3: 2}),
-    'CQUAD4': ((3, 6), {4: 3}), 'CQUADR': ((3, 6), {4: 3}), 'CSHEAR': ((3, 6), {4: 3}),
-    'CTETRA': ((3, 12), {4: 4, 10: 10}),
-    'CPYRAM': ((3, 15), {5: 5}), 'CPYRA': ((3, 15), {5: 5}),
-    'CPENTA': ((3, 17), {6: 6}),
-    'CHEXA': ((3, 22), {8: 7}),
-    'CTRIA6': ((3, 8), {6: 8}),
-    'CQUAD8': ((3, 10), {8: 9}),
-}
+# A card's nodes: their fields (field 1 is the element's number), how many of them it must have, and the GRD kind with the same corners.
+Nodes = namedtuple('Nodes', 'fields least shape')
+CARDS = {name: Nodes(fields, least, shape) for names, fields, least, shape in (
+    ('CBAR CBEAM CROD CTUBE CBEND CVISC CGAP', (3, 4), 2, 1),
+    ('CONROD', (2, 3), 2, 1),
+    ('CBEAM3', (3, 4, 5), 2, 1),
+    ('CTRIA3 CTRIAR CPLSTN3 CPLSTS3 CTRAX3', range(3, 6), 3, 2),
+    ('CTRIA6 CTRIAX CPLSTN6 CPLSTS6 CTRAX6', range(3, 9), 3, 2),
+    ('CTRIAX6', (3, 5, 7, 4, 6, 8), 3, 2),
+    ('CQUAD4 CQUADR CSHEAR CPLSTN4 CPLSTS4 CQUADX4', range(3, 7), 4, 3),
+    ('CQUAD8 CPLSTN8 CPLSTS8 CQUADX8', range(3, 11), 4, 3),
+    ('CQUAD CQUADX', range(3, 12), 4, 3),
+    ('CTETRA', range(3, 13), 4, 4),
+    ('CPYRAM CPYRA', range(3, 16), 5, 5),
+    ('CPENTA', range(3, 18), 6, 6),
+    ('CHEXA', range(3, 23), 8, 7),
+    # springs, dampers and masses: with one node they stand on the ground
+    ('CBUSH CBUSH1D CBUSH2D', (3, 4), 1, 1),
+    ('CELAS1 CELAS2 CDAMP1 CDAMP2 CMASS1 CMASS2', (3, 5), 0, 1),
+) for name in names.split()}
+
+# The GRD kind of a shape with so many nodes; other counts have none.
+KIND = {(1, 2): 1, (2, 3): 2, (3, 4): 3, (4, 4): 4, (5, 5): 5, (6, 6): 6, (7, 8): 7, (2, 6): 8, (3, 8): 9, (4, 10): 10}
 
 # Masses of one node.
 POINTS = {'CONM1', 'CONM2'}
 
-# Other names that begin with C and join no nodes: coordinate systems, sets and loads.
-JOINS_NOTHING = set('CORD1R CORD1C CORD1S CORD2R CORD2C CORD2S CORD3G CSET CSET1 CYSYM CREEP CONV CONVM CLOAD'.split())
-
-# Others that join nodes, or make points of their own.
-JOINS = set('RBE1 RBE2 RBE3 RBAR RBAR1 RROD RJOINT RSPLINE RSSCON RTRPLT RTRPLT1 MPC MPCY GENEL SPOINT EPOINT'.split())
+# Others that join points, or make points of their own.
+JOINS = set('RBE1 RBE2 RBE3 RBAR RBAR1 RROD RJOINT RSPLINE RSSCON RTRPLT RTRPLT1 MPC MPCY MPCAX GENEL SPOINT EPOINT DMIG DMIAX TF CWELD CFAST '
+            'CSEAM CELAS3 CELAS4 CDAMP3 CDAMP4 CMASS3 CMASS4 BCTABLE BCTABL1 BCONECT BCTSET BCTADD BGSET BGADD BCONP BCBODY BCBODY1 BOLT '
+            'CYJOIN CONV CONVM RADBC CHBDYE CHBDYG CHBDYP SECONCT CSUPER CSUPEXT'.split())
 
 # Warping points of a beam: fields 17 and 18.
 WARPING = (17, 18)
@@ -36,34 +47,54 @@ WARPING = (17, 18)
 Card = namedtuple('Card', 'line name fields')
 
 
-def read(texts):
-    """The model of the file's lines. Without a GRID card the nodes are those that the elements name."""
-    model, seen = Model(), {}
-    for card in cards(bulk(texts)):
+def read(source, ignore=()):
+    """The model of the file and of those that it takes in. Without a GRID card the nodes are those that the elements name."""
+    model, seen = Model(ignore), {}
+    for card in cards(bulk(source)):
         if card.name == 'GRID':
             model.add_node(node(card, 1), card.line, place(card))
-        elif card.name == 'INCLUDE':
-            raise Fault(card.line, 'INCLUDE takes in another file: put the contents of that file here and try again')
         elif card.name in CARDS:
             add_element(card, model, seen)
         elif card.name in POINTS:
             model.points += 1
-        elif card.name in JOINS or card.name.startswith('C') and card.name not in JOINS_NOTHING:
-            raise Fault(card.line, 'card %s: GRD has no kind for it' % card.name)
+        elif card.name in JOINS:
+            model.leave_out(card.line, card.name, 'card %s: GRD has no kind for it' % card.name)
+        elif card.name not in known.NASTRAN:
+            model.leave_out(card.line, card.name, 'card %s is not known, and might join nodes' % card.name)
     if not model.nodes:
         model.nodes_from_elements()
     return model
 
 
-def bulk(texts):
+def bulk(source):
     """Lines of the bulk data with their numbers, without comments: after BEGIN BULK, if there is one, up to ENDDATA."""
-    lines = [(number, text.split('$')[0].rstrip().expandtabs(8)) for number, text in enumerate(texts, 1)]
+    lines = list(with_included(source, source.lines()))
     begins = [i for i, (_, text) in enumerate(lines) if text.upper().split()[:2] == ['BEGIN', 'BULK']]
-    for number, text in lines[begins[0] + 1 if begins else 0:]:
+    for line, text in lines[begins[0] + 1 if begins else 0:]:
         if text.strip().upper() == 'ENDDATA':
             return
         if text.strip():
-            yield number, text
+            yield line, text
+
+
+def with_included(source, lines):
+    """The lines without comments, those of an included file in the place of INCLUDE."""
+    for line, text in lines:
+        text = text.split('$')[0].rstrip().expandtabs(8)
+        if text.upper().split()[:1] == ['INCLUDE']:
+            yield from with_included(source, source.included(line, included_name(line, text.strip()[7:].strip())))
+        else:
+            yield line, text
+
+
+def included_name(line, text):
+    """The name behind INCLUDE, mostly in quotes."""
+    quote = text[:1]
+    if quote in ('"', "'") and len(text) > 2 and text.find(quote, 1) == len(text) - 1:
+        return text[1:-1]
+    if not text or quote in ('"', "'"):
+        raise Fault(line, 'INCLUDE needs a file name, whole and on its line')
+    return text
 
 
 # Cards from lines.
@@ -71,25 +102,33 @@ def bulk(texts):
 def cards(lines):
     """Each card with the fields of all its lines, continuation marks left out."""
     card, mark = None, ''
-    for number, text in lines:
-        name, fields, next_mark = split(number, text)
+    for line, text in lines:
+        name, fields, next_mark = split(line, text)
         if name[:1] in ('', '+', '*'):
             if card is None:
-                raise Fault(number, 'a continuation without a card before it')
-            go_on(card, mark, number, name, fields)
+                raise Fault(line, 'a continuation without a card before it')
+            go_on(card, mark, line, name, fields)
         else:
             if card:
                 yield ended(card, mark)
-            card = Card(number, name.rstrip('*').rstrip().upper(), fields)
+            card = Card(line, name.rstrip('*').rstrip().upper(), fields)
+        test_room(card, line, name, fields)
         mark = next_mark
     if card:
         yield ended(card, mark)
 
 
-def go_on(card, mark, number, name, fields):
+def test_room(card, line, name, fields):
+    """A card that is read must have no fields beyond its line; others, such as equations, may."""
+    room = 4 if large(name) else 8
+    if len(fields) > room and (card.name in CARDS or card.name == 'GRID'):
+        raise Fault(line, '%d fields in a line, and it has room for %d' % (len(fields) + 1, room + 2))
+
+
+def go_on(card, mark, line, name, fields):
     """The fields of one more line."""
     if card.name in CARDS and label(mark) and label(name) and label(mark) != label(name):
-        raise Fault(number, 'continuation %s does not follow its card, which ends with %s' % (name, mark))
+        raise Fault(line, 'continuation %s does not follow its card, which ends with %s' % (name, mark))
     if not large(name):
         # the second half of a large-field pair may be left out
         card.fields.extend([''] * (-len(card.fields) % 8))
@@ -112,25 +151,25 @@ def large(name):
     return '*' in name
 
 
-def split(number, text):
+def split(line, text):
     """Name, data fields and continuation mark of one line."""
-    if text.upper().split()[0] == 'INCLUDE':
-        return 'INCLUDE', [], ''
+    if text.upper().split()[0] == 'BEGIN':
+        return 'BEGIN', [], ''
     if text.lstrip().startswith('='):
-        raise Fault(number, 'replicated cards (=) are not read')
+        raise Stop(line, 'replicated cards (=) are not read')
     if ',' in text[:10]:
-        return split_free(number, text)
+        return split_free(text)
     name = text[:8].strip()
     width, count = (16, 4) if large(name) else (8, 8)
     fields = [text[8 + width * i:8 + width * (i + 1)].strip() for i in range(count)]
     return name, fields, text[72:80].strip()
 
 
-def split_free(number, text):
+def split_free(text):
     words = [word.strip() for word in text.split(',')]
     count = 4 if large(words[0]) else 8
     if len(words) > count + 2:
-        raise Fault(number, '%d fields in a line, and it has room for %d' % (len(words), count + 2))
+        return words[0], words[1:], ''
     words += [''] * (count + 2 - len(words))
     return words[0], words[1:count + 1], words[count + 1]
 
@@ -150,17 +189,27 @@ def place(card):
     return point(card.fields[2:5]) if field(card, 2) in ('', '0') else None
 
 
+def nodes_of(card, name):
+    """The nodes that are given, those that the card must have among them; 0 stands for none."""
+    places, least, _ = CARDS[card.name]
+    given = [at for at in places if field(card, at) not in ('', '0')]
+    for at in places[:least]:
+        if at not in given:
+            raise Fault(card.line, '%s has no node in field %d' % (name, at + 1))
+    return [node(card, at) for at in given]
+
+
 def add_element(card, model, seen):
-    (first, last), kinds = CARDS[card.name]
-    number = node(card, 1)
+    number, shape = node(card, 1), CARDS[card.name].shape
     name = 'element %d (%s)' % (number, card.name)
+    nodes = nodes_of(card, name)
     if number in seen:
-        raise Fault(card.line, '%s is given twice, first on line %d' % (name, seen[number]))
+        raise Fault(card.line, '%s is given twice, first on %s' % (name, line_name(seen[number], card.line)))
     seen[number] = card.line
-    if card.name == 'CBEAM' and any(field(card, place) for place in WARPING):
-        raise Fault(card.line, '%s has warping points, and GRD has no kind for that' % name)
-    nodes = [node(card, place) for place in range(first, last + 1) if field(card, place)]
-    if len(nodes) not in kinds:
-        wanted = ' or '.join(str(count) for count in sorted(kinds))
-        raise Fault(card.line, '%s: %d nodes, and GRD has a kind for %s only' % (name, len(nodes), wanted))
-    model.add_element(kinds[len(nodes)], nodes, card.line, name)
+    if card.name == 'CBEAM' and any(field(card, at) for at in WARPING):
+        raise Stop(card.line, '%s has warping points, and GRD has no kind for that' % name)
+    # a spring between two directions of one node joins it to no other
+    if CARDS[card.name].least < 2 and len(set(nodes)) < 2:
+        model.points += 1
+    else:
+        model.add_element(KIND.get((shape, len(nodes))), nodes, card.line, name, shape)

@@ -4,6 +4,8 @@
   to_grd.py IN -o OUT.grd              by IN's ending: .msh, .inp, or .bdf .nas .dat .fem
   to_grd.py --from gmsh|abaqus|nastran IN -o OUT.grd
   to_grd.py --compact IN -o OUT.grd    close gaps in the node numbers; OUT.nodes has the map
+  to_grd.py --ignore NAME ..           leave out what may join nodes and is not read: a keyword, card, section or element type
+  to_grd.py --drop-inner ..            leave out elements whose nodes all lie in another one
 """
 
 import argparse
@@ -14,8 +16,8 @@ import abaqus
 import gmsh
 import grd
 import nastran
-from files import GRD, NODES, Output, add_output_options, command, read_lines, write_own
-from model import Fault, mesh_of
+from files import GRD, NODES, Output, Source, add_output_options, command, write_own
+from model import Fault, mesh_of, squeezed
 
 READERS = {'gmsh': gmsh.read, 'abaqus': abaqus.read, 'nastran': nastran.read}
 ENDINGS = {'.msh': 'gmsh', '.inp': 'abaqus', '.bdf': 'nastran', '.nas': 'nastran', '.dat': 'nastran', '.fem': 'nastran'}
@@ -37,32 +39,50 @@ def map_bytes(numbers):
     return ''.join('%d %d\n' % pair for pair in enumerate(numbers, 1)).encode('ascii')
 
 
+def model_of(source, form=None, ignore=()):
+    """The model of a Source, by its ending where no format is given."""
+    return READERS[form or format_of(source.path)](source, ignore)
+
+
 def convert(arguments):
-    read = READERS[arguments.format or format_of(arguments.input)]
-    model = read(read_lines(arguments.input))
-    mesh, numbers = mesh_of(model, arguments.compact)
+    source = Source(arguments.input)
+    model = model_of(source, arguments.format, arguments.ignore)
+    mesh, numbers = mesh_of(model, arguments.compact, arguments.drop_inner)
     outputs = [Output(arguments.output, grd.write(mesh), GRD)]
     if arguments.compact:
         outputs.append(Output(map_path(arguments.output), map_bytes(numbers), NODES))
-    write_own(outputs, [arguments.input], arguments.force)
-    report(arguments, model, mesh)
+    write_own(outputs, source.paths, arguments.force)
+    print('\n'.join(report(arguments, model, mesh)))
 
 
 def report(arguments, model, mesh):
-    print('%s: %s' % (arguments.output, grd.summary(mesh)))
+    yield '%s: %s' % (arguments.output, grd.summary(mesh))
     if arguments.compact:
-        print('%s: the numbers before and after closing gaps' % map_path(arguments.output))
+        yield '%s: the numbers before and after closing gaps' % map_path(arguments.output)
+    covered = [element for element in model.elements if not element.kind]
+    if covered:
+        counts = {len(element.nodes): 0 for element in covered}
+        for element in covered:
+            counts[len(element.nodes)] += 1
+        yield ('elements that GRD has no kind for, written as others that make the same nodes adjoin: %d (%s)'
+               % (len(covered), ', '.join('%d-node %d' % pair for pair in sorted(counts.items()))))
     if model.points:
-        print('one-node elements left out, as they join nothing: %d' % model.points)
+        yield 'one-node elements left out, as they join nothing: %d' % model.points
+    if model.dropped:
+        yield 'elements left out, as their nodes all lie in another: %d' % model.dropped
+    for name in arguments.ignore:
+        yield 'left out by --ignore %s: %d' % (name, model.ignored[squeezed(name)])
     alone = sum(1 for row in grd.neighbours(mesh)[1:] if not row)
     if alone:
-        print('nodes in no element, each a part of its own: %d' % alone)
+        yield 'nodes in no element, each a part of its own: %d' % alone
 
 
 def main(words):
     parser = argparse.ArgumentParser(prog='to_grd.py', description='Gmsh, CalculiX, Abaqus and NASTRAN meshes to GRD')
     parser.add_argument('--from', dest='format', choices=sorted(READERS), help="the input's format; otherwise its ending tells")
     parser.add_argument('--compact', action='store_true', help='renumber nodes by rising number; OUT.nodes has the map')
+    parser.add_argument('--ignore', action='append', default=[], metavar='NAME', help='leave out this keyword, card, section or element type')
+    parser.add_argument('--drop-inner', action='store_true', help='leave out elements whose nodes all lie in another one')
     parser.add_argument('input', metavar='IN')
     add_output_options(parser, 'OUT.grd')
     arguments = parser.parse_args(words)

@@ -7,6 +7,7 @@ import sys
 from converting import KINDS, converts, fails
 from harness import TOP, data, grd_file, run
 
+import grd
 import to_grd
 
 
@@ -30,12 +31,28 @@ def limits(c):
     chain = [(p, p + 1) for p in range(1, 4097)]
     converts(c, 'to_grd: 4,096 nodes', 'a.bdf', bars(chain[:-1]), grd_file(4096, *[(1, p, q) for p, q in chain[:-1]]))
     fails(c, 'to_grd: 4,097 nodes', 'a.bdf', bars(chain), ':4096: 4097 nodes, and GRD has room for 4096: this is the first too many')
-    long = (chain[:-1] * 3)[:10921]
+    long = (chain[:-1] + [(p, p + 2) for p in range(1, 4095)] + [(p, p + 3) for p in range(1, 4094)])[:10921]
     converts(c, 'to_grd: 65,535 bytes', 'a.bdf', bars(long), grd_file(4096, *[(1, p, q) for p, q in long]))
-    fails(c, 'to_grd: a file too long', 'a.bdf', bars(long + [(1, 3)]),
+    fails(c, 'to_grd: a file too long', 'a.bdf', bars(long + [(1, 9)]),
           ':10922: element 10922 (CROD) is the first that does not fit: a GRD file has at most 65535 bytes')
+    inner(c, long)
     fails(c, 'to_grd: too many neighbours', 'a.bdf', tetrahedra(),
           ': the program would refuse this mesh: refused 11: the elements give more than 32,768 neighbour entries; they give 34560')
+
+
+def inner(c, long):
+    """Elements whose nodes all lie in another one."""
+    status, out, err, made = run(to_grd.main, ['a.bdf', '-o', 'out.grd'], {'a.bdf': bars(long + long[:20])})
+    c.equal('inner: left out where the file is too long', (status, out, err, made.get('out.grd')),
+            (0, 'out.grd: 4,096 nodes, 10,921 elements (bar 10921)\nelements left out, as their nodes all lie in another: 20\n', '',
+             grd_file(4096, *[(1, p, q) for p, q in long])))
+    deck = 'CROD,1,1,2,1\nCTRIA3,2,1,1,2,3\nCQUAD4,3,1,4,3,2,1\nCTRIA3,4,1,3,4,5\nCTRIA3,5,1,5,4,3\nCROD,6,1,1,5\n'
+    got = run(to_grd.main, ['--drop-inner', 'a.bdf', '-o', 'out.grd'], {'a.bdf': deck})
+    c.equal('inner: left out where asked', got,
+            (0, 'out.grd: 5 nodes, 3 elements (bar 1, triangle 1, quadrilateral 1)\nelements left out, as their nodes all lie in another: 3\n', '',
+             {'out.grd': grd_file(5, (3, 4, 3, 2, 1), (2, 3, 4, 5), (1, 1, 5))}))
+    whole = run(to_grd.main, ['a.bdf', '-o', 'out.grd'], {'a.bdf': deck})[3]['out.grd']
+    c.equal('inner: the same nodes adjoin without', grd.neighbours(grd.read(got[3]['out.grd'])), grd.neighbours(grd.read(whole)))
 
 
 def tetrahedra():

@@ -1,7 +1,9 @@
 """Gmsh files of both versions."""
 
-from converting import KINDS, all_kinds, converts, fails
+from converting import KINDS, adjoins, all_kinds, converts, fails, left_out, stops
 from harness import data, edited, grd_file
+
+import gmsh
 
 TRIANGLES = ((2, 1, 2, 3), (2, 2, 3, 4))
 
@@ -20,12 +22,39 @@ def cases(c):
     converts(c, 'gmsh: line ends of another system', 'a.msh', data('kinds22.msh').replace('\n', '\r\n'), KINDS)
     converts(c, 'gmsh: ending in capitals', 'A.MSH', data('kinds41.msh'), KINDS)
     converts(c, 'gmsh: nodes in any order', 'a.msh', mesh([4, 2, 1, 3], TRIANGLES), grd_file(4, *TRIANGLES))
-    for kind, nodes, name in ((8, 3, '3-node line'), (10, 9, '9-node quadrangle'), (17, 20, '20-node hexahedron'), (120, 4, 'type 120')):
-        text = mesh(range(1, 21), [(1, 1, 2), (kind,) + tuple(range(1, nodes + 1))])
-        fails(c, 'gmsh: kind ' + name, 'a.msh', text, ':30: element 2 (%s): GRD has no kind for it' % name)
+    other_types(c)
+    sections(c)
     meshes(c)
     old_form(c)
     new_form(c)
+
+
+def other_types(c):
+    """Types that GRD has no kind for: all nodes of an element adjoin, and no others."""
+    for kind, count in ((8, 3), (10, 9), (12, 27), (13, 18), (14, 14), (17, 20), (18, 15), (19, 13), (21, 10), (26, 4), (29, 20), (36, 16), (92, 64)):
+        nodes = range(3, count + 3)
+        text = mesh(range(1, count + 4), [(1, 1, 2), (kind,) + tuple(nodes), (1, 2, 3)])
+        adjoins(c, 'gmsh: type %d' % kind, 'a.msh', text, count + 3, (1, 2), nodes, (2, 3))
+        fails(c, 'gmsh: type %d with a node less' % kind, 'a.msh', mesh(range(1, count + 4), [(kind,) + tuple(nodes[:-1])]),
+              ':%d: element 1 (%s): %d nodes, and it needs %d' % (count + 12, gmsh.TYPE[kind][3], count - 1, count))
+    text = mesh(range(1, 5), [(1, 1, 2), (120, 1, 2, 3, 4)])
+    stops(c, 'gmsh: type 120', 'a.msh', text, ":14: element 2 has type 120, which is not known; --ignore 'type 120' leaves it out")
+    left_out(c, 'gmsh: type 120 left out', 'a.msh', text, grd_file(4, (1, 1, 2)), 'type 120', 1)
+
+
+def sections(c):
+    """Sections beside nodes and elements: known ones join nothing, and others are named."""
+    text = mesh(range(1, 5), TRIANGLES)
+    pairs = text + '$Periodic\n1\n0 1 2\n1\n1 2\n$EndPeriodic\n'
+    stops(c, 'gmsh: periodic', 'a.msh', pairs,
+          ':16: $Periodic makes nodes of two sides one, and GRD has no place for that; --ignore Periodic leaves it out')
+    left_out(c, 'gmsh: periodic left out', 'a.msh', pairs, grd_file(4, *TRIANGLES), '$Periodic', 1)
+    stops(c, 'gmsh: elements misspelt', 'a.msh', text.replace('Elements', 'Elemnts'),
+          ':11: $Elemnts is not known, and might join nodes; --ignore Elemnts leaves it out')
+    fields = '$NodeData\n1\n"T"\n1\n0.0\n3\n0\n1\n1\n1 2.5\n$EndNodeData\n'
+    converts(c, 'gmsh: a field', 'a.msh', text + fields, grd_file(4, *TRIANGLES))
+    for name, mark, encoding in (('UTF-8', b'\xef\xbb\xbf', 'utf-8'), ('UTF-16, low byte first', b'\xff\xfe', 'utf-16-le')):
+        converts(c, 'gmsh: byte order mark of ' + name, 'a.msh', mark + text.encode(encoding), grd_file(4, *TRIANGLES))
 
 
 def meshes(c):
@@ -70,6 +99,6 @@ def new_form(c):
     edit('count of nodes', '2 12 1 12', '2 13 1 12', ':9: 13 nodes announced, 12 found')
     edit('count of elements', '11 11 1 11', '11 10 1 11', ':38: 10 elements announced, 11 found')
     edit('block short', '2 1 0 5', '2 1 0 6', ':16: node number expected')
-    edit('kind', '2 1 16 1', '2 1 10 1', ':58: element 10 (9-node quadrangle): GRD has no kind for it')
+    edit('kind', '2 1 16 1', '2 1 10 1', ':58: element 10 (9-node quadrangle): 8 nodes, and it needs 9')
     edit('no such node', '2 2 1 \n', '2 2 13 \n', ':42: element 2 (2-node line): there is no node 13')
     edit('cut', '$EndElements\n', '', ':60: the file ends too early')

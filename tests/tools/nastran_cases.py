@@ -1,7 +1,10 @@
 """NASTRAN bulk data in its three fields."""
 
-from converting import KINDS, all_kinds, converts, fails
-from harness import data, edited, grd_file
+from converting import KINDS, adjoins, all_kinds, converts, fails, left_out, stops
+from harness import data, edited, grd_file, run
+
+import known
+import to_grd
 
 QUAD = 'CQUAD4,1,1,1,2,3,4\n'
 
@@ -12,6 +15,10 @@ def cases(c):
     all_kinds(c, 'free.dat')
     converts(c, 'nastran: another ending', 'deck', data('small.bdf'), KINDS, '--from', 'nastran')
     cards(c)
+    other_counts(c)
+    springs(c)
+    not_read(c)
+    included(c)
     edits(c)
     texts(c)
 
@@ -32,6 +39,69 @@ def cards(c):
              grd_file(8, (7, 1, 2, 3, 4, 5, 6, 7, 8)))
 
 
+def free(card, *fields):
+    """A card in free field, on as many lines as it takes."""
+    words = [str(word) for word in fields]
+    return '\n'.join(','.join([card if at == 0 else ''] + words[at:at + 8]) for at in range(0, len(words), 8)) + '\n'
+
+
+def other_counts(c):
+    """Counts of nodes that GRD has no kind for: all nodes adjoin."""
+    for card, count in (('CHEXA', 20), ('CHEXA', 13), ('CPENTA', 15), ('CPYRAM', 13), ('CTETRA', 5), ('CTETRA', 9), ('CTRIA6', 4), ('CQUAD', 9),
+                        ('CQUADX', 9), ('CBEAM3', 3)):
+        adjoins(c, 'nastran: %s of %d nodes' % (card, count), 'a.bdf', free(card, 1, 1, *range(1, count + 1)), count, range(1, count + 1))
+    adjoins(c, 'nastran: a node in the middle missing', 'a.bdf', free('CTETRA', 1, 1, 1, 2, 3, 4, 5, '', 6, 0, 7), 7, range(1, 8))
+    fails(c, 'nastran: a corner missing', 'a.bdf', free('CTETRA', 1, 1, 1, 2, '', 4, 5), ':1: element 1 (CTETRA) has no node in field 6')
+    converts(c, 'nastran: CTRIAX6', 'a.bdf', free('CTRIAX6', 1, 1, 1, 2, 3, 4, 5, 6), grd_file(6, (8, 1, 3, 5, 2, 4, 6)))
+
+
+def springs(c):
+    """Springs, dampers and masses between two points, or one and the ground."""
+    for card, fields in (('CBUSH', (9, 1, 2, 4)), ('CELAS1', (9, 1, 2, 1, 4, 1)), ('CELAS2', (9, 10.5, 2, 1, 4, 1)), ('CDAMP2', (9, 1.0, 2, 1, 4, 1)),
+                         ('CMASS1', (9, 1, 2, 1, 4, 1)), ('CGAP', (9, 1, 2, 4)), ('CVISC', (9, 1, 2, 4))):
+        converts(c, 'nastran: ' + card, 'a.bdf', QUAD + free(card, *fields), grd_file(4, (3, 1, 2, 3, 4), (1, 2, 4)))
+    for card, fields in (('CBUSH', (9, 1, 2)), ('CELAS2', (9, 10.5, 2, 1)), ('CELAS1', (9, 1, '', '', 2, 1)), ('CELAS2', (9, 1.0, 2, 1, 2, 2)),
+                         ('CMASS2', (9, 1.0, 2, 1, 0, 0))):
+        converts(c, 'nastran: %s on one node' % card, 'a.bdf', QUAD + free(card, *fields), grd_file(4, (3, 1, 2, 3, 4)))
+    fails(c, 'nastran: a gap needs two nodes', 'a.bdf', QUAD + free('CGAP', 9, 1, 2), ':2: element 9 (CGAP) has no node in field 5')
+
+
+def not_read(c):
+    """Cards that are not read: known to join nothing, known to join, or not known."""
+    mesh = grd_file(4, (3, 1, 2, 3, 4))
+    for card in ('RBE2', 'RBE3', 'MPC', 'SPOINT', 'DMIG', 'BCTABLE', 'CELAS3', 'CWELD', 'CONV'):
+        stops(c, 'nastran: ' + card, 'a.bdf', QUAD + free(card, 9, 1, 2),
+              ':2: card %s: GRD has no kind for it; --ignore %s leaves it out' % (card, card))
+        left_out(c, 'nastran: %s left out' % card, 'a.bdf', QUAD + free(card, 9, 1, 2, 3, 4, 5, 6, 7, 8, 9), mesh, card.lower(), 1)
+    for card in ('CQAUD4', 'GIRD', 'CHBDYX', 'XYZ'):
+        stops(c, 'nastran: ' + card, 'a.bdf', QUAD + '%-8s%8d%8d\n' % (card, 9, 1),
+              ':2: card %s is not known, and might join nodes; --ignore %s leaves it out' % (card, card))
+    stops(c, 'nastran: a part of its own', 'a.bdf', QUAD + 'BEGIN SUPER=2\n' + QUAD,
+          ':2: card BEGIN is not known, and might join nodes; --ignore BEGIN leaves it out')
+    names = sorted(known.NASTRAN)
+    converts(c, 'nastran: every card known to join nothing', 'a.bdf', QUAD + ''.join('%s,1,2\n' % name for name in names), mesh)
+    converts(c, 'nastran: an equation', 'a.bdf', QUAD + 'DEQATN,1,F(A,B,C,D,E,G,H,I,J)=\n+,MAX(A,B,C,D,E,G,H,I,J)\n', mesh)
+    for name, mark, encoding in (('UTF-8', b'\xef\xbb\xbf', 'utf-8'), ('UTF-16', b'\xff\xfe', 'utf-16-le')):
+        converts(c, 'nastran: byte order mark of %s before a quad' % name, 'a.bdf', mark + QUAD.encode(encoding), mesh)
+
+
+def included(c):
+    """Files taken in by INCLUDE."""
+    mesh, points = grd_file(4, (3, 1, 2, 3, 4)), ''.join('GRID,%d\n' % p for p in range(1, 5))
+    for name in ("'more.bdf'", '"more.bdf"', 'more.bdf'):
+        converts(c, 'nastran: include of ' + name, 'a.bdf', 'include %s\n' % name + QUAD, mesh, files={'more.bdf': points})
+    converts(c, 'nastran: include before the bulk data', 'a.bdf',
+             "SOL 101\nINCLUDE 'case.inc'\nBEGIN BULK\nINCLUDE 'Nodes.inc'\n" + QUAD + 'ENDDATA\n', mesh,
+             files={'case.inc': 'CEND\nSPC = 1\n', 'Nodes.inc': points})
+    fails(c, 'nastran: no such file to include', 'a.bdf', QUAD + "INCLUDE 'more.bdf'\n", ':2: takes in more.bdf: No such file or directory')
+    stops(c, 'nastran: a loop', 'a.bdf', QUAD + "INCLUDE 'a.bdf'\n", ':2: takes in a.bdf, which stands around it already')
+    for text in ("'dir/", "''", ''):
+        fails(c, 'nastran: include of %r' % text, 'a.bdf', QUAD + 'INCLUDE %s\nmore.bdf\n' % text,
+              ':2: INCLUDE needs a file name, whole and on its line')
+    got = run(to_grd.main, ['a.bdf', '-o', 'out.grd'], {'a.bdf': QUAD + "INCLUDE 'b.bdf'\n", 'b.bdf': '\nCROD,1,1,1,2\n'})
+    c.equal('nastran: an element in both', got, (1, '', 'b.bdf:2: element 1 (CROD) is given twice, first on line 1 of a.bdf\n', {}))
+
+
 def edits(c):
     """Mistakes put into the files with every kind."""
     def small(name, old, new, message):
@@ -44,10 +114,7 @@ def edits(c):
     small('another card\'s continuation', '+C7     2       1', '+C8     2       1',
           ':27: continuation +C8 does not follow its card, which ends with +C7')
     small('continuation missing', '+C7     2       1\n', '', ':26: card CHEXA ends with +C7, and its continuation does not follow')
-    small('continuation and mark missing', '3       +C7\n+C7     2       1\n', '3\n',
-          ':26: element 7 (CHEXA): 6 nodes, and GRD has a kind for 8 only')
-    small('some middle nodes', '+C10          11      12       5       6', '+C10          11      12       5',
-          ':31: element 10 (CTETRA): 9 nodes, and GRD has a kind for 4 or 10 only')
+    small('continuation and mark missing', '3       +C7\n+C7     2       1\n', '3\n', ':26: element 7 (CHEXA) has no node in field 10')
     small('no number', 'CROD    1       1       2       1', 'CROD    1       1       2       1.5',
           ":20: CROD, field 5: '1.5' is no whole number")
     small('element twice', 'CROD    1       1', 'CROD    3       1',
@@ -59,24 +126,14 @@ def edits(c):
 
 def texts(c):
     """Files made for one mistake."""
-    fails(c, 'nastran: include', 'a.bdf', "INCLUDE 'more.bdf'\n" + QUAD,
-          ':1: INCLUDE takes in another file: put the contents of that file here and try again')
-    for card, fields in (('CELAS2', '1,10.,1,1,2,1'), ('CBUSH', '1,1,1,2'), ('CGAP', '9,1,1,2'), ('RBE2', '9,1,123,2,3'),
-                         ('MPC', '1,1,1,1.,2,1,-1.'), ('SPOINT', '9')):
-        fails(c, 'nastran: ' + card, 'a.bdf', QUAD + card + ',' + fields + '\n', ':2: card %s: GRD has no kind for it' % card)
-    for card, count, kinds in (('CHEXA', 20, '8'), ('CPENTA', 15, '6'), ('CPYRAM', 13, '5'), ('CTETRA', 5, '4 or 10')):
-        fields = [str(p) for p in [1, 1] + list(range(1, count + 1))]
-        lines = [','.join([card if at == 0 else ''] + fields[at:at + 8]) for at in range(0, len(fields), 8)]
-        fails(c, 'nastran: %s of %d nodes' % (card, count), 'a.bdf', '\n'.join(lines) + '\n',
-              ':1: element 1 (%s): %d nodes, and GRD has a kind for %s only' % (card, count, kinds))
-    fails(c, 'nastran: warping points', 'a.bdf', 'CBEAM,1,1,1,2,0.,0.,1.\n,,\n,3,4\n',
+    stops(c, 'nastran: warping points', 'a.bdf', 'CBEAM,1,1,1,2,0.,0.,1.\n,,\n,3,4\n',
           ':1: element 1 (CBEAM) has warping points, and GRD has no kind for that')
     fails(c, 'nastran: last continuation missing', 'a.bdf', '%-72s+A\n' % 'CPENTA  1       1       1       2       3       4       5       6',
           ':1: card CPENTA ends with +A, and its continuation does not follow')
     fails(c, 'nastran: half of a pair in large field, then small field', 'a.bdf', 'CTRIA3*,1,1,1,2\n+,3\n',
-          ':1: element 1 (CTRIA3): 2 nodes, and GRD has a kind for 3 only')
+          ':1: element 1 (CTRIA3) has no node in field 6')
     fails(c, 'nastran: no card before', 'a.bdf', '+,1,2\n', ':1: a continuation without a card before it')
     fails(c, 'nastran: too many fields', 'a.bdf', 'CHEXA,1,1,1,2,3,4,5,6,7,8\n', ':1: 11 fields in a line, and it has room for 10')
-    fails(c, 'nastran: replication', 'a.bdf', QUAD + '=,*1,=,*1,*1,*1,*1\n', ':2: replicated cards (=) are not read')
+    stops(c, 'nastran: replication', 'a.bdf', QUAD + '=,*1,=,*1,*1,*1,*1\n', ':2: replicated cards (=) are not read')
     fails(c, 'nastran: blank element number', 'a.bdf', 'CROD,,1,1,2\n', ":1: CROD, field 2: '' is no whole number")
     fails(c, 'nastran: no elements', 'a.bdf', 'GRID,1\n', ': no elements found')
