@@ -66,20 +66,27 @@ def read(source, ignore=()):
     """The model of the file and of those that it takes in."""
     model, seen, once = Model(ignore), {}, set()
     for block in blocks(source):
-        name = squeezed(block.name)
-        if name in ('PART', 'INSTANCE'):
-            test_once(block, once)
-        elif name == 'NODE':
-            for line, text in block.data:
-                number, *words = text.split(',')
-                model.add_node(integer(number, line, 'node number'), line, turned(upper(block.parameters.get('SYSTEM', '')), point(words)))
-        elif name == 'ELEMENT':
-            read_elements(block, model, seen)
-        elif name in OUTSIDE:
-            model.leave_out(block.line, block.name, '*%s %s, and GRD has no place for that' % (block.name, OUTSIDE[name]))
-        elif name not in known.ABAQUS:
-            model.leave_out(block.line, block.name, '*%s is not known, and might join nodes' % block.name)
+        with source.each():
+            name = squeezed(block.name)
+            if name in ('PART', 'INSTANCE'):
+                test_once(block, once)
+            elif name == 'NODE':
+                read_nodes(source, block, model)
+            elif name == 'ELEMENT':
+                read_elements(source, block, model, seen)
+            elif name in OUTSIDE:
+                model.leave_out(block.line, block.name, '*%s %s, and GRD has no place for that' % (block.name, OUTSIDE[name]))
+            elif name not in known.ABAQUS:
+                model.leave_out(block.line, block.name, '*%s is not known, and might join nodes' % block.name)
     return model
+
+
+def read_nodes(source, block, model):
+    system = upper(block.parameters.get('SYSTEM', ''))
+    for line, text in block.data:
+        with source.each():
+            number, *words = text.split(',')
+            model.add_node(integer(number, line, 'node number'), line, turned(system, point(words)))
 
 
 def test_once(block, once):
@@ -169,30 +176,35 @@ def type_of(name):
     return TYPE.get(name, TYPE.get(name.rstrip(ascii_uppercase)))
 
 
-def read_elements(block, model, seen):
+def read_elements(source, block, model, seen):
     type_name = upper(block.parameters.get('TYPE', ''))
     if not type_name:
         raise Fault(block.line, '*ELEMENT without TYPE=')
     if type_name in POINTS:
         model.points += len(block.data)
     elif type_of(type_name):
-        add_elements(block, type_name, model, seen)
+        add_elements(source, block, type_name, model, seen)
     else:
         model.leave_out(block.line, type_name, 'element type %s is not known' % type_name)
 
 
-def add_elements(block, type_name, model, seen):
+def add_elements(source, block, type_name, model, seen):
+    for line, numbers in records(block.data, type_of(type_name).most + 1):
+        with source.each():
+            add_element(line, numbers, type_name, model, seen)
+
+
+def add_element(line, numbers, type_name, model, seen):
     kind, least, most, shape = type_of(type_name)
-    for line, numbers in records(block.data, most + 1):
-        name, count = 'element %d (%s)' % (numbers[0], type_name), len(numbers) - 1
-        if not least <= count <= most:
-            wanted = '%d' % least if least == most else '%d to %d' % (least, most)
-            hint = '; a line that goes on ends with a comma' if count < least else ''
-            raise Fault(line, '%s: %d nodes, and it needs %s%s' % (name, count, wanted, hint))
-        if numbers[0] in seen:
-            raise Fault(line, '%s is given twice, first on %s' % (name, line_name(seen[numbers[0]], line)))
-        seen[numbers[0]] = line
-        model.add_element(kind, corners_first(shape, numbers[1:]), line, name, shape)
+    name, count = 'element %d (%s)' % (numbers[0], type_name), len(numbers) - 1
+    if not least <= count <= most:
+        wanted = '%d' % least if least == most else '%d to %d' % (least, most)
+        hint = '; a line that goes on ends with a comma' if count < least else ''
+        raise Fault(line, '%s: %d nodes, and it needs %s%s' % (name, count, wanted, hint))
+    if numbers[0] in seen:
+        raise Fault(line, '%s is given twice, first on %s' % (name, line_name(seen[numbers[0]], line)))
+    seen[numbers[0]] = line
+    model.add_element(kind, corners_first(shape, numbers[1:]), line, name, shape)
 
 
 def corners_first(shape, nodes):

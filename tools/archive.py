@@ -12,6 +12,7 @@ import glob
 import hashlib
 import os
 import re
+import shlex
 import subprocess
 import sys
 import tempfile
@@ -103,12 +104,12 @@ def listed(text):
 
 # Making.
 
-def about(name, found, text, stores):
+def about(name, reading, found, text, stores):
     """The page of the archive: facts, a line each, then how the store is opened."""
     rows = grd.neighbours(found.mesh)
     answer = listed(text)
     total, new = fill.counts(figures.renumbered(rows, answer.numbers))
-    facts = [('made', datetime.datetime.now(datetime.timezone.utc).strftime('%Y-%m-%d')), ('mesh', name)] + program_facts()
+    facts = [('made', datetime.datetime.now(datetime.timezone.utc).strftime('%Y-%m-%d')), ('mesh', name), ('read', reading)] + program_facts()
     facts += [('figures', text.decode('ascii').split('\n')[0]),
               ('before', 'bandwidth %d profile %d front %d' % figures.figures(rows)),
               ('elimination', 'marks %d new %d' % (total, new))]
@@ -116,23 +117,46 @@ def about(name, found, text, stores):
     return '\n'.join([FIRST, ''] + ['%s: %s' % fact for fact in facts]) + '\n' + OPENING
 
 
+def reading_words(options):
+    """The options of a reading, as one line."""
+    words = ['--from', options.format] if options.format else []
+    for name in options.ignore:
+        words += ['--ignore', name]
+    return shlex.join(words + ['--drop-inner'] * options.drop_inner)
+
+
+def reading_options(text):
+    parser = argparse.ArgumentParser(prog='archive.py')
+    source.add_reading_options(parser)
+    return parser.parse_args(shlex.split(text))
+
+
+def mesh_files(paths):
+    """The mesh file and those that it takes in, by names from its folder."""
+    for path in dict.fromkeys(paths):
+        name = os.path.relpath(path, os.path.dirname(paths[0]) or '.')
+        if name.startswith(os.pardir):
+            raise Stop(0, 'is taken in from another folder: archive one mesh file that holds all', path)
+        yield name, read_bytes(path)
+
+
 def kept(arguments):
     """Pairs of a name and bytes: everything but the sums."""
-    found = source.read(arguments.mesh, arguments.format)
+    found = source.read(arguments.mesh, arguments)
     data = grd.write(found.mesh)
     text = by_program(data)
     listed(text)
-    paths = [arguments.mesh] + arguments.stores
-    files = [(os.path.basename(path), read_bytes(path)) for path in paths]
-    stores = [(name, len(content)) for name, content in files[1:]]
-    files += [(MESH, data), (NODES, map_bytes(found.numbers)), (LISTING, text), (ABOUT, about(files[0][0], found, text, stores).encode('utf-8'))]
+    files = list(mesh_files(found.paths))
+    stores = [(os.path.basename(path), read_bytes(path)) for path in arguments.stores]
+    page = about(files[0][0], reading_words(arguments), found, text, [(name, len(content)) for name, content in stores])
+    files += stores + [(MESH, data), (NODES, map_bytes(found.numbers)), (LISTING, text), (ABOUT, page.encode('utf-8'))]
     # a GRD file named so is the same file as the copy
     if files[0] == (MESH, data):
         files.pop(0)
     names = [name for name, _ in files]
     twice = sorted({name for name in names if names.count(name) > 1 or name == SUMS})
     if twice:
-        raise Stop(0, 'two files of the archive would be named so: give it another name', twice[0])
+        raise Stop(0, 'two files of the archive would be named so: give one another name', twice[0])
     return files
 
 
@@ -143,8 +167,8 @@ def make(arguments):
     files = kept(arguments)
     files.append((SUMS, ''.join('%s  %s\n' % (sha256(data), name) for name, data in files).encode('utf-8')))
     try:
-        os.makedirs(folder, exist_ok=True)
         for name, data in files:
+            os.makedirs(os.path.dirname(os.path.join(folder, name)), exist_ok=True)
             with open(os.path.join(folder, name), 'xb') as file:
                 file.write(data)
     except OSError as error:
@@ -171,8 +195,8 @@ def facts_of(text):
 def sums_of(text):
     sums = {}
     for number, line in enumerate(text.decode('utf-8', 'replace').splitlines(), 1):
-        match = re.fullmatch('([0-9a-f]{64})  ([^/]+)', line)
-        if not match:
+        match = re.fullmatch('([0-9a-f]{64})  ([^/].*)', line)
+        if not match or os.pardir in match.group(2).split('/'):
             raise Fault(number, 'a line has a sum of 64 digits, two blanks and a name', SUMS)
         sums[match.group(2)] = match.group(1)
     return sums
@@ -200,7 +224,8 @@ def unchanged(folder):
     for name in (MESH, NODES, LISTING, ABOUT):
         if name not in sums:
             yield '%s has no sum' % name, False
-    for name in sorted(set(os.listdir(folder)) - set(sums) - {SUMS}):
+    there = {os.path.relpath(os.path.join(at, name), folder) for at, _, names in os.walk(folder) for name in names}
+    for name in sorted(there - set(sums) - {SUMS}):
         yield '%s stands in the folder and is not of the archive' % name, False
 
 
@@ -210,7 +235,7 @@ def numbered_again(folder, facts, number):
     yield 'the figures are those of the listing', facts.get('figures', '').encode('utf-8') == text.split(b'\n')[0]
     name = os.path.basename(facts.get('mesh', MESH))
     try:
-        found = source.read(os.path.join(folder, name))
+        found = source.read(os.path.join(folder, name), reading_options(facts.get('read', '')))
         same = (grd.write(found.mesh), map_bytes(found.numbers)) == (data, read_bytes(os.path.join(folder, NODES)))
         yield '%s %s the mesh of %s' % (name, 'is still' if same else 'no longer gives', MESH), same
     except Fault as fault:
@@ -240,7 +265,7 @@ def main(words):
     parser = argparse.ArgumentParser(prog='archive.py', description='keep a renumbering so that its store opens years later, and check it')
     commands = parser.add_subparsers(dest='command', metavar='make|check', required=True)
     making = commands.add_parser('make', help='number a mesh and keep everything in a new folder')
-    making.add_argument('--from', dest='format', choices=sorted(source.READERS), help="the mesh's format; otherwise its ending tells")
+    source.add_reading_options(making)
     making.add_argument('mesh', metavar='MESH')
     making.add_argument('stores', metavar='STORE', nargs='*', help='files of coefficients to keep with it')
     making.add_argument('-o', dest='output', metavar='FOLDER', required=True, help='the new folder')

@@ -99,11 +99,13 @@ class Paper:
                 int(math.floor(UNIT * (self.top + self.scale * point[1]) + 0.5)))
 
 
-def scene(mesh, places):
-    """Places by node number of the mesh."""
-    elements = [(faces.shape_of(grd.KINDS[kind][0]), nodes) for kind, nodes in mesh.elements]
+def scene(model, numbers):
+    """The model's elements on paper; nodes go by their places among the numbers, which are GRD's."""
+    places = places_of(model, numbers)
+    place = {number: p for p, number in enumerate(numbers, 1)}
+    elements = [(faces.shape_of(grd.KINDS[element.shape][0]), [place[node] for node in element.nodes]) for element in model.elements]
     seen, view = faces.visible(elements, places)
-    used = {p for _, nodes in mesh.elements for p in nodes}
+    used = {p for _, nodes in elements for p in nodes}
     paper = Paper([view.on_paper(place) for place in places.values()])
     loose = [(p, paper.at(view.on_paper(places[p]))) for p in sorted(places) if p not in used]
     return Scene([face._replace(points=[paper.at(point) for point in face.points]) for face in seen], loose, view, paper)

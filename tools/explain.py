@@ -26,11 +26,11 @@ def gained(mesh, after):
     return ['%s %d before, %d after' % (name, old, getattr(after, name)) for name, old in zip(NAMES, before)]
 
 
-def refused(found):
-    """The refusal that the program gives, then the other faults."""
-    lines = [str(found[0])] + ['also: %s (%d)' % (refusal.where, refusal.number) for refusal in found[1:MOST_FAULTS + 1]]
-    if len(found) > MOST_FAULTS + 1:
-        lines.append('and faults more: %d' % (len(found) - MOST_FAULTS - 1))
+def listed(first, others):
+    """The fault that counts, then the others."""
+    lines = [first] + ['also: ' + words for words in others[:MOST_FAULTS]]
+    if len(others) > MOST_FAULTS:
+        lines.append('and %d faults more' % (len(others) - MOST_FAULTS))
     return lines
 
 
@@ -46,7 +46,7 @@ def explained(data, lines):
         return accepted(mesh, range(1, mesh.n + 1), lines)
     if lines != ['refused %d' % found[0].number]:
         raise Fault(0, 'this help would refuse the mesh by %d; the answer of the program stands' % found[0].number)
-    return refused(found)
+    return listed(str(found[0]), ['%s (%d)' % (refusal.where, refusal.number) for refusal in found[1:]])
 
 
 def told(lines):

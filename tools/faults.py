@@ -1,8 +1,13 @@
-"""All faults of a GRD file, in the order in which the program meets them: the first is the one that it refuses the file by."""
+"""All faults of a mesh file: of a GRD file, where the first is the one that the program refuses it by, and of the other formats."""
 
 import grd
+from files import Source
 from grd import Refusal
+from model import Fault, mesh_of, test_element, test_gaps, test_nodes
+from to_grd import model_of
 
+
+# GRD, in the order in which the program meets them.
 
 def of_grd(data):
     """A list of refusals; an empty one for a legal file."""
@@ -58,4 +63,36 @@ def entry_faults(mesh):
         grd.test_entries(mesh)
     except Refusal as refusal:
         return [refusal]
+    return []
+
+
+# The other formats: what the reader meets, in the order of the lines, then what the nodes and elements have.
+
+def of_source(path, options):
+    """A list of faults; the first is the one that a conversion ends by."""
+    found = []
+    try:
+        model = model_of(Source(path, found), options.format, options.ignore)
+    except Fault as fault:
+        # what follows can't be told
+        return found + [fault]
+    return found + of_model(model, options, not found)
+
+
+def of_model(model, options, whole):
+    """Where something was not read, a missing node may be just that, and is not told."""
+    found = attempted(test_nodes, model)
+    for element in model.elements:
+        if whole or all(node in model.nodes for node in element.nodes):
+            found += attempted(test_element, model, element)
+    if not options.compact:
+        found += attempted(test_gaps, model, sorted(model.nodes))
+    return found or attempted(mesh_of, model, options.compact, options.drop_inner) if whole else found
+
+
+def attempted(test, *words):
+    try:
+        test(*words)
+    except Fault as fault:
+        return [fault]
     return []

@@ -1,5 +1,6 @@
 """Reading and writing the files of a command, all or nothing, and never over a file that is not its own."""
 
+import contextlib
 import os
 import re
 import sys
@@ -51,11 +52,23 @@ def read_lines(path):
 
 
 class Source:
-    """An input file and the files that it takes in; paths are all those that were read."""
+    """An input file and the files that it takes in; paths are all those that were read. Where a list of faults is given, they are kept there
+    and reading goes on; otherwise the first one ends it."""
 
-    def __init__(self, path):
+    def __init__(self, path, faults=None):
         self.path = path
         self.paths = []
+        self.faults = faults
+
+    @contextlib.contextmanager
+    def each(self):
+        """Around the reading of one node, element, keyword or card."""
+        try:
+            yield
+        except Fault as fault:
+            if self.faults is None:
+                raise
+            self.faults.append(fault)
 
     def lines(self):
         """Pairs of a Line and its text."""

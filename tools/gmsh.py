@@ -32,9 +32,10 @@ POINT = 15
 class Lines:
     """The lines of the file, taken one by one."""
 
-    def __init__(self, lines):
-        self.lines = lines
+    def __init__(self, source):
+        self.lines = [text for _, text in source.lines()]
         self.number = 0
+        self.each = source.each
 
     def ended(self):
         return self.number == len(self.lines)
@@ -69,7 +70,7 @@ class Lines:
 
 def read(source, ignore=()):
     """The model of the file."""
-    lines, model = Lines([text for _, text in source.lines()]), Model(ignore)
+    lines, model = Lines(source), Model(ignore)
     readers = {}
     while not lines.ended():
         line = lines.take()
@@ -83,7 +84,8 @@ def read(source, ignore=()):
                 readers[section](lines, model)
                 lines.end(section)
             else:
-                test_section(lines, model, section)
+                with lines.each():
+                    test_section(lines, model, section)
                 lines.skip(section)
         elif line:
             raise Fault(lines.number, 'a section was expected, such as $Nodes')
@@ -130,16 +132,18 @@ def add_element(lines, model, kind, number, nodes):
 def nodes_22(lines, model):
     for _ in range(lines.integers('count of nodes', 1, 1)[0]):
         words = lines.words('node number and three coordinates', 4, 4)
-        model.add_node(integer(words[0], lines.number, 'node number'), lines.number, point(words[1:]))
+        with lines.each():
+            model.add_node(integer(words[0], lines.number, 'node number'), lines.number, point(words[1:]))
 
 
 def elements_22(lines, model):
     for _ in range(lines.integers('count of elements', 1, 1)[0]):
         # number, type, count of tags, tags, nodes
         words = lines.integers('element number, type, tags and nodes', 4)
-        if words[2] < 0:
-            raise Fault(lines.number, 'element %d: %d tags' % (words[0], words[2]))
-        add_element(lines, model, words[1], words[0], words[3 + words[2]:])
+        with lines.each():
+            if words[2] < 0:
+                raise Fault(lines.number, 'element %d: %d tags' % (words[0], words[2]))
+            add_element(lines, model, words[1], words[0], words[3 + words[2]:])
 
 
 # Version 4.1: blocks, one for each entity of the drawing.
@@ -162,7 +166,8 @@ def nodes_41(lines, model):
         numbers = []
         for _ in range(count):
             numbers.append(lines.integers('node number', 1, 1)[0])
-            model.add_node(numbers[-1], lines.number)
+            with lines.each():
+                model.add_node(numbers[-1], lines.number)
         for number in numbers:
             model.places[number] = point(lines.words('three coordinates', 3))
 
@@ -171,7 +176,8 @@ def elements_41(lines, model):
     for _, _, kind, count in blocks_41(lines, 'elements'):
         for _ in range(count):
             words = lines.integers('element number and nodes', 2)
-            add_element(lines, model, kind, words[0], words[1:])
+            with lines.each():
+                add_element(lines, model, kind, words[0], words[1:])
 
 
 READERS = {'2.2': {'Nodes': nodes_22, 'Elements': elements_22},

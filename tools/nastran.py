@@ -51,19 +51,24 @@ def read(source, ignore=()):
     """The model of the file and of those that it takes in. Without a GRID card the nodes are those that the elements name."""
     model, seen = Model(ignore), {}
     for card in cards(bulk(source)):
-        if card.name == 'GRID':
-            model.add_node(node(card, 1), card.line, place(card))
-        elif card.name in CARDS:
-            add_element(card, model, seen)
-        elif card.name in POINTS:
-            model.points += 1
-        elif card.name in JOINS:
-            model.leave_out(card.line, card.name, 'card %s: GRD has no kind for it' % card.name)
-        elif card.name not in known.NASTRAN:
-            model.leave_out(card.line, card.name, 'card %s is not known, and might join nodes' % card.name)
+        with source.each():
+            read_card(card, model, seen)
     if not model.nodes:
         model.nodes_from_elements()
     return model
+
+
+def read_card(card, model, seen):
+    if card.name == 'GRID':
+        model.add_node(node(card, 1), card.line, place(card))
+    elif card.name in CARDS:
+        add_element(card, model, seen)
+    elif card.name in POINTS:
+        model.points += 1
+    elif card.name in JOINS:
+        model.leave_out(card.line, card.name, 'card %s: GRD has no kind for it' % card.name)
+    elif card.name not in known.NASTRAN:
+        model.leave_out(card.line, card.name, 'card %s is not known, and might join nodes' % card.name)
 
 
 def bulk(source):

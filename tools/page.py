@@ -117,18 +117,18 @@ def page(name, path, found, listed):
 
 
 def write_page(arguments):
-    found = source.read(arguments.mesh, arguments.format)
+    found = source.read(arguments.mesh, arguments)
     listed = picture.read_listing(arguments.listing)
     picture.test_match(found.mesh, listed)
     name = os.path.splitext(os.path.basename(arguments.mesh))[0]
     data = page(name, arguments.mesh, found, listed).encode('utf-8', 'replace')
-    write_own([Output(arguments.output, data, PAGE)], [arguments.mesh, arguments.listing], arguments.force)
+    write_own([Output(arguments.output, data, PAGE)], found.paths + [arguments.listing], arguments.force)
     print('%s: %d bytes' % (arguments.output, len(data)))
 
 
 def main(words):
     parser = argparse.ArgumentParser(prog='page.py', description='one page on a renumbering: figures, mesh and matrix')
-    parser.add_argument('--from', dest='format', choices=sorted(source.READERS), help="the mesh's format; otherwise its ending tells")
+    source.add_reading_options(parser)
     parser.add_argument('mesh', metavar='MESH')
     parser.add_argument('listing', metavar='LISTING')
     add_output_options(parser, 'OUT.html')

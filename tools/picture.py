@@ -46,7 +46,7 @@ def svg(name, mesh, listed, filled=False, head=HEAD):
 
 def mesh_svg(name, found, listed, head=HEAD):
     """The mesh in four colourings."""
-    drawn = drawing.scene(found.mesh, drawing.places_of(found.model, found.numbers))
+    drawn = drawing.scene(found.model, found.numbers)
     height = head + drawing.height(drawn)
     lines = [ground(height)] + heading(name, counts(found.mesh, listed)) * bool(head) + drawing.lines(head, found.mesh, listed, found.numbers, drawn)
     return framed(name + ' by number, level and part', height, lines)
@@ -55,7 +55,7 @@ def mesh_svg(name, found, listed, head=HEAD):
 def both_svg(name, found, listed):
     """The mesh, and the matrix with what elimination joins below it."""
     mesh = found.mesh
-    drawn = drawing.scene(mesh, drawing.places_of(found.model, found.numbers))
+    drawn = drawing.scene(found.model, found.numbers)
     top = HEAD + drawing.height(drawn)
     height = top + matrix.height(True)
     lines = [matrix.clip(mesh.n), ground(height)] + heading(name, counts(mesh, listed))
@@ -106,12 +106,12 @@ def drawn_text(arguments, name, found, listed):
 
 
 def draw(arguments):
-    found = source.read(arguments.mesh, arguments.format)
+    found = source.read(arguments.mesh, arguments)
     listed = read_listing(arguments.listing)
     test_match(found.mesh, listed)
     name = os.path.splitext(os.path.basename(arguments.mesh))[0]
     data = drawn_text(arguments, name, found, listed).encode('utf-8', 'replace')
-    write_own([Output(arguments.output, data, SVG)], [arguments.mesh, arguments.listing], arguments.force)
+    write_own([Output(arguments.output, data, SVG)], found.paths + [arguments.listing], arguments.force)
     print('%s: %d bytes' % (arguments.output, len(data)))
 
 
@@ -121,7 +121,7 @@ def main(words):
     show.add_argument('--fill', action='store_true', help='show in the matrix what elimination joins')
     show.add_argument('--mesh', dest='show', action='store_const', const='mesh', default='matrix', help='the mesh by number, level and part')
     show.add_argument('--both', dest='show', action='store_const', const='both', help='the mesh, and the matrix with what elimination joins')
-    parser.add_argument('--from', dest='format', choices=sorted(source.READERS), help="the mesh's format; otherwise its ending tells")
+    source.add_reading_options(parser)
     parser.add_argument('mesh', metavar='MESH')
     parser.add_argument('listing', metavar='LISTING')
     add_output_options(parser, 'OUT.svg')

@@ -3,26 +3,35 @@
 from collections import namedtuple
 
 import grd
-from files import read_bytes, read_lines
+from files import Source, read_bytes
 from model import Fault, mesh_of
-from to_grd import READERS, format_of
+from to_grd import READERS, model_of
 
-# numbers: the file's own, in the order of the mesh's 1 to n; model: None for a GRD file, which has neither names nor coordinates
-Source = namedtuple('Source', 'mesh numbers model')
+# numbers: the file's own, in the order of the mesh's 1 to n; model: None for a GRD file, which has neither names nor coordinates;
+# paths: every file that was read
+Found = namedtuple('Found', 'mesh numbers model paths')
 
 
-def read(path, form=None):
+def add_reading_options(parser):
+    """The options of every command that reads a mesh."""
+    parser.add_argument('--from', dest='format', choices=sorted(READERS), help="the mesh's format; otherwise its ending tells")
+    parser.add_argument('--ignore', action='append', default=[], metavar='NAME', help='leave out this keyword, card, section or element type')
+    parser.add_argument('--drop-inner', action='store_true', help='leave out elements whose nodes all lie in another one')
+
+
+def read(path, options):
     """The mesh of a file; gaps in its numbers are closed."""
-    data = read_bytes(path)
-    if form is None and data[:3] == grd.MARK:
-        return of_grd(data)
-    model = READERS[form or format_of(path)](read_lines(path))
-    return Source(*mesh_of(model, True), model)
+    if options.format is None and read_bytes(path)[:3] == grd.MARK:
+        return of_grd(path)
+    source = Source(path)
+    model = model_of(source, options.format, options.ignore)
+    mesh, numbers = mesh_of(model, True, options.drop_inner)
+    return Found(mesh, numbers, model, source.paths)
 
 
-def of_grd(data):
+def of_grd(path):
     try:
-        mesh = grd.read(data)
+        mesh = grd.read(read_bytes(path))
     except grd.Refusal as refusal:
         raise Fault(0, str(refusal)) from None
-    return Source(mesh, list(range(1, mesh.n + 1)), None)
+    return Found(mesh, list(range(1, mesh.n + 1)), None, [path])

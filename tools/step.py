@@ -13,8 +13,8 @@ import os
 import sys
 
 import explain
+import faults
 import grd
-import model
 import page
 import parts
 import picture
@@ -23,29 +23,46 @@ import source
 import to_grd
 import to_seqgp
 from files import CARDS, NODES, Output, read_bytes, write_own
-from model import Fault, Stop
-
-
-def read(arguments):
-    return source.read(arguments.mesh, arguments.format)
+from model import Fault, Stop, test_gaps
 
 
 # Converting.
 
 def convert(arguments):
-    found = read(arguments)
+    """The mesh in GRD. What was left out, and into what parts it falls, is told on standard error."""
+    if arguments.explain:
+        test_all(arguments)
+    found = source.read(arguments.mesh, arguments)
     if not arguments.compact:
-        model.test_gaps(found.model, found.numbers)
+        test_gaps(found.model, found.numbers)
     with open(arguments.output, 'wb') as file:
         file.write(grd.write(found.mesh))
-    for line in left_out(found.model) + parts.warnings(found.mesh, found.numbers) * (not arguments.explain):
-        print(line, file=sys.stderr)
+    tell(arguments, to_grd.changed(arguments.ignore, found.model))
+    if found.numbers != list(range(1, found.mesh.n + 1)) and not arguments.nodes:
+        tell(arguments, ['old number 1 of the listing is node %d, and so on by rising number; --nodes FILE writes them all' % found.numbers[0]])
+    if not arguments.explain:
+        tell(arguments, parts.warnings(found.mesh, found.numbers))
 
 
-def left_out(model):
-    if model.points:
-        return ['one-node elements left out, as they join nothing: %d' % model.points]
-    return []
+def test_all(arguments):
+    """Every fault in one list; the first is the one that the conversion would end by."""
+    found = faults.of_source(arguments.mesh, arguments)
+    if found:
+        words = [said(arguments, fault) for fault in found]
+        print('\n  '.join(explain.listed(words[0], words[1:])), file=sys.stderr)
+        raise SystemExit(2)
+
+
+def said(arguments, fault):
+    """The message, with the name that the user knows the mesh by."""
+    if fault.path == arguments.mesh:
+        fault.path = None
+    return fault.message(arguments.name)
+
+
+def tell(arguments, lines):
+    for line in lines:
+        print(line if line.startswith(' ') else '%s: %s' % (arguments.name, line), file=sys.stderr)
 
 
 # Files beside the listing.
@@ -70,7 +87,7 @@ def card_bytes(numbers, listed):
 
 def write(arguments):
     listed = result.read(sys.stdin.read().splitlines())
-    found = read(arguments)
+    found = source.read(arguments.mesh, arguments)
     picture.test_match(found.mesh, listed)
     outputs = []
     if arguments.picture:
@@ -79,7 +96,7 @@ def write(arguments):
         outputs.append(Output(arguments.seqgp, card_bytes(found.numbers, listed), CARDS))
     if arguments.nodes:
         outputs.append(Output(arguments.nodes, to_grd.map_bytes(found.numbers), NODES))
-    write_own(outputs, [arguments.mesh], arguments.force)
+    write_own(outputs, found.paths, arguments.force)
     for output in outputs:
         print('%s: %d bytes' % (output.path, len(output.data)), file=sys.stderr)
 
@@ -91,7 +108,7 @@ def in_words(arguments):
     if arguments.format is None:
         told = explain.explained(read_bytes(arguments.mesh), lines)
     else:
-        found = read(arguments)
+        found = source.read(arguments.mesh, arguments)
         told = explain.accepted(found.mesh, found.numbers, lines)
     print(explain.told(told))
 
@@ -99,7 +116,7 @@ def in_words(arguments):
 def main(words):
     parser = argparse.ArgumentParser(prog='step.py', description='what the script renumber asks of the tools')
     parser.add_argument('task', choices=('convert', 'write', 'explain'))
-    parser.add_argument('--from', dest='format', choices=sorted(source.READERS))
+    source.add_reading_options(parser)
     parser.add_argument('--name', default='the mesh')
     parser.add_argument('--compact', action='store_true')
     parser.add_argument('--explain', action='store_true')
@@ -113,9 +130,10 @@ def main(words):
         {'convert': convert, 'write': write, 'explain': in_words}[arguments.task](arguments)
         return 0
     except Fault as fault:
-        if fault.path == arguments.mesh:
-            fault.path = None
-        print(fault.message(arguments.name), file=sys.stderr)
+        print(said(arguments, fault), file=sys.stderr)
+        more = len(faults.of_source(arguments.mesh, arguments)) - 1 if arguments.task == 'convert' else 0
+        if more > 0:
+            print('%s: %s; --explain lists all' % (arguments.name, 'another fault' if more == 1 else '%d faults more' % more), file=sys.stderr)
         return 2
 
 

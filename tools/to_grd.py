@@ -59,6 +59,14 @@ def report(arguments, model, mesh):
     yield '%s: %s' % (arguments.output, grd.summary(mesh))
     if arguments.compact:
         yield '%s: the numbers before and after closing gaps' % map_path(arguments.output)
+    yield from changed(arguments.ignore, model)
+    alone = sum(1 for row in grd.neighbours(mesh)[1:] if not row)
+    if alone:
+        yield 'nodes in no element, each a part of its own: %d' % alone
+
+
+def changed(ignore, model):
+    """What the mesh has otherwise than the file, or hasn't."""
     covered = [element for element in model.elements if not element.kind]
     if covered:
         counts = {len(element.nodes): 0 for element in covered}
@@ -70,11 +78,8 @@ def report(arguments, model, mesh):
         yield 'one-node elements left out, as they join nothing: %d' % model.points
     if model.dropped:
         yield 'elements left out, as their nodes all lie in another: %d' % model.dropped
-    for name in arguments.ignore:
+    for name in ignore:
         yield 'left out by --ignore %s: %d' % (name, model.ignored[squeezed(name)])
-    alone = sum(1 for row in grd.neighbours(mesh)[1:] if not row)
-    if alone:
-        yield 'nodes in no element, each a part of its own: %d' % alone
 
 
 def main(words):
