@@ -20,15 +20,19 @@ CARDS = {name: Nodes(fields, least, shape) for names, fields, least, shape in (
     ('CTRIAX6', (3, 5, 7, 4, 6, 8), 3, 2),
     ('CQUAD4 CQUADR CSHEAR CPLSTN4 CPLSTS4 CQUADX4', range(3, 7), 4, 3),
     ('CQUAD8 CPLSTN8 CPLSTS8 CQUADX8', range(3, 11), 4, 3),
-    ('CQUAD CQUADX', range(3, 12), 4, 3),
+    ('CQUAD CQUADX CQUAD9', range(3, 12), 4, 3),
+    # Gmsh writes solids with nodes in the middle of faces too: 14, 18 and 27 in all
     ('CTETRA', range(3, 13), 4, 4),
-    ('CPYRAM CPYRA', range(3, 16), 5, 5),
-    ('CPENTA', range(3, 18), 6, 6),
-    ('CHEXA', range(3, 23), 8, 7),
+    ('CPYRAM CPYRA', range(3, 17), 5, 5),
+    ('CPENTA', range(3, 21), 6, 6),
+    ('CHEXA', range(3, 30), 8, 7),
     # springs, dampers and masses: with one node they stand on the ground
     ('CBUSH CBUSH1D CBUSH2D', (3, 4), 1, 1),
     ('CELAS1 CELAS2 CDAMP1 CDAMP2 CMASS1 CMASS2', (3, 5), 0, 1),
 ) for name in names.split()}
+
+# Solids have nothing behind their nodes.
+SOLIDS = (4, 5, 6, 7)
 
 # The GRD kind of a shape with so many nodes; other counts have none.
 KIND = {(1, 2): 1, (2, 3): 2, (3, 4): 3, (4, 4): 4, (5, 5): 5, (6, 6): 6, (7, 8): 7, (2, 6): 8, (3, 8): 9, (4, 10): 10}
@@ -196,11 +200,13 @@ def place(card):
 
 def nodes_of(card, name):
     """The nodes that are given, those that the card must have among them; 0 stands for none."""
-    places, least, _ = CARDS[card.name]
+    places, least, shape = CARDS[card.name]
     given = [at for at in places if field(card, at) not in ('', '0')]
     for at in places[:least]:
         if at not in given:
             raise Fault(card.line, '%s has no node in field %d' % (name, at + 1))
+    if shape in SOLIDS and any(card.fields[places[-1]:]):
+        raise Fault(card.line, '%s has more than %d nodes' % (name, len(places)))
     return [node(card, at) for at in given]
 
 

@@ -47,11 +47,14 @@ def free(card, *fields):
 
 def other_counts(c):
     """Counts of nodes that GRD has no kind for: all nodes adjoin."""
-    for card, count in (('CHEXA', 20), ('CHEXA', 13), ('CPENTA', 15), ('CPYRAM', 13), ('CTETRA', 5), ('CTETRA', 9), ('CTRIA6', 4), ('CQUAD', 9),
-                        ('CQUADX', 9), ('CBEAM3', 3)):
+    for card, count in (('CHEXA', 20), ('CHEXA', 13), ('CHEXA', 27), ('CPENTA', 15), ('CPENTA', 18), ('CPYRAM', 13), ('CPYRAM', 14), ('CTETRA', 5),
+                        ('CTETRA', 9), ('CTRIA6', 4), ('CQUAD', 9), ('CQUAD9', 9), ('CQUADX', 9), ('CBEAM3', 3)):
         adjoins(c, 'nastran: %s of %d nodes' % (card, count), 'a.bdf', free(card, 1, 1, *range(1, count + 1)), count, range(1, count + 1))
     adjoins(c, 'nastran: a node in the middle missing', 'a.bdf', free('CTETRA', 1, 1, 1, 2, 3, 4, 5, '', 6, 0, 7), 7, range(1, 8))
     fails(c, 'nastran: a corner missing', 'a.bdf', free('CTETRA', 1, 1, 1, 2, '', 4, 5), ':1: element 1 (CTETRA) has no node in field 6')
+    for card, most in (('CHEXA', 27), ('CPENTA', 18), ('CPYRAM', 14), ('CTETRA', 10)):
+        fails(c, 'nastran: %s with a node too many' % card, 'a.bdf', free(card, 1, 1, *range(1, most + 2)),
+              ':1: element 1 (%s) has more than %d nodes' % (card, most))
     converts(c, 'nastran: CTRIAX6', 'a.bdf', free('CTRIAX6', 1, 1, 1, 2, 3, 4, 5, 6), grd_file(6, (8, 1, 3, 5, 2, 4, 6)))
 
 
