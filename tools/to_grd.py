@@ -16,7 +16,7 @@ import abaqus
 import gmsh
 import grd
 import nastran
-from files import GRD, NODES, Output, Source, add_output_options, command, write_own
+from files import GRD, NODES, Output, Source, add_output_options, command, read_text, write_own
 from model import Fault, mesh_of, squeezed
 
 READERS = {'gmsh': gmsh.read, 'abaqus': abaqus.read, 'nastran': nastran.read}
@@ -27,6 +27,9 @@ def format_of(path):
     ending = os.path.splitext(path)[1].lower()
     if ending not in ENDINGS:
         raise Fault(0, 'the ending %r tells no format: say --from gmsh, abaqus or nastran' % ending)
+    # CalculiX's cgx names its meshes .msh too
+    if ending == '.msh' and read_text(path).lstrip()[:1] == '*':
+        return 'abaqus'
     return ENDINGS[ending]
 
 

@@ -5,8 +5,9 @@ import sys
 
 import harness
 import abaqus_cases
-import cover_cases
 import command_cases
+import cover_cases
+import export_cases
 import gmsh_cases
 import grd_cases
 import nastran_cases
@@ -17,7 +18,8 @@ import seqgp_cases
 
 def main():
     counted = harness.Cases()
-    for module in (grd_cases, cover_cases, gmsh_cases, abaqus_cases, nastran_cases, command_cases, output_cases, seqgp_cases, picture_cases):
+    for module in (grd_cases, cover_cases, gmsh_cases, abaqus_cases, nastran_cases, export_cases, command_cases, output_cases,
+                   seqgp_cases, picture_cases):
         try:
             module.cases(counted)
         # argparse leaves by SystemExit
