@@ -64,14 +64,16 @@ Block = namedtuple('Block', 'line name parameters data')
 
 def read(source, ignore=()):
     """The model of the file and of those that it takes in."""
-    model, seen, once = Model(ignore), {}, set()
+    model, seen, once, moved = Model(ignore), {}, set(), False
     for block in blocks(source):
         with source.each():
             name = squeezed(block.name)
+            # a system of its own for the nodes that follow
+            moved = bool(block.data) if name == 'SYSTEM' else moved
             if name in ('PART', 'INSTANCE'):
                 test_once(block, once)
             elif name == 'NODE':
-                read_nodes(source, block, model)
+                read_nodes(source, block, model, moved)
             elif name == 'ELEMENT':
                 read_elements(source, block, model, seen)
             elif name in OUTSIDE:
@@ -81,12 +83,12 @@ def read(source, ignore=()):
     return model
 
 
-def read_nodes(source, block, model):
+def read_nodes(source, block, model, moved):
     system = upper(block.parameters.get('SYSTEM', ''))
     for line, text in block.data:
         with source.each():
             number, *words = text.split(',')
-            model.add_node(integer(number, line, 'node number'), line, turned(system, point(words)))
+            model.add_node(integer(number, line, 'node number'), line, None if moved else turned(system, point(words)))
 
 
 def test_once(block, once):

@@ -11,6 +11,7 @@ import figures
 import grd
 import parts
 import result
+import source
 from files import command, read_bytes
 from model import Fault
 
@@ -34,16 +35,15 @@ def listed(first, others):
     return lines
 
 
-def accepted(mesh, numbers, lines):
-    """What is in the mesh and what was gained; numbers are the source's, in the order of the mesh's 1 to n."""
-    return [grd.summary(mesh)] + gained(mesh, result.read(lines).figures) + parts.warnings(mesh, numbers)
+def accepted(found, lines):
+    """What is in the mesh, what was gained, and what may be wrong with it, in the source's own numbers."""
+    return [source.summary(found)] + gained(found.mesh, result.read(lines).figures) + parts.warnings(found.mesh, found.numbers)
 
 
-def explained(data, lines):
-    found = faults.of_grd(data)
+def explained(path, lines):
+    found = faults.of_grd(read_bytes(path))
     if not found:
-        mesh = grd.read(data)
-        return accepted(mesh, range(1, mesh.n + 1), lines)
+        return accepted(source.of_grd(path), lines)
     if lines != ['refused %d' % found[0].number]:
         raise Fault(0, 'this help would refuse the mesh by %d; the answer of the program stands' % found[0].number)
     return listed(str(found[0]), ['%s (%d)' % (refusal.where, refusal.number) for refusal in found[1:]])
@@ -57,7 +57,7 @@ def main(words):
     if len(words) != 1:
         print(__doc__.strip(), file=sys.stderr)
         return 2
-    return command(lambda: print(told(explained(read_bytes(words[0]), sys.stdin.read().splitlines()))), words[0])
+    return command(lambda: print(told(explained(words[0], sys.stdin.read().splitlines()))), words[0])
 
 
 if __name__ == '__main__':

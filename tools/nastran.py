@@ -53,10 +53,14 @@ Card = namedtuple('Card', 'line name fields')
 
 def read(source, ignore=()):
     """The model of the file and of those that it takes in. Without a GRID card the nodes are those that the elements name."""
-    model, seen = Model(ignore), {}
+    model, seen, moved = Model(ignore), {}, False
     for card in cards(bulk(source)):
         with source.each():
             read_card(card, model, seen)
+        # a system for all grid points that name none
+        moved = moved or card.name == 'GRDSET' and field(card, 2) not in ('', '0')
+    if moved:
+        model.places.clear()
     if not model.nodes:
         model.nodes_from_elements()
     return model

@@ -67,7 +67,7 @@ def part_rows(mesh, listed, numbers):
 
 def head(name, path, found, listed):
     lines = ['<h1>%s</h1>' % html.escape(name),
-             '<p class="faint">%s, %s; from %s</p>' % (grd.summary(found.mesh), grd.counted(listed.figures.parts, 'part'), html.escape(os.path.basename(path)))]
+             '<p class="faint">%s, %s; from %s</p>' % (source.summary(found), grd.counted(listed.figures.parts, 'part'), html.escape(os.path.basename(path)))]
     lines += ['<p class="warning">%s</p>' % html.escape('\n'.join(block)) for block in blocks(parts.warnings(found.mesh, found.numbers))]
     lines += table(('', 'before', 'after', 'after / before'), before_and_after(found.mesh, listed))
     rows = part_rows(found.mesh, listed, found.numbers)

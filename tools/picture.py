@@ -29,18 +29,19 @@ SVG = Kind('a picture of picture.py', re.compile(rb'<svg xmlns="http://www.w3.or
                                                 % (WIDTH, FONT.encode('ascii')), re.DOTALL))
 
 
-def counts(mesh, listed):
-    return ', '.join(grd.counted(*pair) for pair in ((mesh.n, 'node'), (len(mesh.elements), 'element'), (listed.figures.parts, 'part')))
+def counts(n, elements, listed):
+    return ', '.join(grd.counted(*pair) for pair in ((n, 'node'), (elements, 'element'), (listed.figures.parts, 'part')))
 
 
 def ground(height):
     return '<rect width="%d" height="%d" fill="#ffffff"/>' % (WIDTH, height)
 
 
-def svg(name, mesh, listed, filled=False, head=HEAD):
-    """The matrix before and after; without room for a heading there is none."""
+def svg(name, mesh, listed, filled=False, head=HEAD, elements=None):
+    """The matrix before and after; without room for a heading there is none. The source may have another count of elements than the mesh."""
     height = head + matrix.height(filled)
-    lines = [matrix.clip(mesh.n), ground(height)] + heading(name, counts(mesh, listed)) * bool(head) + matrix.lines(head, mesh, listed, filled)
+    words = counts(mesh.n, elements or len(mesh.elements), listed)
+    lines = [matrix.clip(mesh.n), ground(height)] + heading(name, words) * bool(head) + matrix.lines(head, mesh, listed, filled)
     return framed(name + ' before and after the renumbering', height, lines)
 
 
@@ -48,7 +49,8 @@ def mesh_svg(name, found, listed, head=HEAD):
     """The mesh in four colourings."""
     drawn = drawing.scene(found.model, found.numbers)
     height = head + drawing.height(drawn)
-    lines = [ground(height)] + heading(name, counts(found.mesh, listed)) * bool(head) + drawing.lines(head, found.mesh, listed, found.numbers, drawn)
+    words = counts(found.mesh.n, source.elements(found), listed)
+    lines = [ground(height)] + heading(name, words) * bool(head) + drawing.lines(head, found.mesh, listed, found.numbers, drawn)
     return framed(name + ' by number, level and part', height, lines)
 
 
@@ -58,14 +60,14 @@ def both_svg(name, found, listed):
     drawn = drawing.scene(found.model, found.numbers)
     top = HEAD + drawing.height(drawn)
     height = top + matrix.height(True)
-    lines = [matrix.clip(mesh.n), ground(height)] + heading(name, counts(mesh, listed))
+    lines = [matrix.clip(mesh.n), ground(height)] + heading(name, counts(mesh.n, source.elements(found), listed))
     lines += drawing.lines(HEAD, mesh, listed, found.numbers, drawn) + matrix.lines(top, mesh, listed, True)
     return framed(name + ' before and after the renumbering', height, lines)
 
 
 def any_svg(name, found, listed):
     """Mesh and matrix, or the matrix alone where there are no coordinates."""
-    return svg(name, found.mesh, listed, True) if undrawable(found) else both_svg(name, found, listed)
+    return svg(name, found.mesh, listed, True, HEAD, source.elements(found)) if undrawable(found) else both_svg(name, found, listed)
 
 
 def undrawable(found):
@@ -99,7 +101,7 @@ def read_listing(path):
 
 def drawn_text(arguments, name, found, listed):
     if arguments.show == 'matrix':
-        return svg(name, found.mesh, listed, arguments.fill)
+        return svg(name, found.mesh, listed, arguments.fill, HEAD, source.elements(found))
     if found.model is None:
         raise Fault(0, 'a GRD file has no coordinates: give the mesh file that it was made from')
     return (mesh_svg if arguments.show == 'mesh' else both_svg)(name, found, listed)

@@ -12,6 +12,29 @@ from to_grd import READERS, model_of
 Found = namedtuple('Found', 'mesh numbers model paths')
 
 
+def summary(found):
+    """One line: nodes, elements as the file has them, and how many of each kind."""
+    if found.model is None:
+        return grd.summary(found.mesh)
+    counts = {}
+    for element in found.model.elements:
+        kind = (element.shape, len(element.nodes))
+        counts[kind] = counts.get(kind, 0) + 1
+    kinds = ['%s %d' % (kind_name(*kind), count) for kind, count in sorted(counts.items())]
+    return '%s, %s (%s)' % (grd.counted(found.mesh.n, 'node'), grd.counted(elements(found), 'element'), ', '.join(kinds))
+
+
+def kind_name(shape, count):
+    """Such as 'brick' or '20-node brick'."""
+    name, nodes = grd.KINDS[shape]
+    return name if count == nodes else '%d-node %s' % (count, name.split()[-1])
+
+
+def elements(found):
+    """How many elements the file has, that are not points or dropped."""
+    return len(found.model.elements if found.model else found.mesh.elements)
+
+
 def add_reading_options(parser):
     """The options of every command that reads a mesh."""
     parser.add_argument('--from', dest='format', choices=sorted(READERS), help="the mesh's format; otherwise its ending tells")

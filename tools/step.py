@@ -22,7 +22,7 @@ import result
 import source
 import to_grd
 import to_seqgp
-from files import CARDS, NODES, Output, read_bytes, write_own
+from files import CARDS, NODES, Output, write_own
 from model import Fault, Stop, test_gaps
 
 
@@ -106,10 +106,9 @@ def write(arguments):
 def in_words(arguments):
     lines = sys.stdin.read().splitlines()
     if arguments.format is None:
-        told = explain.explained(read_bytes(arguments.mesh), lines)
+        told = explain.explained(arguments.mesh, lines)
     else:
-        found = source.read(arguments.mesh, arguments)
-        told = explain.accepted(found.mesh, found.numbers, lines)
+        told = explain.accepted(source.read(arguments.mesh, arguments), lines)
     print(explain.told(told))
 
 
