@@ -1,11 +1,15 @@
 """A mesh from any of the formats: the GRD mesh, and the numbers and coordinates that its nodes have in the file."""
 
+import re
 from collections import namedtuple
 
 import grd
 from files import Source, read_bytes
 from model import Fault, mesh_of
 from to_grd import READERS, model_of
+
+# NASTRAN's card GRDSET begins as GRD files do
+GRD = re.compile(grd.MARK + rb'(?!SET[\s,*])')
 
 # numbers: the file's own, in the order of the mesh's 1 to n; model: None for a GRD file, which has neither names nor coordinates;
 # paths: every file that was read
@@ -44,7 +48,7 @@ def add_reading_options(parser):
 
 def read(path, options):
     """The mesh of a file; gaps in its numbers are closed."""
-    if options.format is None and read_bytes(path)[:3] == grd.MARK:
+    if options.format is None and GRD.match(read_bytes(path)):
         return of_grd(path)
     source = Source(path)
     model = model_of(source, options.format, options.ignore)

@@ -10,6 +10,7 @@ from seqgp_cases import SAMPLE as LISTING
 
 import calls
 import figures
+import fill
 import grd
 import matrix
 import picture
@@ -34,7 +35,58 @@ def cases(c):
     for name, mesh in (('sample', SAMPLE), ('one node', grd_file(1)), ('quads', quads(9)), ('several rows to a cell', quads(25))):
         drawn(c, name, mesh)
     largest(c)
+    filled(c)
     refused(c)
+    overwritten(c)
+
+
+def reference_marks(mesh, numbers):
+    """Marks and new pairs as tests/reference has them."""
+    rows = grd.neighbours(mesh)
+    starts, neighbours = calls.from_edges(mesh.n, [(p, q) for p in range(1, mesh.n + 1) for q in rows[p]])
+    return calls.elimination(starts, neighbours, numbers, [0] * mesh.n, [0] * mesh.n ** 2)[1]
+
+
+def filled(c):
+    """What elimination joins: the counts against tests/reference, and as many cells drawn."""
+    source = random.Random(8)
+    got, wanted = [], []
+    for _ in range(60):
+        mesh = random_mesh(source, source.randrange(2, 20))
+        numbers = source.sample(range(1, mesh.n + 1), mesh.n)
+        got.append(fill.counts(figures.renumbered(grd.neighbours(mesh), [0] + numbers)))
+        wanted.append(tuple(reference_marks(mesh, numbers)))
+    c.equal('fill: as tests/reference has it', got, wanted)
+    data = quads(9)
+    mesh, listing = grd.read(data), program.text_for(data)
+    text = run(picture.main, ['--fill', 'a.grd', 'a.txt', '-o', 'a.svg'], {'a.grd': data, 'a.txt': listing})[3]['a.svg'].decode('utf-8')
+    sides = re.findall('<path d="([^"]*)" fill="%s"' % matrix.JOINED, text)
+    after = [int(line.split()[1]) for line in listing.decode('ascii').splitlines()[1:]]
+    marks = [reference_marks(mesh, numbers) for numbers in (list(range(1, mesh.n + 1)), after)]
+    c.equal('fill: cells joined, both sides', [cells(path) for path in sides], [total for total, _ in marks])
+    c.equal('fill: what is written', ['joins %s more' % grd.counted(new, 'pair') in text for _, new in marks], [True, True])
+    step = 3
+    rows = grd.neighbours(mesh)
+    pairs = {(q, p) for p in range(1, mesh.n + 1) for q in range(1, mesh.n + 1) if q > p and fill.joined(rows)[p] >> q & 1}
+    wanted = {((q - 1) // step, (p - 1) // step) for q, p in pairs}
+    c.equal('fill: several rows to a cell', {(r, q) for r, row in enumerate(fill.dark_cells(rows, step)) for q in row}, wanted)
+
+
+def cells(path):
+    return sum(int(count) for count in re.findall(r'M\d+ \d+h(\d+)v1', path))
+
+
+def overwritten(c):
+    """The listing, the mesh and another's drawing stay; an older picture goes."""
+    files = {'a.grd': SAMPLE, 'a.txt': LISTING, 'b.svg': b'<svg xmlns="http://www.w3.org/2000/svg"></svg>\n'}
+    for output, status, message in (('a.txt', 2, 'a.txt: is an input (a.txt), and stays as it is\n'), ('a.grd', 2, 'a.grd: is an input (a.grd), and stays as it is\n'),
+                                    ('b.svg', 2, 'b.svg: stands there already and is not a picture of picture.py; --force writes over it\n')):
+        c.equal('picture: over ' + output, run(picture.main, ['a.grd', 'a.txt', '-o', output], files), (status, '', message, {}))
+
+    def twice(words):
+        return picture.main(words) + picture.main(words)
+    status, _, err, made = run(twice, ['a.grd', 'a.txt', '-o', 'c.svg'], files)
+    c.equal('picture: over an older one', (status, err, list(made)), (0, '', ['c.svg']))
 
 
 def measured(c):
@@ -69,7 +121,7 @@ def drawn(c, name, data):
     before = reference_figures(mesh, list(range(1, mesh.n + 1)))
     c.equal('picture: %s: figures' % name, bold, [str(value) for value in before] + [head[5], head[7], head[9]])
     if mesh.n <= matrix.MOST_CELLS:
-        dark = sum(int(count) for count in re.findall(r'M\d+ \d+h(\d+)v1', text))
+        dark = cells(text)
         entries = sum(len(row) for row in grd.neighbours(mesh))
         c.equal('picture: %s: dark cells, both sides' % name, dark, 2 * (entries + mesh.n))
         areas = [area(path) for path in re.findall(r'd="(M0 0[^"]*)" fill="' + matrix.ENVELOPE, text)]
@@ -100,9 +152,11 @@ def area(path):
 
 
 def refused(c):
-    def fails(name, files, message):
-        got = run(picture.main, ['a.grd', 'a.txt', '-o', 'a.svg'], files)
+    def fails(name, files, message, *options):
+        got = run(picture.main, list(options) + ['a.grd', 'a.txt', '-o', 'a.svg'], files)
         c.equal('picture: ' + name, got, (1, '', message + '\n', {}))
+    for option in ('--mesh', '--both'):
+        fails('no coordinates', {'a.grd': SAMPLE, 'a.txt': LISTING}, 'a.grd: a GRD file has no coordinates: give the mesh file that it was made from', option)
     fails('broken mesh', {'a.grd': SAMPLE[:-1], 'a.txt': LISTING},
           'a.grd: refused 12: %s; the file ends within element 4 (byte 27), a bar' % grd.MEANING[12])
     fails('broken listing', {'a.grd': SAMPLE, 'a.txt': LISTING.replace('4 1 1', '4 2 1')}, 'a.txt:5: new number 2 is given twice, first on line 2')

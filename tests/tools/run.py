@@ -5,21 +5,26 @@ import sys
 
 import harness
 import abaqus_cases
+import archive_cases
 import command_cases
 import cover_cases
+import drawing_cases
+import explain_cases
 import export_cases
 import gmsh_cases
 import grd_cases
 import nastran_cases
 import output_cases
+import page_cases
 import picture_cases
+import script_cases
 import seqgp_cases
 
 
 def main():
     counted = harness.Cases()
     for module in (grd_cases, cover_cases, gmsh_cases, abaqus_cases, nastran_cases, export_cases, command_cases, output_cases,
-                   seqgp_cases, picture_cases):
+                   seqgp_cases, picture_cases, drawing_cases, page_cases, explain_cases, archive_cases, script_cases):
         try:
             module.cases(counted)
         # argparse leaves by SystemExit
