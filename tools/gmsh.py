@@ -13,11 +13,11 @@ TYPES = {1: (1, '2-node line'), 2: (2, '3-node triangle'), 3: (3, '4-node quadra
 OTHER_TYPES = {
     (1, 'line'): {8: 3, 26: 4, 27: 5, 28: 6},
     (2, 'triangle'): {20: 9, 21: 10, 22: 12, 23: 15, 24: 15, 25: 21},
-    (3, 'quadrangle'): {10: 9, 36: 16, 37: 25, 38: 36, 39: 12},
-    (4, 'tetrahedron'): {29: 20, 30: 35, 31: 56},
+    (3, 'quadrangle'): {10: 9, 36: 16, 37: 25, 38: 36, 39: 12, 40: 16},
+    (4, 'tetrahedron'): {29: 20, 30: 35, 31: 56, 32: 22, 137: 16},
     (5, 'pyramid'): {14: 14, 19: 13, 118: 30, 119: 55},
-    (6, 'prism'): {13: 18, 18: 15, 90: 40, 91: 75},
-    (7, 'hexahedron'): {12: 27, 17: 20, 92: 64, 93: 125},
+    (6, 'prism'): {13: 18, 18: 15, 90: 40, 91: 75, 106: 126, 111: 24, 112: 33},
+    (7, 'hexahedron'): {12: 27, 17: 20, 92: 64, 93: 125, 99: 32, 100: 44},
 }
 
 # Type: GRD kind or None, kind with the same corners, node count, name.
@@ -78,8 +78,8 @@ def read(source, ignore=()):
             readers = READERS[version(lines)]
         elif line.startswith('$') and not line.startswith('$End'):
             section = line[1:]
-            if section in ('Nodes', 'Elements') and not readers:
-                raise Fault(lines.number, '$%s comes before $MeshFormat' % section)
+            if not readers and not section.startswith('Comment'):
+                raise Fault(lines.number, '$%s comes before $MeshFormat: this is no Gmsh file of version 2.2 or 4.1' % section)
             if section in readers:
                 readers[section](lines, model)
                 lines.end(section)

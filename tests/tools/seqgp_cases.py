@@ -45,6 +45,7 @@ def cases(c):
     writes(c, 'free field', SAMPLE, FREE, '--free')
     writes(c, 'with a map', SAMPLE, 'SEQGP         10       2      20       3      35       4      40       1\nSEQGP   12345678       5\n',
            '--nodes', 'm', files={'m': MAP})
+    writes(c, 'a listing in UTF-16', b'\xff\xfe' + SAMPLE.replace('\n', '\r\n').encode('utf-16-le'), SMALL)
     writes(c, 'one node', 'nodes 1 parts 1 bandwidth 0 profile 0 front 1 levels 1 width 1 passes 1\n1 1 1\n', 'SEQGP          1       1\n')
     c.equal('seqgp: printed', run(to_seqgp.main, ['a.txt', '-o', 'out.bdf'], {'a.txt': SAMPLE})[1], 'out.bdf: 2 cards, 5 grid points\n')
     whole_way(c)
