@@ -9,7 +9,7 @@ import grd
 WHOLE = re.compile(r'[+-]?[0-9]{1,18}')
 
 # kind: the GRD kind, or None where GRD has none; name: as a message calls it, such as 'element 7 (CQUAD4)';
-# shape: the kind, or the kind from 1 to 7 that has the same corners, which are the element's first nodes
+# shape: a kind with the same corners, which are the element's first nodes
 Element = namedtuple('Element', 'kind nodes line name shape')
 
 

@@ -7,6 +7,7 @@ from harness import DATA, data, run
 import grd
 import program
 import to_grd
+from files import Source
 
 FORMATS = ('_22.msh', '_41.msh', '.inp', '.bdf')
 
@@ -49,6 +50,7 @@ def same(c, name, rows, *options):
 def cases(c):
     gmsh_exports(c)
     bricks(c)
+    corners(c)
     calculix(c)
     refused(c)
     numbered(c)
@@ -76,6 +78,16 @@ def bricks(c):
         same(c, 'gmsh/%s_41.msh' % mesh, adjacency(len(where), sides))
     where = places(data('gmsh/wedge18_22.msh'))
     same(c, 'gmsh/wedge18.bdf', adjacency(len(where), [list(where)]))
+
+
+def corners(c):
+    """The corners, which lie at whole numbers in these blocks, are the first nodes of each element: drawings rely on it."""
+    counts = {1: 2, 2: 3, 3: 4, 4: 4, 5: 5, 6: 6, 7: 8, 8: 3, 9: 4, 10: 4}
+    for name in [mesh + end for mesh in ('gmsh/block20', 'gmsh/block27', 'gmsh/wedge15') for end in FORMATS]:
+        model = to_grd.model_of(Source(os.path.join(DATA, name)))
+        wrong = [element.name for element in model.elements
+                 if any(abs(x - round(x)) > 0.01 for p in element.nodes[:counts[element.shape]] for x in model.places[p])]
+        c.equal('export: %s: corners first' % name, wrong, [])
 
 
 def calculix(c):
