@@ -26,7 +26,7 @@ from files import command, read_bytes
 from model import Fault, Stop
 from to_grd import map_bytes
 
-HERE = os.path.dirname(os.path.abspath(__file__))
+HERE = os.path.dirname(os.path.realpath(__file__))
 TOP = os.path.dirname(HERE)
 FIRST = 'A renumbered mesh and its store, kept by wagonepoch/tools/archive.py, version 1'
 

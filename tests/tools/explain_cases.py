@@ -82,9 +82,9 @@ def in_sources(c):
     found('a.inp', '*NODE\n1,0,0\n2,1,0\nx,1,1\n*ELEMNT, TYPE=T3D2\n1,1,2\n*ELEMENT, TYPE=T3D2\n2,1\n3,1,2\n*TIE\nA,B\n',
           [":4: node number: 'x' is no whole number", ':5: *ELEMNT is not known, and might join nodes; --ignore ELEMNT leaves it out',
            ':8: element 2 (T3D2): 1 nodes, and it needs 2; a line that goes on ends with a comma', ':10: *TIE joins nodes, and GRD has no place for that; --ignore TIE leaves it out'])
-    found('a.msh', '$MeshFormat\n2.2 0 8\n$EndMeshFormat\n$Nodes\n3\n1 0 0 0\n2 1 0 0\n2 1 1 0\n$EndNodes\n$Elements\n3\n1 1 0 1 2\n2 2 0 1 2\n3 99 0 1 2\n$EndElements\n$Strange\n$EndStrange\n',
+    found('a.msh', '$MeshFormat\n2.2 0 8\n$EndMeshFormat\n$Nodes\n3\n1 0 0 0\n2 1 0 0\n2 1 1 0\n$EndNodes\n$Elements\n3\n1 1 0 1 2\n2 2 0 1 2\n3 999 0 1 2\n$EndElements\n$Strange\n$EndStrange\n',
           [':8: node 2 is given twice, first on line 7', ':13: element 2 (3-node triangle): 2 nodes, and it needs 3',
-           ":14: element 3 has type 99, which is not known; --ignore 'type 99' leaves it out", ':16: $Strange is not known, and might join nodes; --ignore Strange leaves it out'])
+           ":14: element 3 has type 999, which is not known; --ignore 'type 999' leaves it out", ':16: $Strange is not known, and might join nodes; --ignore Strange leaves it out'])
 
 
 def in_parts(c):
