@@ -12,7 +12,7 @@ TYPES = {1: (1, '2-node line'), 2: (2, '3-node triangle'), 3: (3, '4-node quadra
 # Types that GRD has no kind for: the kind with the same corners, and the counts of nodes by type.
 OTHER_TYPES = {
     (1, 'line'): {8: 3, 26: 4, 27: 5, 28: 6},
-    (2, 'triangle'): {20: 9, 21: 10, 22: 12, 23: 15, 24: 15, 25: 21},
+    (2, 'triangle'): {20: 9, 21: 10, 22: 12, 23: 15, 25: 21},
     (3, 'quadrangle'): {10: 9, 36: 16, 37: 25, 38: 36, 39: 12, 40: 16},
     (4, 'tetrahedron'): {29: 20, 30: 35, 31: 56, 32: 22, 137: 16},
     (5, 'pyramid'): {14: 14, 19: 13, 118: 30, 119: 55},

@@ -60,13 +60,14 @@ def gmsh_exports(c):
     """Each mesh from all its formats, as its 2.2 file has it; and without faces and edges."""
     for mesh, ends in (('plate3', FORMATS), ('plate6', FORMATS[:2]), ('block8', FORMATS[:2] + ('_free.bdf', '_large.bdf')), ('block20', FORMATS),
                        ('block27', FORMATS), ('block64', FORMATS[:2]), ('wedge15', FORMATS), ('wedge18', FORMATS[:2] + FORMATS[3:]),
-                       ('cube10', FORMATS)):
+                       ('cube10', FORMATS), ('pyramid13', FORMATS[:2] + FORMATS[3:]), ('pyramid14', FORMATS[:2] + FORMATS[3:])):
         text = data('gmsh/%s_22.msh' % mesh)
         rows = adjacency(len(places(text)), elements(text))
         for end in ends:
             whole = same(c, 'gmsh/' + mesh + end, rows)
             short = same(c, 'gmsh/' + mesh + end, rows, '--drop-inner')
-            c.holds('export: gmsh/%s%s is shorter without faces and edges' % (mesh, end), len(short) < len(whole))
+            # the pyramid stands alone
+            c.equal('export: gmsh/%s%s is shorter without faces and edges' % (mesh, end), len(short) < len(whole), mesh[:7] != 'pyramid')
 
 
 def bricks(c):

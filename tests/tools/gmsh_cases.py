@@ -5,6 +5,11 @@ from harness import data, edited, grd_file
 
 import gmsh
 
+# Types and counts of nodes, as Gmsh 4.8.4 writes them for orders from 2 to 5.
+OTHER_TYPES = {8: 3, 10: 9, 12: 27, 13: 18, 14: 14, 17: 20, 18: 15, 19: 13, 20: 9, 21: 10, 22: 12, 23: 15, 25: 21, 26: 4, 27: 5, 28: 6, 29: 20, 30: 35,
+               31: 56, 32: 22, 36: 16, 37: 25, 38: 36, 39: 12, 40: 16, 90: 40, 91: 75, 92: 64, 93: 125, 99: 32, 100: 44, 106: 126, 111: 24, 112: 33,
+               118: 30, 119: 55, 137: 16}
+
 TRIANGLES = ((2, 1, 2, 3), (2, 2, 3, 4))
 
 
@@ -31,12 +36,13 @@ def cases(c):
 
 def other_types(c):
     """Types that GRD has no kind for: all nodes of an element adjoin, and no others."""
-    for kind, count in ((8, 3), (10, 9), (12, 27), (13, 18), (14, 14), (17, 20), (18, 15), (19, 13), (21, 10), (26, 4), (29, 20), (36, 16), (92, 64)):
+    for kind, count in OTHER_TYPES.items():
         nodes = range(3, count + 3)
         text = mesh(range(1, count + 4), [(1, 1, 2), (kind,) + tuple(nodes), (1, 2, 3)])
         adjoins(c, 'gmsh: type %d' % kind, 'a.msh', text, count + 3, (1, 2), nodes, (2, 3))
         fails(c, 'gmsh: type %d with a node less' % kind, 'a.msh', mesh(range(1, count + 4), [(kind,) + tuple(nodes[:-1])]),
               ':%d: element 1 (%s): %d nodes, and it needs %d' % (count + 12, gmsh.TYPE[kind][3], count - 1, count))
+    c.equal('gmsh: the table of types', {kind: gmsh.TYPE[kind][2] for kind in gmsh.TYPE if kind not in gmsh.TYPES}, OTHER_TYPES)
     text = mesh(range(1, 5), [(1, 1, 2), (120, 1, 2, 3, 4)])
     stops(c, 'gmsh: type 120', 'a.msh', text, ":14: element 2 has type 120, which is not known; --ignore 'type 120' leaves it out")
     left_out(c, 'gmsh: type 120 left out', 'a.msh', text, grd_file(4, (1, 1, 2)), 'type 120', 1)

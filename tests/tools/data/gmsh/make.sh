@@ -19,6 +19,11 @@ for format in msh22:_22.msh msh41:_41.msh inp:.inp bdf:.bdf; do
   save wedge.geo 3 "$kind" "wedge18$end" -order 2
   save cube.geo 3 "$kind" "cube10$end" -order 2
 done
+# Gmsh has no pyramids in .inp: it leaves them out there
+for format in msh22:_22.msh msh41:_41.msh bdf:.bdf; do
+  save pyramid.msh 3 "${format%:*}" "pyramid13${format#*:}" -order 2 "${edges[@]}"
+  save pyramid.msh 3 "${format%:*}" "pyramid14${format#*:}" -order 2
+done
 # bulk data in free and in large field
 save block.geo 3 bdf block8_free.bdf -order 1 -setnumber Mesh.BdfFieldFormat 0
 save block.geo 3 bdf block8_large.bdf -order 1 -setnumber Mesh.BdfFieldFormat 2
