@@ -64,7 +64,7 @@ Block = namedtuple('Block', 'line name parameters data')
 
 def read(source, ignore=()):
     """The model of the file and of those that it takes in."""
-    model, seen, once, moved = Model(ignore), {}, set(), False
+    model, seen, once, moved, members = Model(ignore), {}, set(), False, {}
     for block in blocks(source):
         with source.each():
             name = squeezed(block.name)
@@ -76,10 +76,15 @@ def read(source, ignore=()):
                 read_nodes(source, block, model, moved)
             elif name == 'ELEMENT':
                 read_elements(source, block, model, seen)
+            elif name == 'ELSET':
+                members.update(set_members(block))
             elif name in OUTSIDE:
                 model.leave_out(block.line, block.name, '*%s %s, and GRD has no place for that' % (block.name, OUTSIDE[name]))
             elif name not in known.ABAQUS:
                 model.leave_out(block.line, block.name, '*%s is not known, and might join nodes' % block.name)
+    for number, line in members.items():
+        with source.each():
+            test_member(number, line, model, seen)
     return model
 
 
@@ -182,12 +187,27 @@ def read_elements(source, block, model, seen):
     type_name = upper(block.parameters.get('TYPE', ''))
     if not type_name:
         raise Fault(block.line, '*ELEMENT without TYPE=')
+    if type_of(type_name):
+        add_elements(source, block, type_name, model, seen)
+        return
     if type_name in POINTS:
         model.points += len(block.data)
-    elif type_of(type_name):
-        add_elements(source, block, type_name, model, seen)
     else:
         model.leave_out(block.line, type_name, 'element type %s is not known' % type_name)
+    model.unread.update(text.split(',')[0].strip() for _, text in block.data)
+
+
+def set_members(block):
+    """The element numbers that a set names, each with its line. A range may have gaps."""
+    if 'GENERATE' in block.parameters:
+        return {}
+    return {int(word): line for line, text in block.data for word in text.split(',') if word.strip().isdecimal()}
+
+
+def test_member(number, line, model, seen):
+    """Gmsh leaves elements out that it has no type for, and names them in sets all the same."""
+    if number not in seen and str(number) not in model.unread:
+        model.leave_out(line, 'ELSET', 'the set names element %d, which is not in the file' % number)
 
 
 def add_elements(source, block, type_name, model, seen):

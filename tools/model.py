@@ -69,6 +69,8 @@ class Model:
         self.elements = []
         # elements of one node: they join nothing, so GRD needs none
         self.points = 0
+        # numbers, as words, of elements that are left out for what they are
+        self.unread = set()
         # elements taken out again, as others hold their nodes
         self.dropped = 0
         # what the user lets be left out, and how often each was met

@@ -74,7 +74,7 @@ def keywords(c):
     left_out(c, 'inp: nothing to leave out', 'a.inp', NODES + QUAD, MESH, 'TIE', 0)
     left_out(c, 'inp: what is read is not left out', 'a.inp', NODES + QUAD, MESH, 'ELEMENT', 0)
     converts(c, 'inp: every keyword known to join nothing', 'a.inp',
-             NODES + QUAD + ''.join('*%s, A=B\n1, 2\n' % name for name in sorted(known.ABAQUS)), MESH)
+             NODES + QUAD + ''.join('*%s, A=B\n1, 1\n' % name for name in sorted(known.ABAQUS)), MESH)
     for name, mark, encoding in (('UTF-8', b'\xef\xbb\xbf', 'utf-8'), ('UTF-16', b'\xfe\xff', 'utf-16-be'), ('UTF-32', b'\xff\xfe\0\0', 'utf-32-le')):
         converts(c, 'inp: byte order mark of ' + name, 'a.inp', mark + (NODES + QUAD).encode(encoding), MESH)
     fails(c, 'inp: UTF-16 without its mark', 'a.inp', (NODES + QUAD).encode('utf-16-le'), ': this is no text file: zeros among its first bytes')
@@ -144,6 +144,11 @@ def texts(c):
     """Files made for one mistake."""
     fails(c, 'inp: gap', 'a.inp', '*NODE\n1\n2\n4\n9\n*ELEMENT, TYPE=S4\n1, 1, 2, 4, 9\n',
           ':4: node 4 comes after a gap: no node has number 3; --compact closes gaps')
+    stops(c, 'inp: a set with an element that is not there', 'a.inp', NODES + QUAD + '*ELSET, ELSET=A\n1, 7,\n8\n',
+          ':9: the set names element 7, which is not in the file; --ignore ELSET leaves it out')
+    left_out(c, 'inp: such a set left out', 'a.inp', NODES + QUAD + '*ELSET, ELSET=A\n1, 7,\n8\n', MESH, 'ELSET', 2)
+    converts(c, 'inp: sets of elements', 'a.inp', '*ELSET, ELSET=A\n1, 9\n*ELSET, ELSET=B, GENERATE\n1, 9, 1\n*ELSET, ELSET=C\nA, B\n' + NODES + QUAD
+             + '*ELEMENT, TYPE=MASS\n9, 2\n', MESH)
     stops(c, 'inp: two parts', 'a.inp', '*PART, NAME=A\n' + NODES + QUAD + '*END PART\n*PART, NAME=B\n' + NODES,
           ':10: a second *PART: node numbers start again in each; write the model without parts')
     part = '*PART, NAME=A\n' + NODES + QUAD + '*END PART\n*ASSEMBLY, NAME=B\n*INSTANCE, NAME=A-1, PART=A\n1., 0., 0.\n*END INSTANCE\n'

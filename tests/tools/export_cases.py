@@ -107,6 +107,8 @@ def refused(c):
              '--ignore Periodic leaves it out\n', None))
     c.equal('export: a wedge of 18 nodes called C3D6', converted('gmsh/wedge18.inp'),
             (1, '', 'gmsh/wedge18.inp:52: element 21 (C3D6): 15 nodes, and it needs 6\n', None))
+    c.equal('export: a pyramid that Gmsh leaves out', converted('gmsh/pyramid14.inp'),
+            (2, '', 'gmsh/pyramid14.inp:20: the set names element 1, which is not in the file; --ignore ELSET leaves it out\n', None))
 
 
 def numbered(c):

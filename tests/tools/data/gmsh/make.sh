@@ -19,7 +19,8 @@ for format in msh22:_22.msh msh41:_41.msh inp:.inp bdf:.bdf; do
   save wedge.geo 3 "$kind" "wedge18$end" -order 2
   save cube.geo 3 "$kind" "cube10$end" -order 2
 done
-# Gmsh has no pyramids in .inp: it leaves them out there
+# Gmsh has no pyramids in .inp: it leaves them out there, but for their names in sets
+save pyramid.msh 3 inp pyramid14.inp -order 2
 for format in msh22:_22.msh msh41:_41.msh bdf:.bdf; do
   save pyramid.msh 3 "${format%:*}" "pyramid13${format#*:}" -order 2 "${edges[@]}"
   save pyramid.msh 3 "${format%:*}" "pyramid14${format#*:}" -order 2
