@@ -84,7 +84,8 @@ def bulk(source):
     lines = list(with_included(source, source.lines()))
     begins = [i for i, (_, text) in enumerate(lines) if text.upper().split()[:2] == ['BEGIN', 'BULK']]
     for line, text in lines[begins[0] + 1 if begins else 0:]:
-        if text.strip().upper() == 'ENDDATA':
+        # some programs write a checksum behind it
+        if text.upper().split()[:1] == ['ENDDATA']:
             return
         if text.strip():
             yield line, text

@@ -12,6 +12,59 @@ NODES = '*NODE\n1, 0.\n2, 0.\n3, 0.\n4, 0.\n'
 QUAD = '*ELEMENT, TYPE=S4\n1, 1, 2, 3, 4\n'
 MESH = grd_file(4, (3, 1, 2, 3, 4))
 
+# By hand, after the form that Abaqus/CAE writes.
+CAE = '''*Heading
+** Job name: plate Model name: Model-1
+*Preprint, echo=NO, model=NO, history=NO, contact=NO
+**
+** PARTS
+**
+*Part, name=Plate
+*Node
+      1,           0.,           0.
+      2,           1.,           0.
+      3,           1.,           1.
+      4,           0.,           1.
+*Element, type=CPS4R
+1, 1, 2, 3, 4
+*Nset, nset=Set-1, generate
+ 1,  4,  1
+*Elset, elset=Set-1
+ 1,
+** Section: Section-1
+*Solid Section, elset=Set-1, material=Steel
+,
+*End Part
+**
+** ASSEMBLY
+**
+*Assembly, name=Assembly
+*Instance, name=Plate-1, part=Plate
+*End Instance
+*Nset, nset=Set-1, instance=Plate-1
+ 1, 4
+*Elset, elset=_Surf-1_S2, internal, instance=Plate-1
+ 1,
+*Surface, type=ELEMENT, name=Surf-1
+_Surf-1_S2, S2
+*End Assembly
+*Material, name=Steel
+*Elastic
+210000., 0.3
+** ----------------------------------------------------------------
+*Step, name=Step-1, nlgeom=NO
+*Static
+1., 1., 1e-05, 1.
+*Boundary
+Set-1, ENCASTRE
+*Dsload
+Surf-1, P, -1.
+*Restart, write, frequency=0
+*Output, field, variable=PRESELECT
+*Output, history, variable=PRESELECT
+*End Step
+'''
+
 
 def cases(c):
     all_kinds(c, 'kinds.inp')
@@ -144,6 +197,7 @@ def texts(c):
     """Files made for one mistake."""
     fails(c, 'inp: gap', 'a.inp', '*NODE\n1\n2\n4\n9\n*ELEMENT, TYPE=S4\n1, 1, 2, 4, 9\n',
           ':4: node 4 comes after a gap: no node has number 3; --compact closes gaps')
+    converts(c, 'inp: a deck as Abaqus/CAE writes it', 'a.inp', CAE, MESH)
     stops(c, 'inp: a set with an element that is not there', 'a.inp', NODES + QUAD + '*ELSET, ELSET=A\n1, 7,\n8\n',
           ':9: the set names element 7, which is not in the file; --ignore ELSET leaves it out')
     left_out(c, 'inp: such a set left out', 'a.inp', NODES + QUAD + '*ELSET, ELSET=A\n1, 7,\n8\n', MESH, 'ELSET', 2)

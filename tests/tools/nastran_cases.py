@@ -8,6 +8,36 @@ import to_grd
 
 QUAD = 'CQUAD4,1,1,1,2,3,4\n'
 
+# By hand, after the form that preprocessors write.
+FEMAP = '''INIT MASTER(S)
+NASTRAN SYSTEM(442)=-1,SYSTEM(319)=1
+ID plate,Femap
+SOL SESTATIC
+CEND
+  TITLE = Simcenter Nastran Static Analysis Set
+  ECHO = NONE
+  SPC = 1
+  LOAD = 1
+BEGIN BULK
+$ ***************************************************************************
+PARAM,PRGPAR,YES
+PARAM,POST,-1
+CORD2C         1       0      0.      0.      0.      0.      0.      1.+FEMAPC1
++FEMAPC1      1.      0.      1.
+$ Femap Constraint Set 1 : fixed
+SPC1           1  123456       1       4
+$ Femap Load Set 1 : pull
+FORCE          1       2       0      1.   1000.      0.      0.
+PSHELL         1       1      1.       1               1              0.
+MAT1           1 210000.             0.3      0.      0.      0.
+GRID           1       0      0.      0.      0.       0
+GRID           2       0      1.      0.      0.       0
+GRID           3       0      1.      1.      0.       0
+GRID           4       0      0.      1.      0.       0
+CQUAD4         1       1       1       2       3       4
+ENDDATA 6b1d24f3
+'''
+
 
 def cases(c):
     all_kinds(c, 'small.bdf')
@@ -79,6 +109,7 @@ def not_read(c):
     for card in ('CQAUD4', 'GIRD', 'CHBDYX', 'XYZ'):
         stops(c, 'nastran: ' + card, 'a.bdf', QUAD + '%-8s%8d%8d\n' % (card, 9, 1),
               ':2: card %s is not known, and might join nodes; --ignore %s leaves it out' % (card, card))
+    converts(c, 'nastran: a deck as Femap writes it', 'a.dat', FEMAP, mesh)
     stops(c, 'nastran: a part of its own', 'a.bdf', QUAD + 'BEGIN SUPER=2\n' + QUAD,
           ':2: card BEGIN is not known, and might join nodes; --ignore BEGIN leaves it out')
     names = sorted(known.NASTRAN)
