@@ -15,10 +15,10 @@ CARDS = {name: Nodes(fields, least, shape) for names, fields, least, shape in (
     ('CBAR CBEAM CROD CTUBE CBEND CVISC CGAP', (3, 4), 2, 1),
     ('CONROD', (2, 3), 2, 1),
     ('CBEAM3', (3, 4, 5), 2, 1),
-    ('CTRIA3 CTRIAR CPLSTN3 CPLSTS3 CTRAX3', range(3, 6), 3, 2),
+    ('CTRIA3 CTRIAR CPLSTN3 CPLSTS3 CTRAX3 CTRIA1 CTRIA2 CTRMEM CTRPLT CTRBSC', range(3, 6), 3, 2),
     ('CTRIA6 CTRIAX CPLSTN6 CPLSTS6 CTRAX6', range(3, 9), 3, 2),
     ('CTRIAX6', (3, 5, 7, 4, 6, 8), 3, 2),
-    ('CQUAD4 CQUADR CSHEAR CPLSTN4 CPLSTS4 CQUADX4', range(3, 7), 4, 3),
+    ('CQUAD4 CQUADR CSHEAR CPLSTN4 CPLSTS4 CQUADX4 CQUAD1 CQUAD2 CQDMEM CQDMEM1 CQDMEM2 CQDPLT CTWIST', range(3, 7), 4, 3),
     ('CQUAD8 CPLSTN8 CPLSTS8 CQUADX8', range(3, 11), 4, 3),
     ('CQUAD CQUADX CQUAD9', range(3, 12), 4, 3),
     # Gmsh writes solids with nodes in the middle of faces too: 14, 18 and 27 in all
@@ -26,10 +26,16 @@ CARDS = {name: Nodes(fields, least, shape) for names, fields, least, shape in (
     ('CPYRAM CPYRA', range(3, 17), 5, 5),
     ('CPENTA', range(3, 21), 6, 6),
     ('CHEXA', range(3, 30), 8, 7),
+    ('CWEDGE', range(3, 9), 6, 6),
+    ('CHEXA1 CHEXA2', range(3, 11), 8, 7),
     # springs, dampers and masses: with one node they stand on the ground
     ('CBUSH CBUSH1D CBUSH2D', (3, 4), 1, 1),
     ('CELAS1 CELAS2 CDAMP1 CDAMP2 CMASS1 CMASS2', (3, 5), 0, 1),
 ) for name in names.split()}
+
+# Cards with room for a second element behind the first, as NASTRAN had them in document 004's time.
+TWO = {'CROD', 'CTUBE', 'CVISC'}
+FIELDS_OF_ONE = 4
 
 # Solids have nothing behind their nodes.
 SOLIDS = (4, 5, 6, 7)
@@ -71,6 +77,9 @@ def read_card(card, model, seen):
         model.add_node(node(card, 1), card.line, place(card))
     elif card.name in CARDS:
         add_element(card, model, seen)
+        second = card.fields[FIELDS_OF_ONE:]
+        if card.name in TWO and any(second):
+            add_element(card._replace(fields=second), model, seen)
     elif card.name in POINTS:
         model.points += 1
     elif card.name in JOINS:

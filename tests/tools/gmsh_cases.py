@@ -6,8 +6,8 @@ from harness import data, edited, grd_file
 import gmsh
 
 # Types and counts of nodes, as Gmsh 4.8.4 writes them for orders from 2 to 5.
-OTHER_TYPES = {8: 3, 10: 9, 12: 27, 13: 18, 14: 14, 17: 20, 18: 15, 19: 13, 20: 9, 21: 10, 22: 12, 23: 15, 25: 21, 26: 4, 27: 5, 28: 6, 29: 20, 30: 35,
-               31: 56, 32: 22, 36: 16, 37: 25, 38: 36, 39: 12, 40: 16, 90: 40, 91: 75, 92: 64, 93: 125, 99: 32, 100: 44, 106: 126, 111: 24, 112: 33,
+OTHER_TYPES = {8: 3, 10: 9, 12: 27, 13: 18, 14: 14, 17: 20, 18: 15, 19: 13, 20: 9, 21: 10, 22: 12, 23: 15, 25: 21, 26: 4, 27: 5, 28: 6, 29: 20,
+               30: 35, 31: 56, 32: 22, 36: 16, 37: 25, 38: 36, 39: 12, 40: 16, 90: 40, 91: 75, 92: 64, 93: 125, 99: 32, 100: 44, 106: 126, 111: 24, 112: 33,
                118: 30, 119: 55, 137: 16}
 
 TRIANGLES = ((2, 1, 2, 3), (2, 2, 3, 4))
@@ -83,7 +83,8 @@ def old_form(c):
         fails(c, 'gmsh 2.2: ' + name, 'a.msh', edited('kinds22.msh', (old, new)), message)
     edit('version', '2.2 0 8', '4 0 8', ':2: Gmsh version 4 is not read, only 2.2 and 4.1')
     edit('binary', '2.2 0 8', '2.2 1 8', ':2: a binary Gmsh file is not read; save the mesh as text')
-    edit('no head', '$MeshFormat\n2.2 0 8\n$EndMeshFormat\n', '', ':1: $PhysicalNames comes before $MeshFormat: this is no Gmsh file of version 2.2 or 4.1')
+    edit('no head', '$MeshFormat\n2.2 0 8\n$EndMeshFormat\n', '',
+         ':1: $PhysicalNames comes before $MeshFormat: this is no Gmsh file of version 2.2 or 4.1')
     edit('nodes too few', '$Nodes\n12\n', '$Nodes\n13\n', ':22: node number and three coordinates expected')
     edit('nodes too many', '$Nodes\n12\n', '$Nodes\n11\n', ':21: $EndNodes expected: the section is longer than it says')
     edit('elements too few', '$Elements\n11\n', '$Elements\n12\n', ':36: element number, type, tags and nodes expected')
@@ -96,7 +97,8 @@ def old_form(c):
     edit('section without end', '$EndPhysicalNames\n', '', ':4: $PhysicalNames has no $EndPhysicalNames')
     edit('stray line', '$Nodes\n', 'hello\n$Nodes\n', ':8: a section was expected, such as $Nodes')
     converts(c, 'gmsh: a comment first', 'a.msh', '$Comments\nby hand\n$EndComments\n' + data('kinds22.msh'), KINDS)
-    fails(c, 'gmsh: version 1', 'a.msh', '$NOD\n1\n1 0 0 0\n$ENDNOD\n', ':1: $NOD comes before $MeshFormat: this is no Gmsh file of version 2.2 or 4.1')
+    fails(c, 'gmsh: version 1', 'a.msh', '$NOD\n1\n1 0 0 0\n$ENDNOD\n',
+          ':1: $NOD comes before $MeshFormat: this is no Gmsh file of version 2.2 or 4.1')
     fails(c, 'gmsh: empty file', 'a.msh', '', ': no $MeshFormat: this is no Gmsh file of version 2.2 or 4.1')
 
 

@@ -60,6 +60,13 @@ def cards(c):
     converts(c, 'nastran: CONROD', 'a.bdf', 'CONROD,5,2,1,3,1.0\n', grd_file(2, (1, 2, 1)))
     converts(c, 'nastran: bar with an orientation point', 'a.bdf', 'GRID,1\nGRID,2\nGRID,3\nCBAR,1,1,1,2,3\n', grd_file(3, (1, 1, 2)))
     converts(c, 'nastran: angle behind the nodes', 'a.bdf', 'CQUAD4,1,1,1,2,3,4,30.0\n', grd_file(4, (3, 1, 2, 3, 4)))
+    converts(c, 'nastran: two rods on a card', 'a.bdf',
+             '%-8s' % 'CROD' + '%8d' * 8 % (1, 1, 1, 2, 2, 1, 2, 3) + '\n', grd_file(3, (1, 1, 2), (1, 2, 3)))
+    fails(c, 'nastran: half a second rod', 'a.bdf', 'CROD,1,1,1,2,2,1,2\n', ':1: element 2 (CROD) has no node in field 5')
+    for card, kind, count in (('CTRIA1', 2, 3), ('CTRMEM', 2, 3), ('CQUAD2', 3, 4), ('CQDMEM', 3, 4), ('CTWIST', 3, 4), ('CWEDGE', 6, 6),
+                              ('CHEXA1', 7, 8)):
+        nodes = list(range(1, count + 1))
+        converts(c, 'nastran: ' + card, 'a.bdf', free(card, 1, 1, *nodes), grd_file(count, [kind] + nodes))
     converts(c, 'nastran: CPYRA', 'a.bdf', 'CPYRA,1,1,1,2,3,4,5\n', grd_file(5, (5, 1, 2, 3, 4, 5)))
     converts(c, 'nastran: thickness behind the nodes', 'a.bdf', 'CTRIA6,1,1,6,5,4,3,2,1\n,30.,,1.,1.,1.\n', grd_file(6, (8, 6, 5, 4, 3, 2, 1)))
     converts(c, 'nastran: tabs', 'a.bdf', 'CROD\t5\t1\t2\t1\n', grd_file(2, (1, 2, 1)))
