@@ -21,7 +21,7 @@ MOST_OUTLINED = 2500
 STEPS = 32
 # The legends: how wide a band of colours is, and how many parts are named.
 LEGEND = 192
-MOST_PARTS = 4
+MOST_PARTS = 5
 # The room for a panel's title above and its legend below.
 ABOVE = 34
 BELOW = 58
@@ -258,7 +258,7 @@ def part_legend(sizes):
             items += ['<rect x="%d" y="%d" width="12" height="12" fill="%s"/>' % (x, down, by_part(i + 1)),
                       text(x + 18, down + 10, '%d: %s' % (i + 1, grd.counted(size, 'node')), 12, FAINT)]
         if len(sizes) > MOST_PARTS:
-            items.append(text(left + 133, y + 28, 'and %s more, in these colours again' % grouped(len(sizes) - MOST_PARTS), 12, FAINT))
+            items.append(text(left + 266, y + 28, 'and %s more' % grouped(len(sizes) - MOST_PARTS), 12, FAINT))
         return items
     return made
 

@@ -17,7 +17,7 @@ import parts
 import picture
 import source
 from files import Kind, Output, add_output_options, command, write_own
-from ink import grouped
+from ink import FAINT, FONT, INK, grouped
 from model import Fault
 
 MARK = '<!-- a page of wagonepoch/tools/page.py -->'
@@ -25,17 +25,19 @@ PAGE = Kind('a page of page.py', re.compile(b'<!doctype html>\n' + re.escape(MAR
 # So many parts have a row of their own.
 MOST_ROWS = 40
 
-STYLE = '''body { font-family: "DejaVu Sans", Arial, Helvetica, sans-serif; color: #1d2b3a; max-width: 970px; margin: 2em auto; padding: 0 1em; line-height: 1.45 }
-h1 { margin-bottom: 0 } h2 { margin-top: 2em } .faint { color: #5b6875 } .warning { color: #a33a0a; white-space: pre-wrap }
-table { border-collapse: collapse; margin: 1em 0 } th, td { padding: .25em .9em; text-align: right; border-bottom: 1px solid #d5dbe1; font-variant-numeric: tabular-nums }
-th:first-child, td:first-child { text-align: left; padding-left: 0 } svg { max-width: 100%; height: auto }
-@media print { h2 { page-break-before: auto } svg { page-break-inside: avoid } }'''
+STYLE = '''body { font-family: %s; color: %s; max-width: 970px; margin: 2em auto; padding: 0 1em; line-height: 1.45 }
+h1 { margin-bottom: 0 } h2 { margin-top: 2em }
+.faint { color: %s } .warning { color: #a33a0a; white-space: pre-wrap }
+table { border-collapse: collapse; margin: 1em 0; font-variant-numeric: tabular-nums }
+th, td { padding: .25em .9em; text-align: right; border-bottom: 1px solid #d5dbe1 }
+th:first-child, td:first-child { text-align: left; padding-left: 0 }
+svg { max-width: 100%%; height: auto; page-break-inside: avoid }''' % (FONT, INK, FAINT)
 
 
 def table(head, rows):
-    """Rows of cells; each cell is a text."""
+    """Rows of cells, texts or numbers."""
     def row(cells, tag):
-        return '<tr>%s</tr>' % ''.join('<%s>%s</%s>' % (tag, html.escape(cell), tag) for cell in cells)
+        return '<tr>%s</tr>' % ''.join('<%s>%s</%s>' % (tag, html.escape(str(cell)), tag) for cell in cells)
     return ['<table>', row(head, 'th')] + [row(cells, 'td') for cells in rows] + ['</table>']
 
 
@@ -59,15 +61,15 @@ def part_rows(mesh, listed, numbers):
         new = [listed.numbers[p] for p in part]
         levels = [listed.levels[p] for p in part]
         width = max(levels.count(level) for level in set(levels))
-        rows.append((str(i), grouped(len(part)), str(numbers[part[0] - 1]), '%d to %d' % (min(new), max(new)), str(max(levels)), str(width)))
+        rows.append((i, grouped(len(part)), numbers[part[0] - 1], '%d to %d' % (min(new), max(new)), max(levels), width))
     return rows
 
 
 # The page.
 
 def head(name, path, found, listed):
-    lines = ['<h1>%s</h1>' % html.escape(name),
-             '<p class="faint">%s, %s; from %s</p>' % (source.summary(found), grd.counted(listed.figures.parts, 'part'), html.escape(os.path.basename(path)))]
+    words = '%s, %s; from %s' % (source.summary(found), grd.counted(listed.figures.parts, 'part'), os.path.basename(path))
+    lines = ['<h1>%s</h1>' % html.escape(name), '<p class="faint">%s</p>' % html.escape(words)]
     lines += ['<p class="warning">%s</p>' % html.escape('\n'.join(block)) for block in blocks(parts.warnings(found.mesh, found.numbers))]
     lines += table(('', 'before', 'after', 'after / before'), before_and_after(found.mesh, listed))
     rows = part_rows(found.mesh, listed, found.numbers)
@@ -101,8 +103,8 @@ def pictures(name, found, listed):
             '<p>Around each node its share of every face has the node’s colour. A good numbering runs through the mesh from one end to the other.</p>',
             mesh.rstrip('\n'),
             '<h2>The matrix</h2>',
-            '<p>Dark cells are entries. Below the diagonal the envelope is what the store holds; orange places are zero at first and are joined by elimination, '
-            'blue ones stay zero.</p>',
+            '<p>Dark cells are entries. Below the diagonal the envelope is what the store holds: orange places are zero at first and are joined by '
+            'elimination, blue ones stay zero.</p>',
             picture.svg(name, found.mesh, listed, True, 0).rstrip('\n')]
 
 
@@ -111,8 +113,8 @@ def page(name, path, found, listed):
              '<meta name="viewport" content="width=device-width, initial-scale=1">',
              '<title>%s renumbered</title>' % html.escape(name), '<style>', STYLE, '</style>', '</head>', '<body>']
     lines += head(name, path, found, listed) + pictures(name, found, listed)
-    lines += ['<p class="faint">New numbers, levels and their figures are the proved program’s. The figures before, the elimination and the drawings are '
-              'unproved help.</p>', '</body>', '</html>', '']
+    lines += ['<p class="faint">New numbers, levels and their figures are the proved program’s. The figures before, the elimination and the drawings '
+              'are unproved help.</p>', '</body>', '</html>', '']
     return '\n'.join(lines)
 
 

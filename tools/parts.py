@@ -59,5 +59,6 @@ def warnings(mesh, numbers):
         if len(parts) > MOST_PARTS:
             lines.append('  and %d parts more' % (len(parts) - MOST_PARTS))
     if alone:
-        lines.append('warning: in no element, each a part of its own, %s: %s' % (grd.counted(len(alone), 'node'), runs([numbers[p - 1] for p in alone])))
+        lines.append('warning: in no element, each a part of its own, %s: %s' % (grd.counted(len(alone), 'node'),
+                                                                                 runs([numbers[p - 1] for p in alone])))
     return lines

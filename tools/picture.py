@@ -25,8 +25,8 @@ from ink import FONT, WIDTH, framed, heading
 from model import Fault
 
 HEAD = 50
-SVG = Kind('a picture of picture.py', re.compile(rb'<svg xmlns="http://www.w3.org/2000/svg" width="%d" height="[0-9]+" viewBox="[0-9 ]+" font-family="%s">\n<title>.*</svg>\n'
-                                                % (WIDTH, FONT.encode('ascii')), re.DOTALL))
+START = rb'<svg xmlns="http://www.w3.org/2000/svg" width="%d" height="[0-9]+" viewBox="[0-9 ]+" font-family="%s">\n<title>'
+SVG = Kind('a picture of picture.py', re.compile(START % (WIDTH, FONT.encode('ascii')) + rb'.*</svg>\n', re.DOTALL))
 
 
 def counts(n, elements, listed):

@@ -66,14 +66,16 @@ def made(c):
     about = kept['ABOUT.txt'].decode('ascii')
     facts = dict(line.split(': ', 1) for line in about.split('\n\n')[1].split('\n'))
     c.equal('archive: facts', sorted(facts), ['before', 'commit', 'elimination', 'figures', 'made', 'mesh', 'read', 'sources', 'store', 'toolchain'])
-    c.equal('archive: figures', (facts['figures'], facts['store'], facts['mesh']), (kept['listing.txt'].decode('ascii').split('\n')[0], 'a.store, 3 bytes', 'a.bdf'))
+    c.equal('archive: figures', (facts['figures'], facts['store'], facts['mesh']),
+            (kept['listing.txt'].decode('ascii').split('\n')[0], 'a.store, 3 bytes', 'a.bdf'))
     c.holds('archive: a day', re.fullmatch('20[0-9]{2}-[01][0-9]-[0-3][0-9]', facts['made']))
     c.equal('archive: every line under 145 letters', [line for line in about.split('\n') if len(line) > 145], [])
     places(c, kept, about)
     status, checked, out, err, kept = worked(['make', 'mesh.grd', '-o', 'kept'], {'mesh.grd': SAMPLE})
     c.equal('archive: a GRD file of the name of the copy', (status, checked, err, sorted(kept)), (0, 0, '', sorted(FILES[2:])))
     deck = '*INCLUDE, INPUT=b.txt\n*ELEMENT, TYPE=T3D2\n1,1,2\n*TIE\nA,B\n'
-    status, checked, out, err, kept = worked(['make', '--ignore', 'TIE', '--from', 'abaqus', 'a.txt', '-o', 'kept'], {'a.txt': deck, 'b.txt': '*NODE\n1\n2\n'})
+    status, checked, out, err, kept = worked(['make', '--ignore', 'TIE', '--from', 'abaqus', 'a.txt', '-o', 'kept'],
+                                             {'a.txt': deck, 'b.txt': '*NODE\n1\n2\n'})
     c.equal('archive: files taken in, and options', (status, checked, err, 'b.txt' in kept), (0, 0, '', True))
 
 

@@ -9,7 +9,6 @@ from harness import DATA, grd_file, run
 import drawing
 import faces
 import figures
-import grd
 import picture
 import places
 import program
@@ -51,7 +50,6 @@ def seen(c):
     """Of a brick three faces, of two in a row five; of one that stands behind, what is farther comes first; a shell from both sides."""
     brick = [('brick', list(range(1, 9)))]
     c.equal('faces: one brick', sorted(sorted(face.nodes) for face in visible(brick, CUBE)), [[1, 2, 5, 6], [2, 3, 6, 7], [5, 6, 7, 8]])
-    row = CUBE + [(2, y, z) for _, y, z in CUBE if _ == 1]
     two = brick + [('brick', [2, 9, 10, 3, 6, 11, 12, 7])]
     row = CUBE + [(2, 0, 0), (2, 1, 0), (2, 0, 1), (2, 1, 1)]
     c.equal('faces: two bricks', len(visible(two, row)), 5)
@@ -98,10 +96,12 @@ def shares(c):
     """The nodes' shares of a face cover it once."""
     square = [(0, 0), (600, 0), (600, 400), (0, 400)]
     face = faces.Face([1, 2, 3, 4], square, 0, 0, False)
-    for name, colours in (('one colour', 'aaaa'), ('two', 'aabb'), ('two across', 'abab'), ('three', 'aabc'), ('four', 'abcd'), ('the first and last', 'abba')):
+    for name, colours in (('one colour', 'aaaa'), ('two', 'aabb'), ('two across', 'abab'), ('three', 'aabc'), ('four', 'abcd'),
+                          ('the first and last', 'abba')):
         found = drawing.cells(face, dict(zip(face.nodes, colours)))
         c.equal('cells: %s: area' % name, sum(area(polygon) for _, polygon in found), area(square))
-        c.equal('cells: %s: each node in its own' % name, sorted(colour for colour, polygon in found for point in polygon if point in square), sorted(colours))
+        own = sorted(colour for colour, polygon in found for point in polygon if point in square)
+        c.equal('cells: %s: each node in its own' % name, own, sorted(colours))
     bar = faces.Face([1, 2], [(0, 0), (100, 0)], 0, 0, True)
     c.equal('cells: a bar', list(drawing.pieces(bar, {1: 'a', 2: 'b'})), [('a', [(0, 0), (50, 0)]), ('b', [(50, 0), (100, 0)])])
     c.equal('cells: outline', drawing.outline([(10, 20), (30, 5), (25, 40)]), 'M10 20l20-15-5 35z')
@@ -139,8 +139,10 @@ def pictures(c):
     c.holds('drawing: the panels are covered once: %s' % total, abs(total - 4 * 2 * 940 ** 2) < 4 * 2 * 940 * 4)
     c.equal('drawing: one loose node in four panels', text.count('<circle '), 4)
     c.holds('drawing: bars', len(re.findall('<path class="b"', text)) >= 4)
-    c.equal('drawing: titles', re.findall('font-weight="bold">([^<]*)</text>', text), ['a', 'before: old numbers', 'after: new numbers', 'levels', 'parts'])
-    c.holds('drawing: parts and their sizes', all(words in text for words in ('1: 6 nodes', '2: 2 nodes', '3: 1 node<', '9 nodes, 3 elements, 3 parts')))
+    c.equal('drawing: titles', re.findall('font-weight="bold">([^<]*)</text>', text),
+            ['a', 'before: old numbers', 'after: new numbers', 'levels', 'parts'])
+    for words in ('1: 6 nodes', '2: 2 nodes', '3: 1 node<', '9 nodes, 3 elements, 3 parts'):
+        c.holds('drawing: ' + words, words in text)
     both = drawn(PLATE, '--both')[2]
     c.equal('drawing: both', len(re.findall('font-weight="bold">(before: old numbers|after: new numbers)<', both)), 4)
     tree.fromstring(both)
@@ -162,7 +164,8 @@ def polygons(path):
 
 def exports(c):
     """What Gmsh wrote is drawn, and the same from each of its formats but for the lines that only some have."""
-    for names in (('plate3_22.msh', 'plate3_41.msh', 'plate3.inp', 'plate3.bdf'), ('block8_22.msh', 'block8_41.msh'), ('block27_22.msh', 'block27_41.msh'),
+    for names in (('plate3_22.msh', 'plate3_41.msh', 'plate3.inp', 'plate3.bdf'), ('block8_22.msh', 'block8_41.msh'),
+                  ('block27_22.msh', 'block27_41.msh'),
                   ('wedge15_22.msh', 'wedge15_41.msh'), ('cube10_22.msh', 'cube10_41.msh')):
         pictures_of = []
         for name in names:
@@ -186,9 +189,11 @@ def largest(c):
         rows = [set()] + [{q for q in near(p, side)} for p in range(1, side * side + 1)]
         head = 'nodes 4096 parts 1 bandwidth %d profile %d front %d levels 64 width 64 passes 1\n' % figures.figures(rows)
         listing = head + ''.join('%d %d %d\n' % (p, p, (p + 63) // 64) for p in range(1, 4097))
-        status, _, err, made = run(picture.main, ['--both', 'a.bdf', 'a.txt', '-o', 'a.svg'], {'a.bdf': '\n'.join(grid + quads) + '\n', 'a.txt': listing})
+        status, _, err, made = run(picture.main, ['--both', 'a.bdf', 'a.txt', '-o', 'a.svg'],
+                                   {'a.bdf': '\n'.join(grid + quads) + '\n', 'a.txt': listing})
         c.equal('drawing: 4,096 nodes, ' + name, (status, err), (0, ''))
-        c.holds('drawing: 4,096 nodes, %s, under 2,500,000 bytes: %d' % (name, len(made.get('a.svg', b''))), 0 < len(made.get('a.svg', b'')) < 2500000)
+        c.holds('drawing: 4,096 nodes, %s, under 2,500,000 bytes: %d' % (name, len(made.get('a.svg', b''))),
+                0 < len(made.get('a.svg', b'')) < 2500000)
 
 
 def near(p, side):
@@ -199,14 +204,16 @@ def near(p, side):
 
 def undrawn(c):
     """Meshes without places say so."""
+    none = ' has no coordinates that are read here, so the mesh is not drawn'
+
     def fails(name, deck, message):
-        c.equal('drawing: ' + name, drawn(deck, '--mesh')[:3], (1, message + '\n', ''))
-    fails('no GRID card', 'CROD,1,1,1,2\n', 'a.bdf:1: node 1 has no coordinates that are read here, so the mesh is not drawn')
-    fails('another system', 'GRID,1,,0.,0.,0.\nGRID,2,7,1.,0.,0.\nCROD,1,1,1,2\n', 'a.bdf:2: node 2 has no coordinates that are read here, so the mesh is not drawn')
-    fails('a system for all', 'GRDSET,,7\nGRID,1,,0.,0.,0.\nGRID,2,,1.,0.,0.\nCROD,1,1,1,2\n', 'a.bdf:2: node 1 has no coordinates that are read here, so the mesh is not drawn')
-    fails('no numbers', 'GRID,1,,0.,0.,0.\nGRID,2,,a,0.,0.\nCROD,1,1,1,2\n', 'a.bdf:2: node 2 has no coordinates that are read here, so the mesh is not drawn')
-    fails('one place', 'GRID,1\nGRID,2\nCROD,1,1,1,2\n', 'a.bdf: all nodes lie in one place, so the mesh is not drawn')
+        c.equal('drawing: ' + name, drawn(deck + 'CROD,1,1,1,2\n', '--mesh')[:3], (1, message + '\n', ''))
+    fails('no GRID card', '', 'a.bdf:1: node 1' + none)
+    fails('another system', 'GRID,1,,0.,0.,0.\nGRID,2,7,1.,0.,0.\n', 'a.bdf:2: node 2' + none)
+    fails('a system for all', 'GRDSET,,7\nGRID,1,,0.,0.,0.\nGRID,2,,1.,0.,0.\n', 'a.bdf:2: node 1' + none)
+    fails('no numbers', 'GRID,1,,0.,0.,0.\nGRID,2,,a,0.,0.\n', 'a.bdf:2: node 2' + none)
+    fails('one place', 'GRID,1\nGRID,2\n', 'a.bdf: all nodes lie in one place, so the mesh is not drawn')
     deck = '*SYSTEM\n1,0,0\n*NODE\n1,0,0\n2,1,0\n*ELEMENT, TYPE=T3D2\n1,1,2\n'
     listing = program.text_for(grd_file(2, (1, 1, 2)))
     c.equal('drawing: *SYSTEM', run(picture.main, ['--mesh', 'a.inp', 'a.txt', '-o', 'a.svg'], {'a.inp': deck, 'a.txt': listing}),
-            (1, '', 'a.inp:4: node 1 has no coordinates that are read here, so the mesh is not drawn\n', {}))
+            (1, '', 'a.inp:4: node 1%s\n' % none, {}))

@@ -37,16 +37,19 @@ def in_grd(c):
     c.holds('faults: of every kind', {b'nodes', b'refused 1\n', b'refused 9\n', b'refused 10\n', b'refused 12\n'} <= set(got))
     many = grd_file(4, (2, 1, 0, 7), (1, 3, 3), (3, 1, 2, 3, 4), (1, 5, 4)) + b'\0'
     c.equal('faults: all of them', [(refusal.number, refusal.where) for refusal in faults.of_grd(many)],
-            [(10, 'element 1 (byte 9), a triangle, has node 0, and the nodes are 1 to 4'), (10, 'element 1 (byte 9), a triangle, has node 7, and the nodes are 1 to 4'),
+            [(10, 'element 1 (byte 9), a triangle, has node 0, and the nodes are 1 to 4'),
+             (10, 'element 1 (byte 9), a triangle, has node 7, and the nodes are 1 to 4'),
              (10, 'element 2 (byte 17), a bar, has node 3 twice'), (10, 'element 4 (byte 33), a bar, has node 5, and the nodes are 1 to 4'),
              (12, 'bytes left over after the last element: 1')])
-    c.equal('faults: too many nodes, and an unknown kind', [refusal.number for refusal in faults.of_grd(grd_file(5000, (1, 1, 5000), (11, 1), (1, 2, 2)))], [1, 9])
+    c.equal('faults: too many nodes, and an unknown kind',
+            [refusal.number for refusal in faults.of_grd(grd_file(5000, (1, 1, 5000), (11, 1), (1, 2, 2)))], [1, 9])
 
 
 def in_words(c):
     def told(data):
         answer = program.text_for(data)
-        return run(lambda words: print('\n'.join(explain.explained('a.grd', answer.decode('ascii').splitlines()))), [], {'a.grd': data})[1].splitlines()
+        return run(lambda words: print('\n'.join(explain.explained('a.grd', answer.decode('ascii').splitlines()))), [],
+                   {'a.grd': data})[1].splitlines()
     lines = told(grd_file(3, (2, 1, 2, 1), (1, 2, 2)))
     c.equal('explain: the refusal first', lines, ['refused 10: %s; element 1 (byte 9), a triangle, has node 1 twice' % grd.MEANING[10],
                                                   'also: element 2 (byte 17), a bar, has node 2 twice (10)'])
@@ -69,7 +72,8 @@ def in_sources(c):
             return first
         status, _, err, _ = run(work, [], {name: text})
         c.equal('faults: ' + text[:30], got, [name + words for words in wanted])
-        c.equal('faults: the conversion ends by the first: ' + text[:30], (bool(status), err), (bool(wanted), name + wanted[0] + '\n' if wanted else ''))
+        c.equal('faults: the conversion ends by the first: ' + text[:30], (bool(status), err),
+                (bool(wanted), name + wanted[0] + '\n' if wanted else ''))
     deck = 'GRID,1\nGRID,2\nGRID,2\nGRID,4\nCROD,1,1,1,2\nCROD,1,1,2,4\nCTRIA3,2,1,1,2,2\nCNOTHING,3,1\n'
     lines = [':3: node 2 is given twice, first on line 2', ':6: element 1 (CROD) is given twice, first on line 5',
              ':8: card CNOTHING is not known, and might join nodes; --ignore CNOTHING leaves it out', ':7: element 2 (CTRIA3): node 2 stands twice',
@@ -81,10 +85,13 @@ def in_sources(c):
     found('a.bdf', 'GRID,1\nGRID,2\nCROD,1,1,1,2\n', [])
     found('a.inp', '*NODE\n1,0,0\n2,1,0\nx,1,1\n*ELEMNT, TYPE=T3D2\n1,1,2\n*ELEMENT, TYPE=T3D2\n2,1\n3,1,2\n*TIE\nA,B\n',
           [":4: node number: 'x' is no whole number", ':5: *ELEMNT is not known, and might join nodes; --ignore ELEMNT leaves it out',
-           ':8: element 2 (T3D2): 1 nodes, and it needs 2; a line that goes on ends with a comma', ':10: *TIE joins nodes, and GRD has no place for that; --ignore TIE leaves it out'])
-    found('a.msh', '$MeshFormat\n2.2 0 8\n$EndMeshFormat\n$Nodes\n3\n1 0 0 0\n2 1 0 0\n2 1 1 0\n$EndNodes\n$Elements\n3\n1 1 0 1 2\n2 2 0 1 2\n3 999 0 1 2\n$EndElements\n$Strange\n$EndStrange\n',
+           ':8: element 2 (T3D2): 1 nodes, and it needs 2; a line that goes on ends with a comma',
+           ':10: *TIE joins nodes, and GRD has no place for that; --ignore TIE leaves it out'])
+    found('a.msh', '$MeshFormat\n2.2 0 8\n$EndMeshFormat\n$Nodes\n3\n1 0 0 0\n2 1 0 0\n2 1 1 0\n$EndNodes\n'
+          '$Elements\n3\n1 1 0 1 2\n2 2 0 1 2\n3 999 0 1 2\n$EndElements\n$Strange\n$EndStrange\n',
           [':8: node 2 is given twice, first on line 7', ':13: element 2 (3-node triangle): 2 nodes, and it needs 3',
-           ":14: element 3 has type 999, which is not known; --ignore 'type 999' leaves it out", ':16: $Strange is not known, and might join nodes; --ignore Strange leaves it out'])
+           ":14: element 3 has type 999, which is not known; --ignore 'type 999' leaves it out",
+           ':16: $Strange is not known, and might join nodes; --ignore Strange leaves it out'])
 
 
 def in_parts(c):
@@ -94,5 +101,6 @@ def in_parts(c):
     lines = parts.warnings(mesh, [10 * p for p in range(1, 31)])
     c.equal('parts: no more than eight', (len(lines), lines[0], lines[8], lines[9]),
             (11, 'warning: the mesh falls into 10 parts that no element joins', '  part 8, 2 nodes: 220, 230', '  and 2 parts more'))
-    c.equal('parts: loose nodes', lines[10], 'warning: in no element, each a part of its own, 10 nodes: 30, 60, 90, 120, 150, 180, 210, 240, 270, 300')
+    c.equal('parts: loose nodes', lines[10],
+            'warning: in no element, each a part of its own, 10 nodes: 30, 60, 90, 120, 150, 180, 210, 240, 270, 300')
     c.equal('parts: one part', parts.warnings(grd.Mesh(2, [(1, [1, 2])]), [1, 2]), [])

@@ -79,7 +79,8 @@ def cells(path):
 def overwritten(c):
     """The listing, the mesh and another's drawing stay; an older picture goes."""
     files = {'a.grd': SAMPLE, 'a.txt': LISTING, 'b.svg': b'<svg xmlns="http://www.w3.org/2000/svg"></svg>\n'}
-    for output, status, message in (('a.txt', 2, 'a.txt: is an input (a.txt), and stays as it is\n'), ('a.grd', 2, 'a.grd: is an input (a.grd), and stays as it is\n'),
+    for output, status, message in (('a.txt', 2, 'a.txt: is an input (a.txt), and stays as it is\n'),
+                                    ('a.grd', 2, 'a.grd: is an input (a.grd), and stays as it is\n'),
                                     ('b.svg', 2, 'b.svg: stands there already and is not a picture of picture.py; --force writes over it\n')):
         c.equal('picture: over ' + output, run(picture.main, ['a.grd', 'a.txt', '-o', output], files), (status, '', message, {}))
 
@@ -156,7 +157,8 @@ def refused(c):
         got = run(picture.main, list(options) + ['a.grd', 'a.txt', '-o', 'a.svg'], files)
         c.equal('picture: ' + name, got, (1, '', message + '\n', {}))
     for option in ('--mesh', '--both'):
-        fails('no coordinates', {'a.grd': SAMPLE, 'a.txt': LISTING}, 'a.grd: a GRD file has no coordinates: give the mesh file that it was made from', option)
+        fails('no coordinates', {'a.grd': SAMPLE, 'a.txt': LISTING},
+              'a.grd: a GRD file has no coordinates: give the mesh file that it was made from', option)
     fails('broken mesh', {'a.grd': SAMPLE[:-1], 'a.txt': LISTING},
           'a.grd: refused 12: %s; the file ends within element 4 (byte 27), a bar' % grd.MEANING[12])
     fails('broken listing', {'a.grd': SAMPLE, 'a.txt': LISTING.replace('4 1 1', '4 2 1')}, 'a.txt:5: new number 2 is given twice, first on line 2')

@@ -1,4 +1,4 @@
-"""The script `renumber` on meshes of every format, with the independent program in the proved one's place: tests/program.py holds the script to that."""
+"""The script `renumber` on meshes of every format, and how it builds, with stand-ins for the proved program and rt; tests/program.py has the real ones."""
 
 import glob
 import os
@@ -111,21 +111,26 @@ def strange(c, place):
     inp = '** a comment\n*NODE\n1,0,0\n2,1,0\n3,1,1\n*ELEMENT, TYPE=S3\n1,1,2,3\n'
     for name, text in (('a deck', DECK), ('a deck in small letters', DECK.lower()), ('a deck of elements', 'CTRIA3,1,1,1,2,3\n'),
                        ('a deck of elements in fixed field', 'CTRIA3         1       1       1       2       3\n'),
-                       ('a whole deck', 'SOL 101\nCEND\nTITLE = GRID\nBEGIN BULK\n' + DECK + 'ENDDATA\n'), ('a deck that begins with GRDSET', 'GRDSET\n' + DECK),
+                       ('a whole deck', 'SOL 101\nCEND\nTITLE = GRID\nBEGIN BULK\n' + DECK + 'ENDDATA\n'),
+                       ('a deck that begins with GRDSET', 'GRDSET\n' + DECK),
                        ('keywords', inp), ('keywords in small letters', inp.lower()), ('keywords after blank lines', '\n\n' + inp)):
         c.equal('script: ' + name, place.run(given=text.encode('ascii')), (0, TRIANGLE, ''))
     for name, data in (('a deck with a mark', b'\xef\xbb\xbf' + DECK.encode('ascii')), ('keywords in two bytes', inp.encode('utf-16')),
-                       ('a deck with CR LF', DECK.replace('\n', '\r\n').encode('ascii')), ('keywords with CR', inp.replace('\n', '\r').encode('ascii'))):
+                       ('a deck with CR LF', DECK.replace('\n', '\r\n').encode('ascii')),
+                       ('keywords with CR', inp.replace('\n', '\r').encode('ascii'))):
         c.equal('script: ' + name, place.run(given=data), (0, TRIANGLE, ''))
     lists = 'refused 12\n'.encode('ascii')
     for name, data in (('nothing', b''), ('prose', b'A mesh of CQUAD4 and GRID cards.\n'), ('a broken mark', b'gRD' + SAMPLE[3:]),
-                       ('a broken mark, with words as of a keyword', b'gRD' + grd_file(90, (2, 10, 42, 65))[3:]), ('another version', b'GRD\2' + SAMPLE[4:]),
+                       ('a broken mark, with words as of a keyword', b'gRD' + grd_file(90, (2, 10, 42, 65))[3:]),
+                       ('another version', b'GRD\2' + SAMPLE[4:]),
                        ('a picture', b'<svg></svg>\n'), ('zeros', bytes(50))):
         c.equal('script: %s goes to the program' % name, place.run(given=data), (1, lists, ''))
     words = grd_file(90, (2, 10, 42, 65))
     c.equal('script: a mesh with words as of a keyword', place.run(given=words), (0, program.text_for(words), ''))
-    c.equal('script: the wrong format by --from', place.run('--from', 'abaqus', given=DECK.encode('ascii')), (2, b'', 'standard input:1: data before the first keyword\n'))
-    c.equal('script: an unknown format', place.run('--from', 'unv', given=DECK.encode('ascii')), (2, b'', 'renumber: --from unv: the formats are gmsh, abaqus and nastran\n'))
+    c.equal('script: the wrong format by --from', place.run('--from', 'abaqus', given=DECK.encode('ascii')),
+            (2, b'', 'standard input:1: data before the first keyword\n'))
+    c.equal('script: an unknown format', place.run('--from', 'unv', given=DECK.encode('ascii')),
+            (2, b'', 'renumber: --from unv: the formats are gmsh, abaqus and nastran\n'))
     binary = b'$MeshFormat\n4.1 1 8\n\1\0\0\0\n$EndMeshFormat\n'
     c.equal('script: a binary Gmsh file is no text', place.run(given=binary)[:2], (1, lists))
 
@@ -143,7 +148,8 @@ def files_beside(c, place):
     c.equal('script: gaps closed', (status, out), (0, wanted))
     c.equal('script: what is said of it', err.splitlines(),
             ['plate.bdf: old number 1 of the listing is node 10, and so on by rising number; --nodes FILE writes them all',
-             'plate.bdf: warning: the mesh falls into 2 parts that no element joins', '  part 1, 6 nodes: 10, 20, 30, 40, 50, 60', '  part 2, 2 nodes: 70, 80',
+             'plate.bdf: warning: the mesh falls into 2 parts that no element joins', '  part 1, 6 nodes: 10, 20, 30, 40, 50, 60',
+             '  part 2, 2 nodes: 70, 80',
              'plate.bdf: warning: in no element, each a part of its own, 1 node: 90'])
     status, out, err = place.run('--compact', 'plate.bdf', '--picture', 'plate.svg', '--seqgp', 'cards', '--nodes', 'map')
     c.equal('script: all files', (status, out), (0, wanted))
@@ -153,9 +159,11 @@ def files_beside(c, place):
     c.equal('script: the map', place.get('map'), b''.join(b'%d %d\n' % (p, 10 * p) for p in range(1, 10)))
     made = run(to_seqgp.main, ['--nodes', 'm', 'l', '-o', 'a'], {'m': place.get('map'), 'l': wanted})[3]['a']
     c.equal('script: the cards', place.get('cards'), made)
-    c.equal('script: the page', (place.run('--compact', 'plate.bdf', '--picture', 'plate.html')[:2], bool(page.PAGE.pattern.fullmatch(place.get('plate.html')))), ((0, wanted), True))
+    c.equal('script: the page', (place.run('--compact', 'plate.bdf', '--picture', 'plate.html')[:2],
+                                 bool(page.PAGE.pattern.fullmatch(place.get('plate.html')))), ((0, wanted), True))
     grid = place.put('part.grd', SAMPLE)
-    c.equal('script: a GRD file drawn and carded', place.run('part.grd', '--picture', 'part.svg', '--seqgp', 'part.bdf')[:2], (0, program.text_for(SAMPLE)))
+    c.equal('script: a GRD file drawn and carded', place.run('part.grd', '--picture', 'part.svg', '--seqgp', 'part.bdf')[:2],
+            (0, program.text_for(SAMPLE)))
     c.holds('script: its matrix', b'elimination joins' in place.get('part.svg'))
     long = PLATE.replace(',10,', ',123456789,')
     status = place.run('--compact', '--seqgp', 'long', given=long.encode('ascii'))[0]
@@ -167,9 +175,12 @@ def kept(c, place, grid):
     """Nothing is written over an input or another's file, and then nothing is listed."""
     before = {name: place.get(name) for name in ('plate.bdf', 'part.grd', 'crates.txt')}
     for name, words, message in (('the mesh', ['part.grd', '--picture', 'part.grd'], 'part.grd: a picture ends with .svg, a page with .html\n'),
-                                 ('the mesh as cards', ['part.grd', '--seqgp', 'part.grd'], 'part.grd: stands there already and is not a file of SEQGP cards alone; --force writes over it\n'),
-                                 ('the deck', ['--compact', 'plate.bdf', '--seqgp', 'plate.bdf', '--force'], 'plate.bdf: is an input (plate.bdf), and stays as it is\n'),
-                                 ('another file', ['part.grd', '--nodes', 'crates.txt'], 'crates.txt: stands there already and is not a map of node numbers; --force writes over it\n'),
+                                 ('the mesh as cards', ['part.grd', '--seqgp', 'part.grd'],
+                                  'part.grd: stands there already and is not a file of SEQGP cards alone; --force writes over it\n'),
+                                 ('the deck', ['--compact', 'plate.bdf', '--seqgp', 'plate.bdf', '--force'],
+                                  'plate.bdf: is an input (plate.bdf), and stays as it is\n'),
+                                 ('another file', ['part.grd', '--nodes', 'crates.txt'],
+                                  'crates.txt: stands there already and is not a map of node numbers; --force writes over it\n'),
                                  ('no folder', ['part.grd', '--nodes', 'none/map'], 'none/map: No such file or directory\n'),
                                  ('one file twice', ['part.grd', '--nodes', 'x', '--seqgp', 'x'], 'x: two outputs would be this file\n')):
         status, out, err = place.run(*words)
@@ -197,10 +208,12 @@ def explained(c, place):
     c.equal('script: a deck explained', (status, out), (0, wanted))
     c.equal('script: in its own numbers', err.splitlines()[1:3] + err.splitlines()[-4:],
             ['In words (the answer is proved, this help is not):', '  9 nodes, 3 elements (bar 1, quadrilateral 2)',
-             '  warning: the mesh falls into 2 parts that no element joins', '    part 1, 6 nodes: 10, 20, 30, 40, 50, 60', '    part 2, 2 nodes: 70, 80',
+             '  warning: the mesh falls into 2 parts that no element joins', '    part 1, 6 nodes: 10, 20, 30, 40, 50, 60',
+             '    part 2, 2 nodes: 70, 80',
              '  warning: in no element, each a part of its own, 1 node: 90'])
     status, out, err = place.run('--explain', given=grd_file(3, (2, 1, 2, 1), (1, 2, 2)))
-    c.equal('script: all faults of a GRD file', (status, out, err.splitlines()[-1]), (1, b'refused 10\n', '  also: element 2 (byte 17), a bar, has node 2 twice (10)'))
+    c.equal('script: all faults of a GRD file', (status, out, err.splitlines()[-1]),
+            (1, b'refused 10\n', '  also: element 2 (byte 17), a bar, has node 2 twice (10)'))
     c.equal('script: an option for the reader', place.run('--ignore', 'CWHAT', given=(DECK + 'CWHAT,1\n').encode('ascii')),
             (0, TRIANGLE, 'standard input: left out by --ignore CWHAT: 1\n'))
 
@@ -211,7 +224,8 @@ def without_python(c, place):
     place.program('refused 12\\n')
     c.equal('script: no python, GRD', place.run(given=SAMPLE), (1, b'refused 12\n', ''))
     c.equal('script: no python, a deck', place.run(given=DECK.encode('ascii')),
-            (2, b'', 'renumber: standard input: this is no GRD file but a mesh of another format (nastran), and reading it needs python3, which is not on the path\n'))
+            (2, b'', 'renumber: standard input: this is no GRD file but a mesh of another format (nastran), and reading it needs python3, '
+                     'which is not on the path\n'))
     c.equal('script: no python, a picture', place.run('--picture', 'a.svg', given=SAMPLE),
             (2, b'', 'renumber: pictures, cards and maps need python3, which is not on the path\n'))
     c.equal('script: no python, explained', place.run('--explain', given=SAMPLE), (1, b'refused 12\n', 'renumber: --explain needs python3\n'))
@@ -229,15 +243,19 @@ def stale(c, place):
     older = 'renumber: the program is older than crates/renumber/src/main.rt, and '
     for name in ('', 'bin'):
         os.chmod(os.path.join(place.folder, 'target', name), 0o555)
-    c.equal('script: old, and target cannot be written', place.run(given=SAMPLE, anyone=True), (2, b'', older + 'nothing can be written in target: nothing is run\n'))
+    c.equal('script: old, and target cannot be written', place.run(given=SAMPLE, anyone=True),
+            (2, b'', older + 'nothing can be written in target: nothing is run\n'))
     os.chmod(os.path.join(place.folder, 'target'), 0o755)
-    c.equal('script: old, and no toolchain', place.run(given=SAMPLE), (2, b'', older + 'the Rattle toolchain (rt) is not on the path: nothing is run\n'))
+    c.equal('script: old, and no toolchain', place.run(given=SAMPLE),
+            (2, b'', older + 'the Rattle toolchain (rt) is not on the path: nothing is run\n'))
     shutil.rmtree(os.path.join(place.folder, 'target'))
     os.chmod(place.folder, 0o555)
     none = 'renumber: there is no program yet, and '
-    c.equal('script: none, and target cannot be made', place.run(given=SAMPLE, anyone=True), (2, b'', none + 'the folder target cannot be made: nothing is run\n'))
+    c.equal('script: none, and target cannot be made', place.run(given=SAMPLE, anyone=True),
+            (2, b'', none + 'the folder target cannot be made: nothing is run\n'))
     os.chmod(place.folder, 0o755)
-    c.equal('script: none, and no toolchain', place.run(given=SAMPLE), (2, b'', none + 'the Rattle toolchain (rt) is not on the path: nothing is run\n'))
+    c.equal('script: none, and no toolchain', place.run(given=SAMPLE),
+            (2, b'', none + 'the Rattle toolchain (rt) is not on the path: nothing is run\n'))
     shutil.rmtree(os.path.join(place.folder, 'target'))
     place.put('target', '')
     c.equal('script: none, and target is a file', place.run(given=SAMPLE), (2, b'', none + 'the folder target cannot be made: nothing is run\n'))
@@ -245,7 +263,8 @@ def stale(c, place):
     os.remove(os.path.join(place.folder, 'crates.txt'))
     place.put('commands/rt', '#!/bin/sh\n', 0o755)
     status, out, err = place.run(given=SAMPLE)
-    c.equal('script: nothing to build', (status, out, err.splitlines()[-1]), (2, b'', none + 'crates.txt does not say what it is made of: nothing is run'))
+    c.equal('script: nothing to build', (status, out, err.splitlines()[-1]),
+            (2, b'', none + 'crates.txt does not say what it is made of: nothing is run'))
 
 
 RT = """#!/bin/sh
@@ -264,7 +283,8 @@ def progress(c, place):
     """The first build: how many there are, how long it will take, and how far it is."""
     shutil.rmtree(os.path.join(place.folder, 'target'))
     place.put('crates.txt', 'one:\ntwo: one\nthree: one\nother: two\nrenumber: one two three io\n')
-    place.put('docs/TIMES.md', '# Times\n\n| Crate | check | edits |\n|---|---|---|\n| `one` | 60 | 0 |\n| `two` | 200 | 3 |\n| `three` | 180 | 0 |\n| `other` | 999 | 0 |\n| `renumber` | 240 | 1 |\n')
+    times = ['| `%s` | %d | 3 |\n' % pair for pair in (('one', 60), ('two', 200), ('three', 180), ('other', 999), ('renumber', 240))]
+    place.put('docs/TIMES.md', '# Times\n\n| Crate | check | edits |\n|---|---|---|\n' + ''.join(times))
     place.put('commands/rt', RT, 0o755)
     # two at a time: one, two beside three, renumber: 60 + 200 + 240 s; later at half the table's times
     lines = ['proving and building the program: 4 crates, about 8 minutes; what was proved before is not proved again',
@@ -279,4 +299,5 @@ def progress(c, place):
     os.remove(os.path.join(place.folder, 'target', 'bin', 'renumber'))
     status, out, err = place.run(given=SAMPLE)
     c.equal('script: without the table', err.splitlines()[:2],
-            ['renumber: proving and building the program: 4 crates; what was proved before is not proved again', 'renumber: 2 of 4: two proved in 100 s'])
+            ['renumber: proving and building the program: 4 crates; what was proved before is not proved again',
+             'renumber: 2 of 4: two proved in 100 s'])
