@@ -8,6 +8,7 @@ from collections import namedtuple
 import known
 from model import Fault, Model, Stop, integer, line_name
 from places import point
+from systems import KINDS, Systems
 
 # A card's nodes: their fields (field 1 is the element's number), how many of them it must have, and the GRD kind with the same corners.
 Nodes = namedtuple('Nodes', 'fields least shape')
@@ -59,14 +60,12 @@ Card = namedtuple('Card', 'line name fields')
 
 def read(source, ignore=()):
     """The model of the file and of those that it takes in. Without a GRID card the nodes are those that the elements name."""
-    model, seen, moved = Model(ignore), {}, False
+    model, seen, systems = Model(ignore), {}, Systems()
     for card in cards(bulk(source)):
         with source.each():
             read_card(card, model, seen)
-        # a system for all grid points that name none
-        moved = moved or card.name == 'GRDSET' and field(card, 2) not in ('', '0')
-    if moved:
-        model.places.clear()
+            note_place(card, systems)
+    systems.settle(model.places)
     if not model.nodes:
         model.nodes_from_elements()
     return model
@@ -74,7 +73,7 @@ def read(source, ignore=()):
 
 def read_card(card, model, seen):
     if card.name == 'GRID':
-        model.add_node(node(card, 1), card.line, place(card))
+        model.add_node(node(card, 1), card.line, point(card.fields[2:5]))
     elif card.name in CARDS:
         add_element(card, model, seen)
         second = card.fields[FIELDS_OF_ONE:]
@@ -207,9 +206,14 @@ def node(card, place):
     return integer(field(card, place), card.line, '%s, field %d' % (card.name, place + 1))
 
 
-def place(card):
-    """A grid point's coordinates, or None where they are given in a system of their own."""
-    return point(card.fields[2:5]) if field(card, 2) in ('', '0') else None
+def note_place(card, systems):
+    """The system that a grid point's coordinates are given in, or one that a card defines."""
+    if card.name == 'GRID':
+        systems.named[node(card, 1)] = field(card, 2)
+    elif card.name == 'GRDSET':
+        systems.common = field(card, 2)
+    elif card.name in KINDS:
+        systems.define(card.name, card.fields)
 
 
 def nodes_of(card, name):

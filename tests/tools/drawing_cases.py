@@ -13,6 +13,7 @@ import picture
 import places
 import program
 import to_grd
+from files import Source
 
 SVG = '{http://www.w3.org/2000/svg}'
 CUBE = [(x, y, z) for z in (0, 1) for x, y in ((0, 0), (1, 0), (1, 1), (0, 1))]
@@ -20,6 +21,7 @@ CUBE = [(x, y, z) for z in (0, 1) for x, y in ((0, 0), (1, 0), (1, 1), (0, 1))]
 
 def cases(c):
     numbers(c)
+    systems(c)
     seen(c)
     middles(c)
     shares(c)
@@ -38,6 +40,32 @@ def numbers(c):
             [(1.0, 2.0, 3.0), (1.0, 2.0, 0.0), None])
     turned = [tuple(round(x, 9) for x in places.turned(system, (2.0, 90.0, 30.0))) for system in ('C', 'S', '', 'R')]
     c.equal('places: cylindrical and spherical', turned, [(0.0, 2.0, 30.0), (0.0, 1.732050808, 1.0), (2.0, 90.0, 30.0), (2.0, 90.0, 30.0)])
+
+
+def systems(c):
+    """NASTRAN's systems: a point of each, one within another, and those that are not known."""
+    deck = ('CORD2R,1,0,1.,0.,0.,1.,0.,5.\n,1.,9.,0.\nCORD2C,2,,1.,0.,0.,1.,0.,5.\n,2.,0.,7.\nCORD2S,3,,0.,0.,0.,0.,0.,1.\n,1.,0.,0.\n'
+            'CORD2R,4,1,1.,0.,0.,1.,0.,1.\n,2.,0.,0.\nCORD2R,5,6,0.,0.,0.,0.,0.,1.\n,1.,0.,0.\nCORD2R,6,5,0.,0.,0.,0.,0.,1.\n,1.,0.,0.\n'
+            'CORD2R,7,,0.,0.,0.,0.,0.,0.\n,1.,0.,0.\nCORD1R,8,1,2,3\n')
+    points = [(1, '2.,3.,4.'), (2, '2.,90.,3.'), (3, '2.,90.,0.'), (3, '2.,30.,90.'), (4, '1.,1.,1.'), (0, '1.,2.,3.'), (5, '1.,1.,1.'),
+              (7, '1.,1.,1.'), (8, '1.,1.,1.'), (9, '1.,1.,1.')]
+    grid = ''.join('GRID,%d,%d,%s\n' % (i, system, place) for i, (system, place) in enumerate(points, 1))
+    wanted = [(-2, 2, 4), (1, 2, 3), (2, 0, 0), (0, 1, 1.732051), (0, 2, 1), (1, 2, 3)] + [None] * 4
+    got = read_places(deck + grid)
+    c.equal('systems: NASTRAN', [place and tuple(round(x, 6) + 0.0 for x in place) for place in got], wanted)
+    c.equal('systems: GRDSET', read_places('GRDSET,,2\nGRID,1,,2.,90.,3.\nGRID,2,0,2.,90.,3.\n' + deck)[1], (2.0, 90.0, 3.0))
+    c.equal('systems: GRDSET for a point that names none', [round(x, 6) for x in read_places(deck + 'GRID,1,,2.,90.,3.\nGRDSET,,2\n')[0]], [1, 2, 3])
+
+
+def read_places(deck):
+    """The coordinates of a deck's grid points, by rising number."""
+    found = []
+
+    def work(_):
+        model = to_grd.model_of(Source('a.bdf'))
+        found.extend(model.places[number] for number in sorted(model.nodes))
+    run(work, [], {'a.bdf': deck})
+    return found
 
 
 # What is seen.
