@@ -3,6 +3,7 @@
 Every other keyword must be known to join nothing: a misspelt *ELEMENT is refused, not passed over.
 """
 
+import re
 from collections import namedtuple
 from string import ascii_uppercase
 
@@ -57,6 +58,8 @@ OUTSIDE = {name: what for what, names in {
     'joins faces': 'EQUATIONF, CAVITY DEFINITION',
     'may join faces that see one another': 'RADIATE',
 }.items() for name in known.names(names)}
+
+MEMBER = re.compile('[0-9]{1,18}')
 
 # data: pairs of a line and its text
 Block = namedtuple('Block', 'line name parameters data')
@@ -201,7 +204,7 @@ def set_members(block):
     """The element numbers that a set names, each with its line. A range may have gaps."""
     if 'GENERATE' in block.parameters:
         return {}
-    return {int(word): line for line, text in block.data for word in text.split(',') if word.strip().isdecimal()}
+    return {int(word): line for line, text in block.data for word in map(str.strip, text.split(',')) if MEMBER.fullmatch(word)}
 
 
 def test_member(number, line, model, seen):

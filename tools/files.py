@@ -80,6 +80,8 @@ class Source:
 
     def included(self, line, name):
         """The lines of the file that this line takes in, sought from the folder of the line's own file."""
+        if '\0' in name:
+            raise Fault(line, 'takes in a file with a zero in its name')
         path = os.path.join(os.path.dirname(line.files[-1]), name)
         if any(os.path.realpath(path) == os.path.realpath(other) for other in line.files):
             raise Stop(line, 'takes in %s, which stands around it already' % name)

@@ -104,9 +104,10 @@ class Model:
 
 def integer(text, line, what):
     # int alone would take 1_000 too, and no bound
-    if not WHOLE.fullmatch(text.strip()):
-        raise Fault(line, '%s: %r is no whole number' % (what, text.strip()))
-    return int(text)
+    word = text.strip()
+    if not WHOLE.fullmatch(word):
+        raise Fault(line, '%s: %r is no whole number' % (what, word))
+    return int(word)
 
 
 # From a model to a mesh.

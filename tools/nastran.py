@@ -38,6 +38,12 @@ CARDS = {name: Nodes(fields, least, shape) for names, fields, least, shape in (
 TWO = {'CROD', 'CTUBE', 'CVISC'}
 FIELDS_OF_ONE = 4
 
+# Fields behind the nodes of a shell that hold a real number or nothing: a whole number there is a node of a larger shell under a wrong name.
+REAL = {name: fields for names, fields in (
+    ('CTRIA3 CTRIAR', (7, 8)), ('CQUAD4 CQUADR', (8,)), ('CTRIA6', (10, 11, 12, 13)), ('CQUAD8', (11, 12, 13, 14, 16)),
+    ('CTRIA1 CTRIA2 CTRMEM CTRPLT CTRBSC', (6, 7, 8)), ('CSHEAR CQUAD1 CQUAD2 CQDMEM CQDMEM1 CQDMEM2 CQDPLT CTWIST', (7, 8)),
+) for name in names.split()}
+
 # Solids have nothing behind their nodes.
 SOLIDS = (4, 5, 6, 7)
 
@@ -225,6 +231,9 @@ def nodes_of(card, name):
             raise Fault(card.line, '%s has no node in field %d' % (name, at + 1))
     if shape in SOLIDS and any(card.fields[places[-1]:]):
         raise Fault(card.line, '%s has more than %d nodes' % (name, len(places)))
+    for at in REAL.get(card.name, ()):
+        if field(card, at).lstrip('0').isdecimal():
+            raise Fault(card.line, '%s has a whole number in field %d, where no node can be' % (name, at + 1))
     return [node(card, at) for at in given]
 
 

@@ -145,6 +145,7 @@ def included(c):
     converts(c, 'inp: data of other files', 'a.inp', '*NODE, INPUT=n.txt\n*ELEMENT, TYPE=S4, INPUT=e.txt\n', MESH,
              files={'n.txt': '** numbers\n' + rows, 'e.txt': '1, 1, 2,\n3, 4\n'})
     fails(c, 'inp: no such file to include', 'a.inp', NODES + '*INCLUDE, INPUT=more.inp\n', ':6: takes in more.inp: No such file or directory')
+    fails(c, 'inp: include of a name with a zero', 'a.inp', NODES + '*INCLUDE, INPUT=a\0b\n', ':6: takes in a file with a zero in its name')
     fails(c, 'inp: include of nothing', 'a.inp', NODES + '*INCLUDE\n', ':6: *INCLUDE without INPUT=')
     loop = {'b.inp': NODES + '*INCLUDE, INPUT=./a.inp\n'}
     got = run(to_grd.main, ['a.inp', '-o', 'out.grd'], dict(loop, **{'a.inp': '*INCLUDE, INPUT=b.inp\n' + QUAD}))
@@ -214,4 +215,5 @@ def texts(c):
     fails(c, 'inp: data first', 'a.inp', '1, 0.\n' + NODES, ':1: data before the first keyword')
     fails(c, 'inp: keyword cut', 'a.inp', NODES + '*ELEMENT,\n', ':6: the file ends within a keyword')
     fails(c, 'inp: no elements', 'a.inp', NODES, ': no elements found')
+    converts(c, 'inp: blanks of other kinds', 'a.inp', NODES + '*ELEMENT, TYPE=S4\n\x1f1,\t1, 2,\xa03, 4\n', MESH)
     fails(c, 'inp: blank node number', 'a.inp', '*NODE\n, 1.\n' + QUAD, ":2: node number: '' is no whole number")

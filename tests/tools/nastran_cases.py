@@ -92,6 +92,9 @@ def other_counts(c):
     for card, most in (('CHEXA', 27), ('CPENTA', 18), ('CPYRAM', 14), ('CTETRA', 10)):
         fails(c, 'nastran: %s with a node too many' % card, 'a.bdf', free(card, 1, 1, *range(1, most + 2)),
               ':1: element 1 (%s) has more than %d nodes' % (card, most))
+    converts(c, 'nastran: an offset and a system behind the nodes', 'a.bdf',
+             free('CTRIA3', 1, 1, 1, 2, 3, 7, 0.5) + free('CQUAD4', 2, 1, 1, 2, 3, 4, 7, 0),
+             grd_file(4, (2, 1, 2, 3), (3, 1, 2, 3, 4)))
     converts(c, 'nastran: CTRIAX6', 'a.bdf', free('CTRIAX6', 1, 1, 1, 2, 3, 4, 5, 6), grd_file(6, (8, 1, 3, 5, 2, 4, 6)))
 
 
@@ -167,6 +170,9 @@ def edits(c):
 
 def texts(c):
     """Files made for one mistake."""
+    for name, text in (('CTRIA3', 'CTRIA3,1,1,1,2,3,4,5,6\n'), ('CQUAD8', 'CQUAD8,1,1,1,2,3,4,5,6\n,7,8,9\n')):
+        fails(c, 'nastran: %s with a node too many' % name, 'a.bdf', text,
+              ':1: element 1 (%s) has a whole number in field %d, where no node can be' % (name, 8 if name == 'CTRIA3' else 12))
     stops(c, 'nastran: warping points', 'a.bdf', 'CBEAM,1,1,1,2,0.,0.,1.\n,,\n,3,4\n',
           ':1: element 1 (CBEAM) has warping points, and GRD has no kind for that')
     fails(c, 'nastran: last continuation missing', 'a.bdf', '%-72s+A\n' % 'CPENTA  1       1       1       2       3       4       5       6',
