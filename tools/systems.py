@@ -1,18 +1,21 @@
 """NASTRAN's coordinate systems, for drawings: CORD2R, CORD2C and CORD2S cards, and what grid points name. Of others nothing is known here."""
 
 import math
+import re
 
 from places import point, turned
 
 KINDS = {'CORD2R': 'R', 'CORD2C': 'C', 'CORD2S': 'S'}
 BASIC = 0
+# isdigit would take a raised 3 too, which int does not
+WHOLE = re.compile('[0-9]{1,18}')
 
 
 def number_of(text):
     """A system's number, the basic one for a blank, or None."""
     if not text:
         return BASIC
-    return int(text) if text.isdigit() else None
+    return int(text) if WHOLE.fullmatch(text) else None
 
 
 def combined(origin, *pairs):

@@ -202,7 +202,7 @@ def texts(c):
     stops(c, 'inp: a set with an element that is not there', 'a.inp', NODES + QUAD + '*ELSET, ELSET=A\n1, 7,\n8\n',
           ':9: the set names element 7, which is not in the file; --ignore ELSET leaves it out')
     left_out(c, 'inp: such a set left out', 'a.inp', NODES + QUAD + '*ELSET, ELSET=A\n1, 7,\n8\n', MESH, 'ELSET', 2)
-    converts(c, 'inp: sets of elements', 'a.inp', '*ELSET, ELSET=A\n1, 9\n*ELSET, ELSET=B, GENERATE\n1, 9, 1\n*ELSET, ELSET=C\nA, B\n' + NODES + QUAD
+    converts(c, 'inp: sets of elements', 'a.inp', '*ELSET, ELSET=A\n1, 9\n*ELSET, ELSET=B, GENERATE\n2, 8, 2\n*ELSET, ELSET=C\nA, B\n' + NODES + QUAD
              + '*ELEMENT, TYPE=MASS\n9, 2\n', MESH)
     stops(c, 'inp: two parts', 'a.inp', '*PART, NAME=A\n' + NODES + QUAD + '*END PART\n*PART, NAME=B\n' + NODES,
           ':10: a second *PART: node numbers start again in each; write the model without parts')
@@ -215,5 +215,5 @@ def texts(c):
     fails(c, 'inp: data first', 'a.inp', '1, 0.\n' + NODES, ':1: data before the first keyword')
     fails(c, 'inp: keyword cut', 'a.inp', NODES + '*ELEMENT,\n', ':6: the file ends within a keyword')
     fails(c, 'inp: no elements', 'a.inp', NODES, ': no elements found')
-    converts(c, 'inp: blanks of other kinds', 'a.inp', NODES + '*ELEMENT, TYPE=S4\n\x1f1,\t1, 2,\xa03, 4\n', MESH)
+    converts(c, 'inp: blanks of other kinds', 'a.inp', NODES + '*ELEMENT, TYPE=S4\n1,\t1,\x1f2,\xa03, 4\n', MESH)
     fails(c, 'inp: blank node number', 'a.inp', '*NODE\n, 1.\n' + QUAD, ":2: node number: '' is no whole number")

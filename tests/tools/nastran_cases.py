@@ -69,6 +69,7 @@ def cards(c):
         converts(c, 'nastran: ' + card, 'a.bdf', free(card, 1, 1, *nodes), grd_file(count, [kind] + nodes))
     converts(c, 'nastran: CPYRA', 'a.bdf', 'CPYRA,1,1,1,2,3,4,5\n', grd_file(5, (5, 1, 2, 3, 4, 5)))
     converts(c, 'nastran: thickness behind the nodes', 'a.bdf', 'CTRIA6,1,1,6,5,4,3,2,1\n,30.,,1.,1.,1.\n', grd_file(6, (8, 6, 5, 4, 3, 2, 1)))
+    converts(c, 'nastran: a system that is no number', 'a.bdf', 'GRID,1,\xb3,0.,0.,0.\nGRID,2,x\nCROD,1,1,1,2\n', grd_file(2, (1, 1, 2)))
     converts(c, 'nastran: tabs', 'a.bdf', 'CROD\t5\t1\t2\t1\n', grd_file(2, (1, 2, 1)))
     converts(c, 'nastran: comments', 'a.bdf', '$ first\n\nCROD    5       1       2       1       $ last\n', grd_file(2, (1, 2, 1)))
     converts(c, 'nastran: sixteen columns, then eight', 'a.bdf',
