@@ -123,7 +123,7 @@ def strange(c, place):
     for name, data in (('nothing', b''), ('prose', b'A mesh of CQUAD4 and GRID cards.\n'), ('a broken mark', b'gRD' + SAMPLE[3:]),
                        ('a broken mark, with words as of a keyword', b'gRD' + grd_file(90, (2, 10, 42, 65))[3:]),
                        ('another version', b'GRD\2' + SAMPLE[4:]),
-                       ('a picture', b'<svg></svg>\n'), ('zeros', bytes(50))):
+                       ('the mark alone before keywords', b'GRD\n*NODE\n1,0,0\n'), ('a picture', b'<svg></svg>\n'), ('zeros', bytes(50))):
         c.equal('script: %s goes to the program' % name, place.run(given=data), (1, lists, ''))
     words = grd_file(90, (2, 10, 42, 65))
     c.equal('script: a mesh with words as of a keyword', place.run(given=words), (0, program.text_for(words), ''))
