@@ -11,7 +11,7 @@ import re
 import subprocess
 import sys
 
-from callers import TOP, build_library
+from staticlib import TOP, build_library
 
 # The C functions that a program rests on; they are stated in the toolchain's libc.
 STATED = ('read', 'write')

@@ -11,7 +11,8 @@ import subprocess
 import sys
 import tempfile
 
-TOP = os.path.dirname(os.path.dirname(os.path.abspath(__file__)))
+from staticlib import LIBRARY, TOP, build_library
+
 sys.path[:0] = [os.path.join(TOP, 'tests', part) for part in ('reference', 'vectors')]
 
 import calls
@@ -19,7 +20,6 @@ from files import all_files
 from listing import nodes_of_file, words_after_header
 from program import text_for
 
-LIBRARY = os.path.join('target', 'staticlib', 'libcapi.a')
 MESHES = ('bracket', 'two_parts')
 
 # `renumber` is run on every so many-th of the files that reading_test is run on.
@@ -62,15 +62,6 @@ def expected(file):
         'elimination: marked {} new {}'.format(marks, new),
         'store: places {} marked {} edges {}'.format(profile, marks, entries // 2),
     ]) + '\n'
-
-
-def newest(folder):
-    return max(os.path.getmtime(os.path.join(where, name)) for where, _, names in os.walk(folder) for name in names)
-
-
-def build_library():
-    if not os.path.exists(LIBRARY) or os.path.getmtime(LIBRARY) < newest('crates'):
-        subprocess.run(['rt', 'staticlib', 'capi'], check=True, stdout=subprocess.DEVNULL)
 
 
 def broken(mesh):

@@ -6,7 +6,7 @@ import subprocess
 from array import array
 from collections import namedtuple
 
-from callers import LIBRARY, TOP, build_library
+from staticlib import LIBRARY, TOP, build_library
 from header import declared
 
 SHARED = os.path.join(TOP, 'target', 'staticlib', 'libcapi.so')
