@@ -1,5 +1,6 @@
 // The adjacency test and the calls of `levels`.
 ghost use mathlib.Core.Path.{_≡_};
+ghost use Rattle.basis.specs.Moments.{was, left};
 ghost use Rattle.spec.specs.CallsLevels.{adjacencyAnswer, rootedAnswer, rootedLevels, endsAnswer, endsScratch, combinedAnswer, combinedLevels, combinedScratch};
 ghost use Rattle.spec.specs.Graph.{graphRefusal};
 ghost use Rattle.capi_figures.specs.Figures.{number, answerC, lentC, figuresC, rootedList, endsList, combinedList};
@@ -12,7 +13,7 @@ use capi_figures::or_five;
 // Whether the two lists are a legal graph. No figures.
 #[no_mangle]
 pub extern "C" fn wagonepoch_test_adjacency(starts: &[u16], neighbours: &[u16]) -> u16
-    ensures { λ r. ⌜ r ≡ number (adjacencyAnswer (now (starts .entry)) (now (neighbours .entry))) ⌝ }
+    ensures { λ r. ⌜ r ≡ number (adjacencyAnswer (was starts) (was neighbours)) ⌝ }
 {
     lists_refusal(starts, neighbours)
 }
@@ -26,9 +27,9 @@ pub extern "C" fn wagonepoch_rooted_levels(
     levels: &mut [u16],
     figures: &mut [u64],
 ) -> u16
-    ensures { λ r. ⌜ r ≡ answerC 3 (now (figures .entry)) (graphRefusal (now (starts .entry)) (now (neighbours .entry))) (rootedAnswer (now (starts .entry)) (now (neighbours .entry)) root (now (levels .entry))) ⌝ }
-    ensures { λ _. ⌜ now (figures .exit) ≡ figuresC 3 (now (figures .entry)) rootedList (rootedAnswer (now (starts .entry)) (now (neighbours .entry)) root (now (levels .entry))) ⌝ }
-    ensures { λ _. ⌜ now (levels .exit) ≡ lentC 3 (now (figures .entry)) (now (levels .entry)) (rootedLevels (now (starts .entry)) (now (neighbours .entry)) root (now (levels .entry))) ⌝ }
+    ensures { λ r. ⌜ r ≡ answerC 3 (was figures) (graphRefusal (was starts) (was neighbours)) (rootedAnswer (was starts) (was neighbours) root (was levels)) ⌝ }
+    ensures { λ _. ⌜ left figures ≡ figuresC 3 (was figures) rootedList (rootedAnswer (was starts) (was neighbours) root (was levels)) ⌝ }
+    ensures { λ _. ⌜ left levels ≡ lentC 3 (was figures) (was levels) (rootedLevels (was starts) (was neighbours) root (was levels)) ⌝ }
 {
     if figures.len() < 3 {
         return or_five(lists_refusal(starts, neighbours));
@@ -48,9 +49,9 @@ pub extern "C" fn wagonepoch_ends(
     scratch: &mut [u16],
     figures: &mut [u64],
 ) -> u16
-    ensures { λ r. ⌜ r ≡ answerC 6 (now (figures .entry)) (graphRefusal (now (starts .entry)) (now (neighbours .entry))) (endsAnswer (now (starts .entry)) (now (neighbours .entry)) node (now (scratch .entry))) ⌝ }
-    ensures { λ _. ⌜ now (figures .exit) ≡ figuresC 6 (now (figures .entry)) endsList (endsAnswer (now (starts .entry)) (now (neighbours .entry)) node (now (scratch .entry))) ⌝ }
-    ensures { λ _. ⌜ now (scratch .exit) ≡ lentC 6 (now (figures .entry)) (now (scratch .entry)) (endsScratch (now (starts .entry)) (now (neighbours .entry)) node (now (scratch .entry))) ⌝ }
+    ensures { λ r. ⌜ r ≡ answerC 6 (was figures) (graphRefusal (was starts) (was neighbours)) (endsAnswer (was starts) (was neighbours) node (was scratch)) ⌝ }
+    ensures { λ _. ⌜ left figures ≡ figuresC 6 (was figures) endsList (endsAnswer (was starts) (was neighbours) node (was scratch)) ⌝ }
+    ensures { λ _. ⌜ left scratch ≡ lentC 6 (was figures) (was scratch) (endsScratch (was starts) (was neighbours) node (was scratch)) ⌝ }
 {
     if figures.len() < 6 {
         return or_five(lists_refusal(starts, neighbours));
@@ -68,10 +69,10 @@ pub extern "C" fn wagonepoch_combined_levels(
     scratch: &mut [u16],
     figures: &mut [u64],
 ) -> u16
-    ensures { λ r. ⌜ r ≡ answerC 2 (now (figures .entry)) (graphRefusal (now (starts .entry)) (now (neighbours .entry))) (combinedAnswer (now (starts .entry)) (now (neighbours .entry)) node (now (levels .entry)) (now (scratch .entry))) ⌝ }
-    ensures { λ _. ⌜ now (figures .exit) ≡ figuresC 2 (now (figures .entry)) combinedList (combinedAnswer (now (starts .entry)) (now (neighbours .entry)) node (now (levels .entry)) (now (scratch .entry))) ⌝ }
-    ensures { λ _. ⌜ now (levels .exit) ≡ lentC 2 (now (figures .entry)) (now (levels .entry)) (combinedLevels (now (starts .entry)) (now (neighbours .entry)) node (now (levels .entry)) (now (scratch .entry))) ⌝ }
-    ensures { λ _. ⌜ now (scratch .exit) ≡ lentC 2 (now (figures .entry)) (now (scratch .entry)) (combinedScratch (now (starts .entry)) (now (neighbours .entry)) node (now (levels .entry)) (now (scratch .entry))) ⌝ }
+    ensures { λ r. ⌜ r ≡ answerC 2 (was figures) (graphRefusal (was starts) (was neighbours)) (combinedAnswer (was starts) (was neighbours) node (was levels) (was scratch)) ⌝ }
+    ensures { λ _. ⌜ left figures ≡ figuresC 2 (was figures) combinedList (combinedAnswer (was starts) (was neighbours) node (was levels) (was scratch)) ⌝ }
+    ensures { λ _. ⌜ left levels ≡ lentC 2 (was figures) (was levels) (combinedLevels (was starts) (was neighbours) node (was levels) (was scratch)) ⌝ }
+    ensures { λ _. ⌜ left scratch ≡ lentC 2 (was figures) (was scratch) (combinedScratch (was starts) (was neighbours) node (was levels) (was scratch)) ⌝ }
 {
     if figures.len() < 2 {
         return or_five(lists_refusal(starts, neighbours));

@@ -1,5 +1,6 @@
 // The mesh call.
 ghost use mathlib.Core.Path.{_≡_};
+ghost use Rattle.basis.specs.Moments.{was, left};
 ghost use Rattle.spec.specs.CallsMesh.{meshAnswer, meshStarts, meshNeighbours, meshScratch};
 ghost use Rattle.spec.specs.Graph.{badSize};
 ghost use Rattle.spec.specs.Refusal.{refuse};
@@ -30,11 +31,11 @@ pub extern "C" fn wagonepoch_mesh(
     scratch: &mut [u16],
     figures: &mut [u64],
 ) -> u16
-    ensures { λ r. ⌜ r ≡ answerC 1 (now (figures .entry)) (refuse (badSize n) 1) (meshAnswer n (now (elements .entry)) (now (starts .entry)) (now (neighbours .entry)) (now (scratch .entry))) ⌝ }
-    ensures { λ _. ⌜ now (figures .exit) ≡ figuresC 1 (now (figures .entry)) meshList (meshAnswer n (now (elements .entry)) (now (starts .entry)) (now (neighbours .entry)) (now (scratch .entry))) ⌝ }
-    ensures { λ _. ⌜ now (starts .exit) ≡ lentC 1 (now (figures .entry)) (now (starts .entry)) (meshStarts n (now (elements .entry)) (now (starts .entry)) (now (neighbours .entry)) (now (scratch .entry))) ⌝ }
-    ensures { λ _. ⌜ now (neighbours .exit) ≡ lentC 1 (now (figures .entry)) (now (neighbours .entry)) (meshNeighbours n (now (elements .entry)) (now (starts .entry)) (now (neighbours .entry)) (now (scratch .entry))) ⌝ }
-    ensures { λ _. ⌜ now (scratch .exit) ≡ lentC 1 (now (figures .entry)) (now (scratch .entry)) (meshScratch n (now (elements .entry)) (now (starts .entry)) (now (neighbours .entry)) (now (scratch .entry))) ⌝ }
+    ensures { λ r. ⌜ r ≡ answerC 1 (was figures) (refuse (badSize n) 1) (meshAnswer n (was elements) (was starts) (was neighbours) (was scratch)) ⌝ }
+    ensures { λ _. ⌜ left figures ≡ figuresC 1 (was figures) meshList (meshAnswer n (was elements) (was starts) (was neighbours) (was scratch)) ⌝ }
+    ensures { λ _. ⌜ left starts ≡ lentC 1 (was figures) (was starts) (meshStarts n (was elements) (was starts) (was neighbours) (was scratch)) ⌝ }
+    ensures { λ _. ⌜ left neighbours ≡ lentC 1 (was figures) (was neighbours) (meshNeighbours n (was elements) (was starts) (was neighbours) (was scratch)) ⌝ }
+    ensures { λ _. ⌜ left scratch ≡ lentC 1 (was figures) (was scratch) (meshScratch n (was elements) (was starts) (was neighbours) (was scratch)) ⌝ }
 {
     if figures.len() < 1 {
         return or_five(size_refusal(n));

@@ -1,5 +1,6 @@
 // The calls of the library of numberings.
 ghost use mathlib.Core.Path.{_≡_};
+ghost use Rattle.basis.specs.Moments.{was, left};
 ghost use Rattle.spec.specs.CallsNumbering.{measuresAnswer, measuresScratch, reportAnswer, reportScratch, runAnswer, runNumbers, runLevels, runScratch};
 ghost use Rattle.spec.specs.Graph.{graphRefusal};
 ghost use Rattle.capi_figures.specs.Figures.{answerC, lentC, figuresC, measuresList, reportList, runList};
@@ -18,9 +19,9 @@ pub extern "C" fn wagonepoch_measures(
     scratch: &mut [u16],
     figures: &mut [u64],
 ) -> u16
-    ensures { λ r. ⌜ r ≡ answerC 3 (now (figures .entry)) (graphRefusal (now (starts .entry)) (now (neighbours .entry))) (measuresAnswer (now (starts .entry)) (now (neighbours .entry)) (now (numbering .entry)) (now (scratch .entry))) ⌝ }
-    ensures { λ _. ⌜ now (figures .exit) ≡ figuresC 3 (now (figures .entry)) measuresList (measuresAnswer (now (starts .entry)) (now (neighbours .entry)) (now (numbering .entry)) (now (scratch .entry))) ⌝ }
-    ensures { λ _. ⌜ now (scratch .exit) ≡ lentC 3 (now (figures .entry)) (now (scratch .entry)) (measuresScratch (now (starts .entry)) (now (neighbours .entry)) (now (numbering .entry)) (now (scratch .entry))) ⌝ }
+    ensures { λ r. ⌜ r ≡ answerC 3 (was figures) (graphRefusal (was starts) (was neighbours)) (measuresAnswer (was starts) (was neighbours) (was numbering) (was scratch)) ⌝ }
+    ensures { λ _. ⌜ left figures ≡ figuresC 3 (was figures) measuresList (measuresAnswer (was starts) (was neighbours) (was numbering) (was scratch)) ⌝ }
+    ensures { λ _. ⌜ left scratch ≡ lentC 3 (was figures) (was scratch) (measuresScratch (was starts) (was neighbours) (was numbering) (was scratch)) ⌝ }
 {
     if figures.len() < 3 {
         return or_five(lists_refusal(starts, neighbours));
@@ -40,9 +41,9 @@ pub extern "C" fn wagonepoch_part_report(
     scratch: &mut [u16],
     figures: &mut [u64],
 ) -> u16
-    ensures { λ r. ⌜ r ≡ answerC 6 (now (figures .entry)) (graphRefusal (now (starts .entry)) (now (neighbours .entry))) (reportAnswer (now (starts .entry)) (now (neighbours .entry)) node (now (scratch .entry))) ⌝ }
-    ensures { λ _. ⌜ now (figures .exit) ≡ figuresC 6 (now (figures .entry)) reportList (reportAnswer (now (starts .entry)) (now (neighbours .entry)) node (now (scratch .entry))) ⌝ }
-    ensures { λ _. ⌜ now (scratch .exit) ≡ lentC 6 (now (figures .entry)) (now (scratch .entry)) (reportScratch (now (starts .entry)) (now (neighbours .entry)) node (now (scratch .entry))) ⌝ }
+    ensures { λ r. ⌜ r ≡ answerC 6 (was figures) (graphRefusal (was starts) (was neighbours)) (reportAnswer (was starts) (was neighbours) node (was scratch)) ⌝ }
+    ensures { λ _. ⌜ left figures ≡ figuresC 6 (was figures) reportList (reportAnswer (was starts) (was neighbours) node (was scratch)) ⌝ }
+    ensures { λ _. ⌜ left scratch ≡ lentC 6 (was figures) (was scratch) (reportScratch (was starts) (was neighbours) node (was scratch)) ⌝ }
 {
     if figures.len() < 6 {
         return or_five(lists_refusal(starts, neighbours));
@@ -63,11 +64,11 @@ pub extern "C" fn wagonepoch_run(
     scratch: &mut [u16],
     figures: &mut [u64],
 ) -> u16
-    ensures { λ r. ⌜ r ≡ answerC 8 (now (figures .entry)) (graphRefusal (now (starts .entry)) (now (neighbours .entry))) (runAnswer (now (starts .entry)) (now (neighbours .entry)) (now (numbers .entry)) (now (levels .entry)) (now (scratch .entry))) ⌝ }
-    ensures { λ _. ⌜ now (figures .exit) ≡ figuresC 8 (now (figures .entry)) runList (runAnswer (now (starts .entry)) (now (neighbours .entry)) (now (numbers .entry)) (now (levels .entry)) (now (scratch .entry))) ⌝ }
-    ensures { λ _. ⌜ now (numbers .exit) ≡ lentC 8 (now (figures .entry)) (now (numbers .entry)) (runNumbers (now (starts .entry)) (now (neighbours .entry)) (now (numbers .entry)) (now (levels .entry)) (now (scratch .entry))) ⌝ }
-    ensures { λ _. ⌜ now (levels .exit) ≡ lentC 8 (now (figures .entry)) (now (levels .entry)) (runLevels (now (starts .entry)) (now (neighbours .entry)) (now (numbers .entry)) (now (levels .entry)) (now (scratch .entry))) ⌝ }
-    ensures { λ _. ⌜ now (scratch .exit) ≡ lentC 8 (now (figures .entry)) (now (scratch .entry)) (runScratch (now (starts .entry)) (now (neighbours .entry)) (now (numbers .entry)) (now (levels .entry)) (now (scratch .entry))) ⌝ }
+    ensures { λ r. ⌜ r ≡ answerC 8 (was figures) (graphRefusal (was starts) (was neighbours)) (runAnswer (was starts) (was neighbours) (was numbers) (was levels) (was scratch)) ⌝ }
+    ensures { λ _. ⌜ left figures ≡ figuresC 8 (was figures) runList (runAnswer (was starts) (was neighbours) (was numbers) (was levels) (was scratch)) ⌝ }
+    ensures { λ _. ⌜ left numbers ≡ lentC 8 (was figures) (was numbers) (runNumbers (was starts) (was neighbours) (was numbers) (was levels) (was scratch)) ⌝ }
+    ensures { λ _. ⌜ left levels ≡ lentC 8 (was figures) (was levels) (runLevels (was starts) (was neighbours) (was numbers) (was levels) (was scratch)) ⌝ }
+    ensures { λ _. ⌜ left scratch ≡ lentC 8 (was figures) (was scratch) (runScratch (was starts) (was neighbours) (was numbers) (was levels) (was scratch)) ⌝ }
 {
     if figures.len() < 8 {
         return or_five(lists_refusal(starts, neighbours));

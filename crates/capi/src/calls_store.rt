@@ -1,5 +1,6 @@
 // The call of the library of the store.
 ghost use mathlib.Core.Path.{_≡_};
+ghost use Rattle.basis.specs.Moments.{was, left};
 ghost use Rattle.spec.specs.CallsStore.{eliminationAnswer, eliminationScratch, eliminationBytes};
 ghost use Rattle.spec.specs.Graph.{graphRefusal};
 ghost use Rattle.capi_figures.specs.Figures.{answerC, lentC, figuresC, eliminationList};
@@ -17,10 +18,10 @@ pub extern "C" fn wagonepoch_eliminate(
     bytes: &mut [u8],
     figures: &mut [u64],
 ) -> u16
-    ensures { λ r. ⌜ r ≡ answerC 2 (now (figures .entry)) (graphRefusal (now (starts .entry)) (now (neighbours .entry))) (eliminationAnswer (now (starts .entry)) (now (neighbours .entry)) (now (numbering .entry)) (now (scratch .entry)) (now (bytes .entry))) ⌝ }
-    ensures { λ _. ⌜ now (figures .exit) ≡ figuresC 2 (now (figures .entry)) eliminationList (eliminationAnswer (now (starts .entry)) (now (neighbours .entry)) (now (numbering .entry)) (now (scratch .entry)) (now (bytes .entry))) ⌝ }
-    ensures { λ _. ⌜ now (scratch .exit) ≡ lentC 2 (now (figures .entry)) (now (scratch .entry)) (eliminationScratch (now (starts .entry)) (now (neighbours .entry)) (now (numbering .entry)) (now (scratch .entry)) (now (bytes .entry))) ⌝ }
-    ensures { λ _. ⌜ now (bytes .exit) ≡ lentC 2 (now (figures .entry)) (now (bytes .entry)) (eliminationBytes (now (starts .entry)) (now (neighbours .entry)) (now (numbering .entry)) (now (scratch .entry)) (now (bytes .entry))) ⌝ }
+    ensures { λ r. ⌜ r ≡ answerC 2 (was figures) (graphRefusal (was starts) (was neighbours)) (eliminationAnswer (was starts) (was neighbours) (was numbering) (was scratch) (was bytes)) ⌝ }
+    ensures { λ _. ⌜ left figures ≡ figuresC 2 (was figures) eliminationList (eliminationAnswer (was starts) (was neighbours) (was numbering) (was scratch) (was bytes)) ⌝ }
+    ensures { λ _. ⌜ left scratch ≡ lentC 2 (was figures) (was scratch) (eliminationScratch (was starts) (was neighbours) (was numbering) (was scratch) (was bytes)) ⌝ }
+    ensures { λ _. ⌜ left bytes ≡ lentC 2 (was figures) (was bytes) (eliminationBytes (was starts) (was neighbours) (was numbering) (was scratch) (was bytes)) ⌝ }
 {
     if figures.len() < 2 {
         return or_five(lists_refusal(starts, neighbours));

@@ -3,6 +3,7 @@
 ghost use mathlib.Core.Path.{_≡_};
 ghost use Prim.Native.Nat.{_≤_};
 ghost use lib.ListN.{length};
+ghost use Rattle.basis.specs.Moments.{was, left};
 ghost use Rattle.levels.specs.Answers.{rootedMeaning, endsMeaning, combinedMeaning};
 ghost use Rattle.measures.specs.Answer.{meaning as measuresMeaning};
 ghost use Rattle.mesh.specs.Answer.{meaning as meshMeaning};
@@ -27,7 +28,7 @@ use store::Elimination;
 pub fn put_rooted(answer: RootedAnswer, list: &mut [u64]) -> u16
     requires { ⌜ 3 ≤ length (now list) ⌝ }
     ensures { λ r. ⌜ r ≡ number (rootedMeaning answer) ⌝ }
-    ensures { λ _. ⌜ now (list .exit) ≡ written rootedList (rootedMeaning answer) (now (list .entry)) ⌝ }
+    ensures { λ _. ⌜ left list ≡ written rootedList (rootedMeaning answer) (was list) ⌝ }
 {
     match answer {
         RootedAnswer::Refused(c) => c,
@@ -43,7 +44,7 @@ pub fn put_rooted(answer: RootedAnswer, list: &mut [u64]) -> u16
 pub fn put_ends(answer: EndsAnswer, list: &mut [u64]) -> u16
     requires { ⌜ 6 ≤ length (now list) ⌝ }
     ensures { λ r. ⌜ r ≡ number (endsMeaning answer) ⌝ }
-    ensures { λ _. ⌜ now (list .exit) ≡ written endsList (endsMeaning answer) (now (list .entry)) ⌝ }
+    ensures { λ _. ⌜ left list ≡ written endsList (endsMeaning answer) (was list) ⌝ }
 {
     match answer {
         EndsAnswer::Refused(c) => c,
@@ -72,7 +73,7 @@ pub fn put_ends(answer: EndsAnswer, list: &mut [u64]) -> u16
 pub fn put_combined(answer: CombinedAnswer, list: &mut [u64]) -> u16
     requires { ⌜ 2 ≤ length (now list) ⌝ }
     ensures { λ r. ⌜ r ≡ number (combinedMeaning answer) ⌝ }
-    ensures { λ _. ⌜ now (list .exit) ≡ written combinedList (combinedMeaning answer) (now (list .entry)) ⌝ }
+    ensures { λ _. ⌜ left list ≡ written combinedList (combinedMeaning answer) (was list) ⌝ }
 {
     match answer {
         CombinedAnswer::Refused(c) => c,
@@ -84,7 +85,7 @@ pub fn put_combined(answer: CombinedAnswer, list: &mut [u64]) -> u16
 pub fn put_measures(answer: MeasuresAnswer, list: &mut [u64]) -> u16
     requires { ⌜ 3 ≤ length (now list) ⌝ }
     ensures { λ r. ⌜ r ≡ number (measuresMeaning answer) ⌝ }
-    ensures { λ _. ⌜ now (list .exit) ≡ written measuresList (measuresMeaning answer) (now (list .entry)) ⌝ }
+    ensures { λ _. ⌜ left list ≡ written measuresList (measuresMeaning answer) (was list) ⌝ }
 {
     match answer {
         MeasuresAnswer::Refused(c) => c,
@@ -109,7 +110,7 @@ fn direction(d: Direction) -> u64
 pub fn put_report(answer: ReportAnswer, list: &mut [u64]) -> u16
     requires { ⌜ 6 ≤ length (now list) ⌝ }
     ensures { λ r. ⌜ r ≡ number (answerMeaning answer) ⌝ }
-    ensures { λ _. ⌜ now (list .exit) ≡ written reportList (answerMeaning answer) (now (list .entry)) ⌝ }
+    ensures { λ _. ⌜ left list ≡ written reportList (answerMeaning answer) (was list) ⌝ }
 {
     match answer {
         ReportAnswer::Refused(c) => c,
@@ -134,7 +135,7 @@ pub fn put_report(answer: ReportAnswer, list: &mut [u64]) -> u16
 pub fn put_run(answer: RunAnswer, list: &mut [u64]) -> u16
     requires { ⌜ 8 ≤ length (now list) ⌝ }
     ensures { λ r. ⌜ r ≡ number (runMeaning answer) ⌝ }
-    ensures { λ _. ⌜ now (list .exit) ≡ written runList (runMeaning answer) (now (list .entry)) ⌝ }
+    ensures { λ _. ⌜ left list ≡ written runList (runMeaning answer) (was list) ⌝ }
 {
     match answer {
         RunAnswer::Refused(c) => c,
@@ -158,7 +159,7 @@ pub fn put_run(answer: RunAnswer, list: &mut [u64]) -> u16
 pub fn put_elimination(answer: Elimination, list: &mut [u64]) -> u16
     requires { ⌜ 2 ≤ length (now list) ⌝ }
     ensures { λ r. ⌜ r ≡ number (eliminationMeaning answer) ⌝ }
-    ensures { λ _. ⌜ now (list .exit) ≡ written eliminationList (eliminationMeaning answer) (now (list .entry)) ⌝ }
+    ensures { λ _. ⌜ left list ≡ written eliminationList (eliminationMeaning answer) (was list) ⌝ }
 {
     match answer {
         Elimination::Refused(c) => c,
@@ -170,7 +171,7 @@ pub fn put_elimination(answer: Elimination, list: &mut [u64]) -> u16
 pub fn put_entries(answer: Entries, list: &mut [u64]) -> u16
     requires { ⌜ 1 ≤ length (now list) ⌝ }
     ensures { λ r. ⌜ r ≡ number (meshMeaning answer) ⌝ }
-    ensures { λ _. ⌜ now (list .exit) ≡ written meshList (meshMeaning answer) (now (list .entry)) ⌝ }
+    ensures { λ _. ⌜ left list ≡ written meshList (meshMeaning answer) (was list) ⌝ }
 {
     match answer {
         Entries::Refused(c) => c,

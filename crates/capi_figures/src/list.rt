@@ -3,6 +3,7 @@ ghost use mathlib.Core.Path.{_≡_};
 ghost use Prim.Native.Nat.{_≤_};
 ghost use lib.ListN.{length};
 ghost use Rattle.basis.specs.Lists.{overwrite};
+ghost use Rattle.basis.specs.Moments.{was, left};
 
 // A word as a figure.
 pub(crate) fn word(x: u16) -> u64
@@ -22,7 +23,7 @@ pub(crate) fn count(x: u32) -> u64
 pub(crate) fn put(figures: &[u64], list: &mut [u64]) -> u16
     requires { ⌜ length (now figures) ≤ length (now list) ⌝ }
     ensures { λ r. ⌜ r ≡ 0 ⌝ }
-    ensures { λ _. ⌜ now (list .exit) ≡ overwrite (now (figures .entry)) (now (list .entry)) ⌝ }
+    ensures { λ _. ⌜ left list ≡ overwrite (was figures) (was list) ⌝ }
 {
     let mut i = 0;
     while i < figures.len() {

@@ -9,6 +9,7 @@ ghost use lib.ListN.{length, drop, replicate};
 ghost use lib.Seq.{sets, slice};
 ghost use lib.Dec.{ltb};
 ghost use Rattle.basis.specs.Lists.{filterb};
+ghost use Rattle.basis.specs.Moments.{was, left};
 ghost use Rattle.spec.specs.Combined.{combined, widthOf};
 ghost use Rattle.spec.specs.Graph.{graphOf, sizeOf, graphRefusal};
 ghost use Rattle.spec.specs.Lent.{zeroed};
@@ -28,7 +29,7 @@ use words::wide;
 // Counts the second numbers of the members from the other end: k + 1 - b.
 fn turn(scratch: &mut [u16], n: usize, from: usize, to: usize, k: u16)
     requires { ⌜ Turnable n from to k (now scratch) ⌝ }
-    ensures { λ _. ⌜ now (scratch .exit) ≡ stored (2 * n) (turnedAt n k (now (scratch .entry))) (now (scratch .entry)) (membersOf n from to (now (scratch .entry))) ⌝ }
+    ensures { λ _. ⌜ left scratch ≡ stored (2 * n) (turnedAt n k (was scratch)) (was scratch) (membersOf n from to (was scratch)) ⌝ }
 {
     let mut i = from;
     while i < to {
@@ -41,8 +42,8 @@ fn turn(scratch: &mut [u16], n: usize, from: usize, to: usize, k: u16)
 // Puts the settled members into the queue. Returns how many there are.
 fn gather(scratch: &mut [u16], n: usize, from: usize, to: usize) -> usize
     requires { ⌜ Members n from to (now scratch) ⌝ }
-    ensures { λ r. ⌜ r ≡ length (filterb (settledAt n (now (scratch .entry))) (membersOf n from to (now (scratch .entry)))) ⌝ }
-    ensures { λ _. ⌜ now (scratch .exit) ≡ sets (now (scratch .entry)) n (filterb (settledAt n (now (scratch .entry))) (membersOf n from to (now (scratch .entry)))) ⌝ }
+    ensures { λ r. ⌜ r ≡ length (filterb (settledAt n (was scratch)) (membersOf n from to (was scratch))) ⌝ }
+    ensures { λ _. ⌜ left scratch ≡ sets (was scratch) n (filterb (settledAt n (was scratch)) (membersOf n from to (was scratch))) ⌝ }
 {
     let mut t = 0;
     let mut i = from;
@@ -62,8 +63,8 @@ fn gather(scratch: &mut [u16], n: usize, from: usize, to: usize) -> usize
 fn place_all(scratch: &mut [u16], n: usize, m: usize, narrow: bool)
     requires { ⌜ (n ≤ 4096) × (m ≤ n) × (6 * n ≤ length (now scratch)) ⌝ }
     requires { ⌜ PlaceableAll n (n - m) narrow (startsOf n m (workOf n (now scratch))) (workOf n (now scratch)) (heldOf n (now scratch)) ⌝ }
-    ensures { λ _. ⌜ workOf n (now (scratch .exit)) ≡ wordsAfter n narrow (startsOf n m (workOf n (now (scratch .entry)))) (workOf n (now (scratch .entry))) (heldOf n (now (scratch .entry))) ⌝ }
-    ensures { λ _. ⌜ heldOf n (now (scratch .exit)) ≡ levelsAfter n narrow (startsOf n m (workOf n (now (scratch .entry)))) (workOf n (now (scratch .entry))) (heldOf n (now (scratch .entry))) ⌝ }
+    ensures { λ _. ⌜ workOf n (left scratch) ≡ wordsAfter n narrow (startsOf n m (workOf n (was scratch))) (workOf n (was scratch)) (heldOf n (was scratch)) ⌝ }
+    ensures { λ _. ⌜ heldOf n (left scratch) ≡ levelsAfter n narrow (startsOf n m (workOf n (was scratch))) (workOf n (was scratch)) (heldOf n (was scratch)) ⌝ }
 {
     let mut i = 0;
     while i < m {
@@ -78,7 +79,7 @@ fn place_all(scratch: &mut [u16], n: usize, m: usize, narrow: bool)
 fn erase(scratch: &mut [u16], n: usize, base: usize, from: usize, to: usize)
     requires { ⌜ Members n from to (now scratch) ⌝ }
     requires { ⌜ base + n ≤ 4 * n ⌝ }
-    ensures { λ _. ⌜ now (scratch .exit) ≡ stored base nought (now (scratch .entry)) (membersOf n from to (now (scratch .entry))) ⌝ }
+    ensures { λ _. ⌜ left scratch ≡ stored base nought (was scratch) (membersOf n from to (was scratch)) ⌝ }
 {
     let mut i = from;
     while i < to {
@@ -102,7 +103,7 @@ fn level(
     requires { ⌜ Entry (graphOf (now starts) (now neighbours)) (firstOf (sizeOf (now starts)) from (workOf (sizeOf (now starts)) (now scratch))) (endsOf (graphOf (now starts) (now neighbours)) from (workOf (sizeOf (now starts)) (now scratch))) (sizeOf (now starts)) from to (workOf (sizeOf (now starts)) (now scratch)) (heldOf (sizeOf (now starts)) (now scratch)) ⌝ }
     requires { ⌜ k ≡ endsOf (graphOf (now starts) (now neighbours)) from (workOf (sizeOf (now starts)) (now scratch)) .k ⌝ }
     requires { ⌜ narrow ≡ ltb (endsOf (graphOf (now starts) (now neighbours)) from (workOf (sizeOf (now starts)) (now scratch)) .widthU) (endsOf (graphOf (now starts) (now neighbours)) from (workOf (sizeOf (now starts)) (now scratch)) .widthV) ⌝ }
-    ensures { λ _. ⌜ Levelled (graphOf (now (starts .entry)) (now (neighbours .entry))) (firstOf (sizeOf (now (starts .entry))) from (workOf (sizeOf (now (starts .entry))) (now (scratch .entry)))) (endsOf (graphOf (now (starts .entry)) (now (neighbours .entry))) from (workOf (sizeOf (now (starts .entry))) (now (scratch .entry)))) (sizeOf (now (starts .entry))) from to (workOf (sizeOf (now (starts .entry))) (now (scratch .entry))) (heldOf (sizeOf (now (starts .entry))) (now (scratch .entry))) (workOf (sizeOf (now (starts .entry))) (now (scratch .exit))) (heldOf (sizeOf (now (starts .entry))) (now (scratch .exit))) ⌝ }
+    ensures { λ _. ⌜ Levelled (graphOf (was starts) (was neighbours)) (firstOf (sizeOf (was starts)) from (workOf (sizeOf (was starts)) (was scratch))) (endsOf (graphOf (was starts) (was neighbours)) from (workOf (sizeOf (was starts)) (was scratch))) (sizeOf (was starts)) from to (workOf (sizeOf (was starts)) (was scratch)) (heldOf (sizeOf (was starts)) (was scratch)) (workOf (sizeOf (was starts)) (left scratch)) (heldOf (sizeOf (was starts)) (left scratch)) ⌝ }
 {
     let n = starts.len() - 1;
     turn(scratch, n, from, to, k);
@@ -115,7 +116,7 @@ fn level(
 // Sets count words from a on to 0.
 fn blank(scratch: &mut [u16], a: usize, count: usize)
     requires { ⌜ a + count ≤ length (now scratch) ⌝ }
-    ensures { λ _. ⌜ now (scratch .exit) ≡ sets (now (scratch .entry)) a (replicate count 0) ⌝ }
+    ensures { λ _. ⌜ left scratch ≡ sets (was scratch) a (replicate count 0) ⌝ }
 {
     let mut i = 0;
     while i < count {
@@ -128,8 +129,8 @@ fn blank(scratch: &mut [u16], a: usize, count: usize)
 fn tidy(scratch: &mut [u16], n: usize, from: usize, to: usize, k: usize)
     requires { ⌜ 6 * n ≤ length (now scratch) ⌝ }
     requires { ⌜ Clearable n from to k (workOf n (now scratch)) ⌝ }
-    ensures { λ _. ⌜ workOf n (now (scratch .exit)) ≡ zeroed (4 * n) (workOf n (now (scratch .entry))) ⌝ }
-    ensures { λ _. ⌜ heldOf n (now (scratch .exit)) ≡ heldOf n (now (scratch .entry)) ⌝ }
+    ensures { λ _. ⌜ workOf n (left scratch) ≡ zeroed (4 * n) (workOf n (was scratch)) ⌝ }
+    ensures { λ _. ⌜ heldOf n (left scratch) ≡ heldOf n (was scratch) ⌝ }
 {
     erase(scratch, n, 0, from, to);
     erase(scratch, n, 2 * n, from, to);
@@ -142,7 +143,7 @@ fn tidy(scratch: &mut [u16], n: usize, from: usize, to: usize, k: usize)
 fn copy_levels(scratch: &mut [u16], n: usize, from: usize, to: usize)
     requires { ⌜ 6 * n ≤ length (now scratch) ⌝ }
     requires { ⌜ Members n from to (now scratch) ⌝ }
-    ensures { λ _. ⌜ now (scratch .exit) ≡ stored (5 * n) (numberAt (3 * n) (now (scratch .entry))) (now (scratch .entry)) (membersOf n from to (now (scratch .entry))) ⌝ }
+    ensures { λ _. ⌜ left scratch ≡ stored (5 * n) (numberAt (3 * n) (was scratch)) (was scratch) (membersOf n from to (was scratch)) ⌝ }
 {
     let mut i = from;
     while i < to {
@@ -155,7 +156,7 @@ fn copy_levels(scratch: &mut [u16], n: usize, from: usize, to: usize)
 // Moves the levels of a part to the sixth area, which is 0.
 fn move_levels(scratch: &mut [u16], n: usize, from: usize, to: usize)
     requires { ⌜ Movable n from to (now scratch) ⌝ }
-    ensures { λ _. ⌜ now (scratch .exit) ≡ swapped n (now (scratch .entry)) ⌝ }
+    ensures { λ _. ⌜ left scratch ≡ swapped n (was scratch) ⌝ }
 {
     copy_levels(scratch, n, from, to);
     erase(scratch, n, 3 * n, from, to);
@@ -175,8 +176,8 @@ pub fn combine(
 ) -> u16
     requires { ⌜ graphRefusal (now starts) (now neighbours) ≡ 0 ⌝ }
     requires { ⌜ Given (graphOf (now starts) (now neighbours)) from to k «width_v» «width_u» (wordsOf (sizeOf (now starts)) (now scratch)) (slice (5 * sizeOf (now starts)) (6 * sizeOf (now starts)) (now scratch)) ⌝ }
-    ensures { λ r. ⌜ r ≡ widthOf k (combined (graphOf (now (starts .entry)) (now (neighbours .entry))) (endsOf (graphOf (now (starts .entry)) (now (neighbours .entry))) from (wordsOf (sizeOf (now (starts .entry))) (now (scratch .entry))))) ⌝ }
-    ensures { λ _. ⌜ now (scratch .exit) ≡ zeroed (4 * sizeOf (now (starts .entry))) (wordsOf (sizeOf (now (starts .entry))) (now (scratch .entry))) ++ (merged (graphOf (now (starts .entry)) (now (neighbours .entry))) (firstOf (sizeOf (now (starts .entry))) from (wordsOf (sizeOf (now (starts .entry))) (now (scratch .entry)))) (endsOf (graphOf (now (starts .entry)) (now (neighbours .entry))) from (wordsOf (sizeOf (now (starts .entry))) (now (scratch .entry)))) (slice (5 * sizeOf (now (starts .entry))) (6 * sizeOf (now (starts .entry))) (now (scratch .entry))) ++ drop (6 * sizeOf (now (starts .entry))) (now (scratch .entry))) ⌝ }
+    ensures { λ r. ⌜ r ≡ widthOf k (combined (graphOf (was starts) (was neighbours)) (endsOf (graphOf (was starts) (was neighbours)) from (wordsOf (sizeOf (was starts)) (was scratch)))) ⌝ }
+    ensures { λ _. ⌜ left scratch ≡ zeroed (4 * sizeOf (was starts)) (wordsOf (sizeOf (was starts)) (was scratch)) ++ (merged (graphOf (was starts) (was neighbours)) (firstOf (sizeOf (was starts)) from (wordsOf (sizeOf (was starts)) (was scratch))) (endsOf (graphOf (was starts) (was neighbours)) from (wordsOf (sizeOf (was starts)) (was scratch))) (slice (5 * sizeOf (was starts)) (6 * sizeOf (was starts)) (was scratch)) ++ drop (6 * sizeOf (was starts)) (was scratch)) ⌝ }
 {
     let n = starts.len() - 1;
     blank(scratch, 3 * n, to - from);

@@ -4,6 +4,7 @@ ghost use mathlib.Core.Path.{_≡_};
 ghost use mathlib.Core.Bool.{true};
 ghost use Prim.Native.Nat.{_+_, _-_, _*_, _≤_, _<_};
 ghost use lib.ListN.{length};
+ghost use Rattle.basis.specs.Moments.{was, left};
 ghost use Rattle.spec.specs.Graph.{graphOf, sizeOf, graphRefusal};
 ghost use Rattle.laws.specs.Legal.{Node};
 ghost use Rattle.combining.specs.Areas.{workOf, heldOf};
@@ -23,7 +24,7 @@ struct Count {
 // Whether node v is loose and not found yet.
 fn fresh(scratch: &[u16], n: usize, v: usize) -> bool
     requires { ⌜ (n ≤ 4096) × (6 * n ≤ length (now scratch)) × (1 ≤ v) × (v ≤ n) ⌝ }
-    ensures { λ r. ⌜ r ≡ freshAt n (workOf n (now (scratch .entry))) (heldOf n (now (scratch .entry))) v ⌝ }
+    ensures { λ r. ⌜ r ≡ freshAt n (workOf n (was scratch)) (heldOf n (was scratch)) v ⌝ }
 {
     if scratch[v - 1] == scratch[2 * n + v - 1] {
         return false;
@@ -35,7 +36,7 @@ fn fresh(scratch: &[u16], n: usize, v: usize) -> bool
 fn visit(row: &[u16], scratch: &mut [u16], n: usize, tail: usize) -> usize
     requires { ⌜ Seek n (workOf n (now scratch)) (heldOf n (now scratch)) tail ⌝ }
     requires { ⌜ Nodes n (now row) ⌝ }
-    ensures { λ r. ⌜ Pushed n (now (row .entry)) (workOf n (now (scratch .entry))) (heldOf n (now (scratch .entry))) tail (workOf n (now (scratch .exit))) (heldOf n (now (scratch .exit))) r ⌝ }
+    ensures { λ r. ⌜ Pushed n (was row) (workOf n (was scratch)) (heldOf n (was scratch)) tail (workOf n (left scratch)) (heldOf n (left scratch)) r ⌝ }
 {
     let mut t = tail;
     let mut k = 0;
@@ -59,7 +60,7 @@ fn grow(starts: &[u16], neighbours: &[u16], scratch: &mut [u16], s: usize, z: u1
     requires { ⌜ Node (graphOf (now starts) (now neighbours)) z ⌝ }
     requires { ⌜ freshAt (sizeOf (now starts)) (workOf (sizeOf (now starts)) (now scratch)) (heldOf (sizeOf (now starts)) (now scratch)) z ≡ true ⌝ }
     requires { ⌜ Shut (graphOf (now starts) (now neighbours)) (looseAt (sizeOf (now starts)) (workOf (sizeOf (now starts)) (now scratch))) (heldOf (sizeOf (now starts)) (now scratch)) ⌝ }
-    ensures { λ r. ⌜ Grown (graphOf (now (starts .entry)) (now (neighbours .entry))) (sizeOf (now (starts .entry))) (workOf (sizeOf (now (starts .entry))) (now (scratch .entry))) (heldOf (sizeOf (now (starts .entry))) (now (scratch .entry))) s z (workOf (sizeOf (now (starts .entry))) (now (scratch .exit))) (heldOf (sizeOf (now (starts .entry))) (now (scratch .exit))) r ⌝ }
+    ensures { λ r. ⌜ Grown (graphOf (was starts) (was neighbours)) (sizeOf (was starts)) (workOf (sizeOf (was starts)) (was scratch)) (heldOf (sizeOf (was starts)) (was scratch)) s z (workOf (sizeOf (was starts)) (left scratch)) (heldOf (sizeOf (was starts)) (left scratch)) r ⌝ }
 {
     let n = starts.len() - 1;
     let first = 3 * n + wide(z) - 1;
@@ -86,7 +87,7 @@ fn discover(
 ) -> Count
     requires { ⌜ graphRefusal (now starts) (now neighbours) ≡ 0 ⌝ }
     requires { ⌜ Findable (graphOf (now starts) (now neighbours)) (sizeOf (now starts)) from to (workOf (sizeOf (now starts)) (now scratch)) (heldOf (sizeOf (now starts)) (now scratch)) ⌝ }
-    ensures { λ r. ⌜ Discovered (graphOf (now (starts .entry)) (now (neighbours .entry))) (sizeOf (now (starts .entry))) (to - from) (looseAt (sizeOf (now (starts .entry))) (workOf (sizeOf (now (starts .entry))) (now (scratch .entry)))) (workOf (sizeOf (now (starts .entry))) (now (scratch .entry))) (heldOf (sizeOf (now (starts .entry))) (now (scratch .entry))) (workOf (sizeOf (now (starts .entry))) (now (scratch .exit))) (heldOf (sizeOf (now (starts .entry))) (now (scratch .exit))) (r .pieces) (r .nodes) ⌝ }
+    ensures { λ r. ⌜ Discovered (graphOf (was starts) (was neighbours)) (sizeOf (was starts)) (to - from) (looseAt (sizeOf (was starts)) (workOf (sizeOf (was starts)) (was scratch))) (workOf (sizeOf (was starts)) (was scratch)) (heldOf (sizeOf (was starts)) (was scratch)) (workOf (sizeOf (was starts)) (left scratch)) (heldOf (sizeOf (was starts)) (left scratch)) (r .pieces) (r .nodes) ⌝ }
 {
     let n = starts.len() - 1;
     let mut tail = 0;
@@ -116,7 +117,7 @@ pub(crate) fn find(
 ) -> usize
     requires { ⌜ graphRefusal (now starts) (now neighbours) ≡ 0 ⌝ }
     requires { ⌜ Findable (graphOf (now starts) (now neighbours)) (sizeOf (now starts)) from to (workOf (sizeOf (now starts)) (now scratch)) (heldOf (sizeOf (now starts)) (now scratch)) ⌝ }
-    ensures { λ r. ⌜ Found (graphOf (now (starts .entry)) (now (neighbours .entry))) (sizeOf (now (starts .entry))) (to - from) (looseAt (sizeOf (now (starts .entry))) (workOf (sizeOf (now (starts .entry))) (now (scratch .entry)))) (workOf (sizeOf (now (starts .entry))) (now (scratch .entry))) (heldOf (sizeOf (now (starts .entry))) (now (scratch .entry))) (workOf (sizeOf (now (starts .entry))) (now (scratch .exit))) (heldOf (sizeOf (now (starts .entry))) (now (scratch .exit))) r ⌝ }
+    ensures { λ r. ⌜ Found (graphOf (was starts) (was neighbours)) (sizeOf (was starts)) (to - from) (looseAt (sizeOf (was starts)) (workOf (sizeOf (was starts)) (was scratch))) (workOf (sizeOf (was starts)) (was scratch)) (heldOf (sizeOf (was starts)) (was scratch)) (workOf (sizeOf (was starts)) (left scratch)) (heldOf (sizeOf (was starts)) (left scratch)) r ⌝ }
 {
     let n = starts.len() - 1;
     let found = discover(starts, neighbours, scratch, from, to);

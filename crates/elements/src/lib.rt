@@ -2,6 +2,7 @@
 ghost use mathlib.Core.Path.{_≡_};
 ghost use lib.ListN.{length};
 ghost use lib.Dec.{eqb, ltb};
+ghost use Rattle.basis.specs.Moments.{was};
 ghost use Rattle.spec.specs.Refusal.{refuse, _orElse_};
 ghost use Rattle.spec.specs.Mesh.{nodeCount, elementRefusal, elementsRefusal};
 
@@ -48,7 +49,7 @@ fn record_refusal(short: u16, kind: u16, left: usize) -> u16
 // What the element of this kind is refused by, or 0: "9 before 10 in each". `rest` is what follows its kind word; `short` is the
 // number for a record that runs past the end: 9 in the mesh call, 12 in a file.
 pub fn element_refusal(short: u16, n: usize, kind: u16, rest: &[u16]) -> u16
-    ensures { λ r. ⌜ r ≡ elementRefusal short n kind (now (rest .entry)) ⌝ }
+    ensures { λ r. ⌜ r ≡ elementRefusal short n kind (was rest) ⌝ }
 {
     let left = rest.len();
     let end = words::smaller(node_count(kind), left);
@@ -59,7 +60,7 @@ pub fn element_refusal(short: u16, n: usize, kind: u16, rest: &[u16]) -> u16
 
 // What the elements are refused by, 9 or 10, or 0: "Elements are tested one by one".
 pub fn elements_refusal(n: usize, elements: &[u16]) -> u16
-    ensures { λ r. ⌜ r ≡ elementsRefusal (length (now (elements .entry))) n (now (elements .entry)) ⌝ }
+    ensures { λ r. ⌜ r ≡ elementsRefusal (length (was elements)) n (was elements) ⌝ }
 {
     let mut at = 0;
     while at < elements.len() {

@@ -4,6 +4,7 @@ ghost use mathlib.Core.Bool.{false};
 ghost use mathlib.Core.List.{List, _∷_, map};
 ghost use Prim.Native.Nat.{ℕ, suc, _≤_, _<_};
 ghost use lib.ListN.{length, replicate};
+ghost use Rattle.basis.specs.Moments.{was, left};
 ghost use Rattle.spec.specs.Graph.{Graph, ofNode, sizeOf, graphOf};
 ghost use Rattle.spec.specs.Measures.{orderOf};
 ghost use Rattle.spec.specs.Store.{startOf, markByteCount, markBytes};
@@ -38,7 +39,7 @@ fn place(row: Row, p: usize) -> u32
 // Whether the pair p < q is marked.
 fn joined(bytes: &[u8], row: Row, p: usize) -> bool
     requires { ⌜ Room row (length (now bytes)) p ⌝ }
-    ensures { λ r. ⌜ r ≡ marked (now (bytes .entry)) (placeIn row p) ⌝ }
+    ensures { λ r. ⌜ r ≡ marked (was bytes) (placeIn row p) ⌝ }
 {
     marks::legal::test(bytes, place(row, p))
 }
@@ -46,7 +47,7 @@ fn joined(bytes: &[u8], row: Row, p: usize) -> bool
 // Marks the pair p < q.
 fn join(bytes: &mut [u8], row: Row, p: usize)
     requires { ⌜ Room row (length (now bytes)) p ⌝ }
-    ensures { λ _. ⌜ now (bytes .exit) ≡ withMark (now (bytes .entry)) (placeIn row p) ⌝ }
+    ensures { λ _. ⌜ left bytes ≡ withMark (was bytes) (placeIn row p) ⌝ }
 {
     marks::legal::set(bytes, place(row, p));
 }
@@ -56,8 +57,8 @@ fn join(bytes: &mut [u8], row: Row, p: usize)
 fn rise(scratch: &mut [u16], bytes: &mut [u8], row: Row, p: usize) -> usize
     requires { ⌜ ((h : Graph) × (o : List ℕ) × (due : List ℕ) × IsRow h row × Walk h o (now scratch) (now bytes) (row .q) (row .q) (p ∷ due)) × (p < row .q) ⌝ }
     requires { ⌜ marked (now bytes) (placeIn row p) ≡ false ⌝ }
-    ensures { λ r. ⌜ (p < r) × (r ≤ row .q) × Risen row p r (now (scratch .entry)) (now (bytes .entry)) (now (scratch .exit)) (now (bytes .exit)) ⌝ }
-    ensures { λ _. ⌜ now (bytes .exit) ≡ withMark (now (bytes .entry)) (placeIn row p) ⌝ }
+    ensures { λ r. ⌜ (p < r) × (r ≤ row .q) × Risen row p r (was scratch) (was bytes) (left scratch) (left bytes) ⌝ }
+    ensures { λ _. ⌜ left bytes ≡ withMark (was bytes) (placeIn row p) ⌝ }
 {
     join(bytes, row, p);
     let at = p - 1;
@@ -74,8 +75,8 @@ fn rise(scratch: &mut [u16], bytes: &mut [u8], row: Row, p: usize) -> usize
 fn climb(scratch: &mut [u16], bytes: &mut [u8], row: Row, from: usize, count: u32) -> u32
     requires { ⌜ ((h : Graph) × (o : List ℕ) × (due : List ℕ) × IsRow h row × Walk h o (now scratch) (now bytes) (row .q) (row .q) (from ∷ due)) ⌝ }
     requires { ⌜ count ≡ ones (now bytes) ⌝ }
-    ensures { λ r. ⌜ r ≡ ones (now (bytes .exit)) ⌝ }
-    ensures { λ _. ⌜ Climbed row from (now (scratch .entry)) (now (bytes .entry)) (now (scratch .exit)) (now (bytes .exit)) ⌝ }
+    ensures { λ r. ⌜ r ≡ ones (left bytes) ⌝ }
+    ensures { λ _. ⌜ Climbed row from (was scratch) (was bytes) (left scratch) (left bytes) ⌝ }
 {
     let mut p = from;
     let mut total = count;
@@ -101,8 +102,8 @@ fn join_edges(
     requires { ⌜ Reach (now numbering) (now adjacent)
         × ((h : Graph) × (o : List ℕ) × IsRow h row × Walk h o (now scratch) (now bytes) (row .q) (row .q) (map (ofNode (now numbering)) (now adjacent))) ⌝ }
     requires { ⌜ count ≡ ones (now bytes) ⌝ }
-    ensures { λ r. ⌜ r ≡ ones (now (bytes .exit)) ⌝ }
-    ensures { λ _. ⌜ Joined row (map (ofNode (now (numbering .entry))) (now (adjacent .entry))) (now (scratch .entry)) (now (bytes .entry)) (now (scratch .exit)) (now (bytes .exit)) ⌝ }
+    ensures { λ r. ⌜ r ≡ ones (left bytes) ⌝ }
+    ensures { λ _. ⌜ Joined row (map (ofNode (was numbering)) (was adjacent)) (was scratch) (was bytes) (left scratch) (left bytes) ⌝ }
 {
     let mut total = count;
     let mut i = 0;
@@ -117,7 +118,7 @@ fn join_edges(
 // The row of a node's number.
 fn row_of(starts: &[u16], neighbours: &[u16], numbering: &[u16], node: usize, start: u32) -> Row
     requires { ⌜ Given (now starts) (now neighbours) (now numbering) × Node (graphOf (now starts) (now neighbours)) node ⌝ }
-    ensures { λ r. ⌜ r ≡ rowAt (newGraph (now (starts .entry)) (now (neighbours .entry)) (now (numbering .entry))) (ofNode (now (numbering .entry)) node) start ⌝ }
+    ensures { λ r. ⌜ r ≡ rowAt (newGraph (was starts) (was neighbours) (was numbering)) (ofNode (was numbering) node) start ⌝ }
 {
     Row {
         q: number(numbering, node),
@@ -141,9 +142,9 @@ fn eliminate_row(
         × (done < sizeOf (now starts))
         × (from .start ≡ startOf (newGraph (now starts) (now neighbours) (now numbering)) (suc done)) ⌝ }
     requires { ⌜ from .count ≡ ones (now bytes) ⌝ }
-    ensures { λ r. ⌜ r .start ≡ startOf (newGraph (now (starts .entry)) (now (neighbours .entry)) (now (numbering .entry))) (suc (suc done)) ⌝ }
-    ensures { λ r. ⌜ r .count ≡ ones (now (bytes .exit)) ⌝ }
-    ensures { λ _. ⌜ Done (now (starts .entry)) (now (neighbours .entry)) (now (numbering .entry)) (now (scratch .exit)) (now (bytes .exit)) (suc done) ⌝ }
+    ensures { λ r. ⌜ r .start ≡ startOf (newGraph (was starts) (was neighbours) (was numbering)) (suc (suc done)) ⌝ }
+    ensures { λ r. ⌜ r .count ≡ ones (left bytes) ⌝ }
+    ensures { λ _. ⌜ Done (was starts) (was neighbours) (was numbering) (left scratch) (left bytes) (suc done) ⌝ }
 {
     let node = wide(scratch[done]);
     let row = row_of(starts, neighbours, numbering, node, from.start);
@@ -167,8 +168,8 @@ fn pass(
     requires { ⌜ Given (now starts) (now neighbours) (now numbering)
         × Done (now starts) (now neighbours) (now numbering) (now scratch) (now bytes) 0 ⌝ }
     requires { ⌜ ones (now bytes) ≡ 0 ⌝ }
-    ensures { λ r. ⌜ r ≡ ones (now (bytes .exit)) ⌝ }
-    ensures { λ _. ⌜ Done (now (starts .entry)) (now (neighbours .entry)) (now (numbering .entry)) (now (scratch .exit)) (now (bytes .exit)) (sizeOf (now (starts .entry))) ⌝ }
+    ensures { λ r. ⌜ r ≡ ones (left bytes) ⌝ }
+    ensures { λ _. ⌜ Done (was starts) (was neighbours) (was numbering) (left scratch) (left bytes) (sizeOf (was starts)) ⌝ }
 {
     let n = numbering.len();
     let mut so_far = Progress { start: 0, count: 0 };
@@ -191,9 +192,9 @@ pub fn mark(
     requires { ⌜ Given (now starts) (now neighbours) (now numbering)
         × (now scratch ≡ orderOf (now numbering))
         × (length (now bytes) ≡ markByteCount (newGraph (now starts) (now neighbours) (now numbering))) ⌝ }
-    ensures { λ r. ⌜ r ≡ ones (now (bytes .exit)) ⌝ }
-    ensures { λ _. ⌜ now (bytes .exit) ≡ markBytes (newGraph (now (starts .entry)) (now (neighbours .entry)) (now (numbering .entry))) ⌝ }
-    ensures { λ _. ⌜ now (scratch .exit) ≡ replicate (sizeOf (now (starts .entry))) 0 ⌝ }
+    ensures { λ r. ⌜ r ≡ ones (left bytes) ⌝ }
+    ensures { λ _. ⌜ left bytes ≡ markBytes (newGraph (was starts) (was neighbours) (was numbering)) ⌝ }
+    ensures { λ _. ⌜ left scratch ≡ replicate (sizeOf (was starts)) 0 ⌝ }
 {
     marks::legal::clear(bytes, bytes.len());
     let count = pass(starts, neighbours, numbering, scratch, bytes);

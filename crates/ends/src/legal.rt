@@ -5,6 +5,7 @@ ghost use mathlib.Core.List.{List, _++_};
 ghost use Prim.Native.Nat.{ℕ, _+_, _≤_};
 ghost use lib.ListN.{length, drop, replicate};
 ghost use lib.Seq.{slice};
+ghost use Rattle.basis.specs.Moments.{was, left};
 ghost use Rattle.spec.specs.Graph.{graphOf, sizeOf, graphRefusal, firstInE};
 ghost use Rattle.spec.specs.Levels.{levels, part};
 ghost use Rattle.spec.specs.Ends.{ends};
@@ -28,7 +29,7 @@ pub fn first_in_e(starts: &[u16], nodes: &[u16]) -> u16
     requires { ⌜ ((neighbours : List ℕ) × Starts (now starts) neighbours) ⌝ }
     requires { ⌜ Nodes (sizeOf (now starts)) (now nodes) ⌝ }
     requires { ⌜ 1 ≤ length (now nodes) ⌝ }
-    ensures { λ r. ⌜ ((neighbours : List ℕ) → Starts (now (starts .entry)) neighbours → r ≡ firstInE (graphOf (now (starts .entry)) neighbours) (now (nodes .entry))) ⌝ }
+    ensures { λ r. ⌜ ((neighbours : List ℕ) → Starts (was starts) neighbours → r ≡ firstInE (graphOf (was starts) neighbours) (was nodes)) ⌝ }
 {
     let mut first = nodes[0];
     let mut i = 1;
@@ -47,8 +48,8 @@ pub fn first_of_part(starts: &[u16], neighbours: &[u16], node: u16, work: &mut [
     requires { ⌜ graphRefusal (now starts) (now neighbours) ≡ 0 ⌝ }
     requires { ⌜ (1 ≤ node) × (node ≤ sizeOf (now starts)) ⌝ }
     requires { ⌜ now work ≡ replicate (sizeOf (now starts) + sizeOf (now starts)) 0 ⌝ }
-    ensures { λ r. ⌜ r ≡ firstInE (graphOf (now (starts .entry)) (now (neighbours .entry))) (part (graphOf (now (starts .entry)) (now (neighbours .entry))) node) ⌝ }
-    ensures { λ _. ⌜ now (work .exit) ≡ now (work .entry) ⌝ }
+    ensures { λ r. ⌜ r ≡ firstInE (graphOf (was starts) (was neighbours)) (part (graphOf (was starts) (was neighbours)) node) ⌝ }
+    ensures { λ _. ⌜ left work ≡ was work ⌝ }
 {
     let n = starts.len() - 1;
     let r = search(starts, neighbours, node, n, work);
@@ -71,8 +72,8 @@ fn probe(
     requires { ⌜ (1 ≤ s) × (s ≤ sizeOf (now starts)) ⌝ }
     requires { ⌜ length (part (graphOf (now starts) (now neighbours)) s) ≤ most ⌝ }
     requires { ⌜ Queued (sizeOf (now starts)) held (now work) ⌝ }
-    ensures { λ r. ⌜ r ≡ rootedOf (levels (graphOf (now (starts .entry)) (now (neighbours .entry))) s) ⌝ }
-    ensures { λ _. ⌜ Searched (now (starts .entry)) (now (neighbours .entry)) s (now (work .exit)) ⌝ }
+    ensures { λ r. ⌜ r ≡ rootedOf (levels (graphOf (was starts) (was neighbours)) s) ⌝ }
+    ensures { λ _. ⌜ Searched (was starts) (was neighbours) s (left work) ⌝ }
 {
     let n = starts.len() - 1;
     wipe(work, n, held);
@@ -94,7 +95,7 @@ fn probe_other(
     requires { ⌜ length (part (graphOf (now starts) (now neighbours)) u) ≤ most ⌝ }
     requires { ⌜ Queued (sizeOf (now starts)) held (now work) ⌝ }
     requires { ⌜ Searched (now starts) (now neighbours) s (now work) ⌝ }
-    ensures { λ _. ⌜ Searched (now (starts .entry)) (now (neighbours .entry)) u (now (work .exit)) ⌝ }
+    ensures { λ _. ⌜ Searched (was starts) (was neighbours) u (left work) ⌝ }
 {
     if s == u {
         return;
@@ -141,7 +142,7 @@ fn try_each(
 ) -> Tried
     requires { ⌜ graphRefusal (now starts) (now neighbours) ≡ 0 ⌝ }
     requires { ⌜ Candidates (now starts) (now neighbours) a b (now work) ⌝ }
-    ensures { λ r. ⌜ Tries (now (starts .entry)) (now (neighbours .entry)) (slice a b (now (work .entry))) depth (now (work .entry)) (now (work .exit)) r ⌝ }
+    ensures { λ r. ⌜ Tries (was starts) (was neighbours) (slice a b (was work)) depth (was work) (left work) r ⌝ }
 {
     let n = starts.len() - 1;
     let half = n + n;
@@ -172,7 +173,7 @@ fn try_each(
 // "Take S in E": sorts the last level of the search r, at the end of its queue.
 fn sort_last(starts: &[u16], r: Rooted, work: &mut [u16])
     requires { ⌜ ((neighbours : List ℕ) × (v : ℕ) × Area (now starts) neighbours v r (now work)) ⌝ }
-    ensures { λ _. ⌜ ((neighbours : List ℕ) (v : ℕ) → Area (now (starts .entry)) neighbours v r (now (work .entry)) → Sorted (now (starts .entry)) neighbours v r (now (work .exit))) ⌝ }
+    ensures { λ _. ⌜ ((neighbours : List ℕ) (v : ℕ) → Area (was starts) neighbours v r (was work) → Sorted (was starts) neighbours v r (left work)) ⌝ }
 {
     let n = starts.len() - 1;
     let a = n + wide(r.last);
@@ -183,7 +184,7 @@ fn sort_last(starts: &[u16], r: Rooted, work: &mut [u16])
 // One pass, steps 2 and 3: S is the last level of the search r from v.
 fn pass(starts: &[u16], neighbours: &[u16], r: Rooted, work: &mut [u16]) -> Tried
     requires { ⌜ ((v : ℕ) × At (now starts) (now neighbours) v r (now work)) ⌝ }
-    ensures { λ t. ⌜ ((v : ℕ) → At (now (starts .entry)) (now (neighbours .entry)) v r (now (work .entry)) → Passed (now (starts .entry)) (now (neighbours .entry)) v t (now (work .exit))) ⌝ }
+    ensures { λ t. ⌜ ((v : ℕ) → At (was starts) (was neighbours) v r (was work) → Passed (was starts) (was neighbours) v t (left work)) ⌝ }
 {
     let n = starts.len() - 1;
     sort_last(starts, r, &mut work[0..n + n]);
@@ -200,7 +201,7 @@ fn pass(starts: &[u16], neighbours: &[u16], r: Rooted, work: &mut [u16]) -> Trie
 // Copies the search in the second 2n words over the one in the first, node by node: both are of one part of `count` nodes.
 fn copy_over(work: &mut [u16], n: usize, count: usize)
     requires { ⌜ OnePart n count (now work) ⌝ }
-    ensures { λ _. ⌜ now (work .exit) ≡ drop (n + n) (now (work .entry)) ++ drop (n + n) (now (work .entry)) ⌝ }
+    ensures { λ _. ⌜ left work ≡ drop (n + n) (was work) ++ drop (n + n) (was work) ⌝ }
 {
     let half = n + n;
     let mut i = 0;
@@ -216,7 +217,7 @@ fn copy_over(work: &mut [u16], n: usize, count: usize)
 // Moves the search in the second 2n words to the first.
 fn take_over(work: &mut [u16], n: usize, count: usize)
     requires { ⌜ OnePart n count (now work) ⌝ }
-    ensures { λ _. ⌜ now (work .exit) ≡ drop (n + n) (now (work .entry)) ++ replicate (n + n) 0 ⌝ }
+    ensures { λ _. ⌜ left work ≡ drop (n + n) (was work) ++ replicate (n + n) 0 ⌝ }
 {
     copy_over(work, n, count);
     wipe(&mut work[n + n..], n, count);
@@ -228,8 +229,8 @@ pub fn ends_from(starts: &[u16], neighbours: &[u16], first: u16, work: &mut [u16
     requires { ⌜ (1 ≤ first) × (first ≤ sizeOf (now starts)) ⌝ }
     requires { ⌜ first ≡ firstInE (graphOf (now starts) (now neighbours)) (part (graphOf (now starts) (now neighbours)) first) ⌝ }
     requires { ⌜ now work ≡ replicate (sizeOf (now starts) + sizeOf (now starts) + (sizeOf (now starts) + sizeOf (now starts))) 0 ⌝ }
-    ensures { λ r. ⌜ r ≡ foundOf (ends (graphOf (now (starts .entry)) (now (neighbours .entry))) first) ⌝ }
-    ensures { λ _. ⌜ Ended (now (starts .entry)) (now (neighbours .entry)) (ends (graphOf (now (starts .entry)) (now (neighbours .entry))) first) (now (work .exit)) ⌝ }
+    ensures { λ r. ⌜ r ≡ foundOf (ends (graphOf (was starts) (was neighbours)) first) ⌝ }
+    ensures { λ _. ⌜ Ended (was starts) (was neighbours) (ends (graphOf (was starts) (was neighbours)) first) (left work) ⌝ }
 {
     let n = starts.len() - 1;
     let mut v = first;

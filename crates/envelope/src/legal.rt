@@ -5,6 +5,7 @@ ghost use mathlib.Core.List.{map};
 ghost use Prim.Native.Nat.{_≤_};
 ghost use lib.ListN.{length, replicate};
 ghost use Rattle.basis.specs.Lists.{least, overwrite};
+ghost use Rattle.basis.specs.Moments.{was, left};
 ghost use Rattle.spec.specs.Graph.{sizeOf, graphOf, ofNode};
 ghost use Rattle.spec.specs.Lent.{zeroed};
 ghost use Rattle.spec.specs.Measures.{isNumbering, orderOf, renumbered, firstIn, rowSpan, profile};
@@ -18,7 +19,7 @@ use words::wide;
 // The number of node p.
 pub fn number(numbering: &[u16], p: usize) -> usize
     requires { ⌜ (1 ≤ p) × (p ≤ length (now numbering)) ⌝ }
-    ensures { λ r. ⌜ r ≡ ofNode (now (numbering .entry)) p ⌝ }
+    ensures { λ r. ⌜ r ≡ ofNode (was numbering) p ⌝ }
 {
     wide(numbering[p - 1])
 }
@@ -27,8 +28,8 @@ pub fn number(numbering: &[u16], p: usize) -> usize
 fn settle(numbering: &[u16], order: &mut [u16]) -> bool
     requires { ⌜ length (now numbering) ≤ 4096 ⌝ }
     requires { ⌜ now order ≡ replicate (length (now numbering)) 0 ⌝ }
-    ensures { λ r. ⌜ r ≡ isNumbering (length (now (numbering .entry))) (now (numbering .entry)) ⌝ }
-    ensures { λ r. ⌜ (r ≡ true → now (order .exit) ≡ orderOf (now (numbering .entry))) ⌝ }
+    ensures { λ r. ⌜ r ≡ isNumbering (length (was numbering)) (was numbering) ⌝ }
+    ensures { λ r. ⌜ (r ≡ true → left order ≡ orderOf (was numbering)) ⌝ }
 {
     let n = numbering.len();
     let mut i = 0;
@@ -53,8 +54,8 @@ fn settle(numbering: &[u16], order: &mut [u16]) -> bool
 fn invert(numbering: &[u16], scratch: &mut [u16]) -> bool
     requires { ⌜ length (now numbering) ≤ 4096 ⌝ }
     requires { ⌜ now scratch ≡ replicate (length (now numbering)) 0 ⌝ }
-    ensures { λ r. ⌜ r ≡ isNumbering (length (now (numbering .entry))) (now (numbering .entry)) ⌝ }
-    ensures { λ r. ⌜ now (scratch .exit) ≡ cond r (orderOf (now (numbering .entry))) (replicate (length (now (numbering .entry))) 0) ⌝ }
+    ensures { λ r. ⌜ r ≡ isNumbering (length (was numbering)) (was numbering) ⌝ }
+    ensures { λ r. ⌜ left scratch ≡ cond r (orderOf (was numbering)) (replicate (length (was numbering)) 0) ⌝ }
 {
     if settle(numbering, scratch) {
         return true;
@@ -67,8 +68,8 @@ fn invert(numbering: &[u16], scratch: &mut [u16]) -> bool
 // numbers, and else 0.
 pub fn numbered(numbering: &[u16], n: usize, scratch: &mut [u16]) -> bool
     requires { ⌜ (n ≤ 4096) × (n ≤ length (now scratch)) ⌝ }
-    ensures { λ r. ⌜ r ≡ isNumbering n (now (numbering .entry)) ⌝ }
-    ensures { λ r. ⌜ now (scratch .exit) ≡ cond r (overwrite (orderOf (now (numbering .entry))) (now (scratch .entry))) (zeroed n (now (scratch .entry))) ⌝ }
+    ensures { λ r. ⌜ r ≡ isNumbering n (was numbering) ⌝ }
+    ensures { λ r. ⌜ left scratch ≡ cond r (overwrite (orderOf (was numbering)) (was scratch)) (zeroed n (was scratch)) ⌝ }
 {
     clear(scratch, n);
     if numbering.len() != n {
@@ -80,7 +81,7 @@ pub fn numbered(numbering: &[u16], n: usize, scratch: &mut [u16]) -> bool
 // The least of a node's own number and those of its row.
 pub fn row_first(row: &[u16], numbering: &[u16], own: usize) -> usize
     requires { ⌜ Words (length (now numbering)) (now row) ⌝ }
-    ensures { λ r. ⌜ r ≡ least own (map (ofNode (now (numbering .entry))) (now (row .entry))) ⌝ }
+    ensures { λ r. ⌜ r ≡ least own (map (ofNode (was numbering)) (was row)) ⌝ }
 {
     let mut first = own;
     let mut j = 0;
@@ -98,7 +99,7 @@ pub fn first(starts: &[u16], neighbours: &[u16], numbering: &[u16], p: usize) ->
     requires { ⌜ LegalGraph (graphOf (now starts) (now neighbours)) ⌝ }
     requires { ⌜ isNumbering (sizeOf (now starts)) (now numbering) ≡ true ⌝ }
     requires { ⌜ Node (graphOf (now starts) (now neighbours)) p ⌝ }
-    ensures { λ r. ⌜ r ≡ firstIn (renumbered (graphOf (now (starts .entry)) (now (neighbours .entry))) (now (numbering .entry))) (ofNode (now (numbering .entry)) p) ⌝ }
+    ensures { λ r. ⌜ r ≡ firstIn (renumbered (graphOf (was starts) (was neighbours)) (was numbering)) (ofNode (was numbering) p) ⌝ }
 {
     let own = number(numbering, p);
     row_first(row(starts, neighbours, p), numbering, own)
@@ -110,7 +111,7 @@ fn span(starts: &[u16], neighbours: &[u16], numbering: &[u16], p: usize) -> u32
     requires { ⌜ LegalGraph (graphOf (now starts) (now neighbours)) ⌝ }
     requires { ⌜ isNumbering (sizeOf (now starts)) (now numbering) ≡ true ⌝ }
     requires { ⌜ Node (graphOf (now starts) (now neighbours)) p ⌝ }
-    ensures { λ r. ⌜ r ≡ rowSpan (renumbered (graphOf (now (starts .entry)) (now (neighbours .entry))) (now (numbering .entry))) (ofNode (now (numbering .entry)) p) ⌝ }
+    ensures { λ r. ⌜ r ≡ rowSpan (renumbered (graphOf (was starts) (was neighbours)) (was numbering)) (ofNode (was numbering) p) ⌝ }
 {
     let own = number(numbering, p);
     let reach = own - first(starts, neighbours, numbering, p);
@@ -122,7 +123,7 @@ pub fn profile(starts: &[u16], neighbours: &[u16], numbering: &[u16]) -> u32
     requires { ⌜ Starts (now starts) (now neighbours) ⌝ }
     requires { ⌜ LegalGraph (graphOf (now starts) (now neighbours)) ⌝ }
     requires { ⌜ isNumbering (sizeOf (now starts)) (now numbering) ≡ true ⌝ }
-    ensures { λ r. ⌜ r ≡ profile (renumbered (graphOf (now (starts .entry)) (now (neighbours .entry))) (now (numbering .entry))) ⌝ }
+    ensures { λ r. ⌜ r ≡ profile (renumbered (graphOf (was starts) (was neighbours)) (was numbering)) ⌝ }
 {
     let n = numbering.len();
     let mut sum: u32 = 0;

@@ -2,6 +2,7 @@
 ghost use mathlib.Core.Path.{_≡_};
 ghost use mathlib.Core.List.{List};
 ghost use Prim.Native.Nat.{ℕ, _≤_};
+ghost use Rattle.basis.specs.Moments.{was};
 ghost use Rattle.spec.specs.Graph.{sizeOf, rowOf, graphOf, degree, beforeE};
 ghost use Rattle.laws.specs.Legal.{Node, Starts};
 
@@ -9,7 +10,7 @@ ghost use Rattle.laws.specs.Legal.{Node, Starts};
 pub fn row<'a>(starts: &[u16], neighbours: &'a [u16], p: usize) -> &'a [u16]
     requires { ⌜ Starts (now starts) (now neighbours) ⌝ }
     requires { ⌜ Node (graphOf (now starts) (now neighbours)) p ⌝ }
-    ensures { λ r. ⌜ now r ≡ rowOf (now (starts .entry)) (now (neighbours .entry)) p ⌝ }
+    ensures { λ r. ⌜ now r ≡ rowOf (was starts) (was neighbours) p ⌝ }
 {
     let from = starts[p - 1] as usize;
     let to = starts[p] as usize;
@@ -20,7 +21,7 @@ pub fn row<'a>(starts: &[u16], neighbours: &'a [u16], p: usize) -> &'a [u16]
 pub fn degree(starts: &[u16], p: usize) -> usize
     requires { ⌜ ((neighbours : List ℕ) × Starts (now starts) neighbours) ⌝ }
     requires { ⌜ (1 ≤ p) × (p ≤ sizeOf (now starts)) ⌝ }
-    ensures { λ r. ⌜ ((neighbours : List ℕ) → Starts (now (starts .entry)) neighbours → r ≡ degree (graphOf (now (starts .entry)) neighbours) p) ⌝ }
+    ensures { λ r. ⌜ ((neighbours : List ℕ) → Starts (was starts) neighbours → r ≡ degree (graphOf (was starts) neighbours) p) ⌝ }
 {
     let from = starts[p - 1] as usize;
     let to = starts[p] as usize;
@@ -31,7 +32,7 @@ pub fn degree(starts: &[u16], p: usize) -> usize
 pub fn precedes(starts: &[u16], p: usize, q: usize) -> bool
     requires { ⌜ ((neighbours : List ℕ) × Starts (now starts) neighbours) ⌝ }
     requires { ⌜ (1 ≤ p) × (p ≤ sizeOf (now starts)) × (1 ≤ q) × (q ≤ sizeOf (now starts)) ⌝ }
-    ensures { λ r. ⌜ ((neighbours : List ℕ) → Starts (now (starts .entry)) neighbours → r ≡ beforeE (graphOf (now (starts .entry)) neighbours) p q) ⌝ }
+    ensures { λ r. ⌜ ((neighbours : List ℕ) → Starts (was starts) neighbours → r ≡ beforeE (graphOf (was starts) neighbours) p q) ⌝ }
 {
     let a = degree(starts, p);
     let b = degree(starts, q);

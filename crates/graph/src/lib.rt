@@ -5,6 +5,7 @@ ghost use Prim.Native.Nat.{_≤_};
 ghost use lib.ListN.{length};
 ghost use lib.Dec.{leb, ltb};
 ghost use Rattle.basis.specs.Lists.{chainb, memb};
+ghost use Rattle.basis.specs.Moments.{was};
 ghost use Rattle.spec.specs.Graph.{graphOf, refuses1, refuses2, badRow, refuses3, refuses4};
 ghost use Rattle.spec.specs.CallsLevels.{adjacencyAnswer};
 ghost use Rattle.laws.specs.Legal.{Node, Starts};
@@ -18,7 +19,7 @@ pub use answer::Adjacency;
 
 // 1: n is 0 or over 4,096, or the start list is empty. n + 1 words are counted, so that an empty list needs no case of its own.
 fn bad_count(starts: &[u16]) -> bool
-    ensures { λ r. ⌜ r ≡ refuses1 (now (starts .entry)) ⌝ }
+    ensures { λ r. ⌜ r ≡ refuses1 (was starts) ⌝ }
 {
     let words = starts.len();
     if words < 2 {
@@ -29,7 +30,7 @@ fn bad_count(starts: &[u16]) -> bool
 
 // Whether the starts fall nowhere.
 fn starts_rise(starts: &[u16]) -> bool
-    ensures { λ r. ⌜ r ≡ chainb leb (now (starts .entry)) ⌝ }
+    ensures { λ r. ⌜ r ≡ chainb leb (was starts) ⌝ }
 {
     let mut i = 1;
     while i < starts.len() {
@@ -44,7 +45,7 @@ fn starts_rise(starts: &[u16]) -> bool
 // 2: first start not 0, starts fall, last start not the neighbour list's length, or over 32,768. The list is walked last: the rest is cheap.
 fn bad_starts(starts: &[u16], neighbours: &[u16]) -> bool
     requires { ⌜ 1 ≤ length (now starts) ⌝ }
-    ensures { λ r. ⌜ r ≡ refuses2 (now (starts .entry)) (now (neighbours .entry)) ⌝ }
+    ensures { λ r. ⌜ r ≡ refuses2 (was starts) (was neighbours) ⌝ }
 {
     if starts[0] != 0 {
         return true;
@@ -61,7 +62,7 @@ fn bad_starts(starts: &[u16], neighbours: &[u16]) -> bool
 
 // Whether row p leaves 1..n, holds itself or doesn't rise. Before the first word stands 0, so that a word 0 is one that doesn't rise.
 fn bad_row(row: &[u16], p: usize, n: usize) -> bool
-    ensures { λ r. ⌜ r ≡ badRow n p (now (row .entry)) ⌝ }
+    ensures { λ r. ⌜ r ≡ badRow n p (was row) ⌝ }
 {
     let mut last: usize = 0;
     let mut j = 0;
@@ -85,7 +86,7 @@ fn bad_row(row: &[u16], p: usize, n: usize) -> bool
 // 3: a row leaves 1..n, holds itself or doesn't rise.
 fn bad_rows(starts: &[u16], neighbours: &[u16]) -> bool
     requires { ⌜ Starts (now starts) (now neighbours) ⌝ }
-    ensures { λ r. ⌜ r ≡ refuses3 (graphOf (now (starts .entry)) (now (neighbours .entry))) ⌝ }
+    ensures { λ r. ⌜ r ≡ refuses3 (graphOf (was starts) (was neighbours)) ⌝ }
 {
     let n = starts.len() - 1;
     let mut p = 0;
@@ -102,7 +103,7 @@ fn bad_rows(starts: &[u16], neighbours: &[u16]) -> bool
 // Whether a row that rises holds p, by halving: lo..hi is where p may still stand.
 fn holds(row: &[u16], p: usize) -> bool
     requires { ⌜ chainb ltb (now row) ≡ true ⌝ }
-    ensures { λ r. ⌜ r ≡ memb p (now (row .entry)) ⌝ }
+    ensures { λ r. ⌜ r ≡ memb p (was row) ⌝ }
 {
     let mut lo = 0;
     let mut hi = row.len();
@@ -125,7 +126,7 @@ fn holds(row: &[u16], p: usize) -> bool
 fn lower_pairs(starts: &[u16], neighbours: &[u16], p: usize) -> usize
     requires { ⌜ Rows (now starts) (now neighbours) ⌝ }
     requires { ⌜ Node (graphOf (now starts) (now neighbours)) p ⌝ }
-    ensures { λ r. ⌜ r ≡ lowerPairs (graphOf (now (starts .entry)) (now (neighbours .entry))) p ⌝ }
+    ensures { λ r. ⌜ r ≡ lowerPairs (graphOf (was starts) (was neighbours)) p ⌝ }
 {
     let row = legal::row(starts, neighbours, p);
     let mut pairs = 0;
@@ -147,7 +148,7 @@ fn lower_pairs(starts: &[u16], neighbours: &[u16], p: usize) -> usize
 // 4: a row's entry lacks its partner. Of the two entries of a pair one is under its row's number, so one is lacking exactly if the pairs fall short of half of the entries.
 fn lacks_partners(starts: &[u16], neighbours: &[u16]) -> bool
     requires { ⌜ Rows (now starts) (now neighbours) ⌝ }
-    ensures { λ r. ⌜ r ≡ refuses4 (graphOf (now (starts .entry)) (now (neighbours .entry))) ⌝ }
+    ensures { λ r. ⌜ r ≡ refuses4 (graphOf (was starts) (was neighbours)) ⌝ }
 {
     let n = starts.len() - 1;
     let mut pairs = 0;
@@ -161,7 +162,7 @@ fn lacks_partners(starts: &[u16], neighbours: &[u16]) -> bool
 
 // The entry point: "Tests run in that order", and each may lean on those before it.
 pub fn test_adjacency(starts: &[u16], neighbours: &[u16]) -> Adjacency
-    ensures { λ r. ⌜ meaning r ≡ adjacencyAnswer (now (starts .entry)) (now (neighbours .entry)) ⌝ }
+    ensures { λ r. ⌜ meaning r ≡ adjacencyAnswer (was starts) (was neighbours) ⌝ }
 {
     if bad_count(starts) {
         return Adjacency::Refused(1);

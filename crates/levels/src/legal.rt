@@ -6,6 +6,7 @@ ghost use Prim.Native.Nat.{_*_, _≤_};
 ghost use mathlib.Core.List.{_++_};
 ghost use lib.ListN.{length, take, drop, replicate};
 ghost use lib.Seq.{sets, slice};
+ghost use Rattle.basis.specs.Moments.{was, left};
 ghost use Rattle.spec.specs.Graph.{graphOf, sizeOf, graphRefusal, outside};
 ghost use Rattle.spec.specs.Levels.{part};
 ghost use Rattle.combining.specs.Areas.{wordsOf};
@@ -35,8 +36,8 @@ pub fn no_node(n: usize, p: u16) -> bool
 // Puts the nodes that have a level in the first n words into the fifth area, rising. Returns how many there are.
 fn collect(scratch: &mut [u16], n: usize) -> usize
     requires { ⌜ (n ≤ 4096) × (5 * n ≤ length (now scratch)) ⌝ }
-    ensures { λ r. ⌜ r ≡ length (placed n (now (scratch .entry))) ⌝ }
-    ensures { λ _. ⌜ now (scratch .exit) ≡ sets (now (scratch .entry)) (4 * n) (placed n (now (scratch .entry))) ⌝ }
+    ensures { λ r. ⌜ r ≡ length (placed n (was scratch)) ⌝ }
+    ensures { λ _. ⌜ left scratch ≡ sets (was scratch) (4 * n) (placed n (was scratch)) ⌝ }
 {
     let mut count = 0;
     let mut p = 0;
@@ -57,8 +58,8 @@ pub fn gather_part(starts: &[u16], neighbours: &[u16], node: u16, scratch: &mut 
     requires { ⌜ (1 ≤ node) × (node ≤ sizeOf (now starts)) ⌝ }
     requires { ⌜ 5 * sizeOf (now starts) ≤ length (now scratch) ⌝ }
     requires { ⌜ take (2 * sizeOf (now starts)) (now scratch) ≡ replicate (2 * sizeOf (now starts)) 0 ⌝ }
-    ensures { λ r. ⌜ r ≡ length (part (graphOf (now (starts .entry)) (now (neighbours .entry))) node) ⌝ }
-    ensures { λ _. ⌜ now (scratch .exit) ≡ sets (now (scratch .entry)) (4 * sizeOf (now (starts .entry))) (part (graphOf (now (starts .entry)) (now (neighbours .entry))) node) ⌝ }
+    ensures { λ r. ⌜ r ≡ length (part (graphOf (was starts) (was neighbours)) node) ⌝ }
+    ensures { λ _. ⌜ left scratch ≡ sets (was scratch) (4 * sizeOf (was starts)) (part (graphOf (was starts) (was neighbours)) node) ⌝ }
 {
     let n = starts.len() - 1;
     let s = search(starts, neighbours, node, n, &mut scratch[0..2 * n]);
@@ -78,8 +79,8 @@ pub fn combine_part(
 ) -> PartLevels
     requires { ⌜ graphRefusal (now starts) (now neighbours) ≡ 0 ⌝ }
     requires { ⌜ PartGiven (graphOf (now starts) (now neighbours)) from to (wordsOf (sizeOf (now starts)) (now scratch)) (slice (5 * sizeOf (now starts)) (6 * sizeOf (now starts)) (now scratch)) ⌝ }
-    ensures { λ r. ⌜ r ≡ partLevelsOf (graphOf (now (starts .entry)) (now (neighbours .entry))) (endsOf (graphOf (now (starts .entry)) (now (neighbours .entry))) from (wordsOf (sizeOf (now (starts .entry))) (now (scratch .entry)))) ⌝ }
-    ensures { λ _. ⌜ now (scratch .exit) ≡ wordsOf (sizeOf (now (starts .entry))) (now (scratch .entry)) ++ (merged (graphOf (now (starts .entry)) (now (neighbours .entry))) (firstOf (sizeOf (now (starts .entry))) from (wordsOf (sizeOf (now (starts .entry))) (now (scratch .entry)))) (endsOf (graphOf (now (starts .entry)) (now (neighbours .entry))) from (wordsOf (sizeOf (now (starts .entry))) (now (scratch .entry)))) (slice (5 * sizeOf (now (starts .entry))) (6 * sizeOf (now (starts .entry))) (now (scratch .entry))) ++ drop (6 * sizeOf (now (starts .entry))) (now (scratch .entry))) ⌝ }
+    ensures { λ r. ⌜ r ≡ partLevelsOf (graphOf (was starts) (was neighbours)) (endsOf (graphOf (was starts) (was neighbours)) from (wordsOf (sizeOf (was starts)) (was scratch))) ⌝ }
+    ensures { λ _. ⌜ left scratch ≡ wordsOf (sizeOf (was starts)) (was scratch) ++ (merged (graphOf (was starts) (was neighbours)) (firstOf (sizeOf (was starts)) from (wordsOf (sizeOf (was starts)) (was scratch))) (endsOf (graphOf (was starts) (was neighbours)) from (wordsOf (sizeOf (was starts)) (was scratch))) (slice (5 * sizeOf (was starts)) (6 * sizeOf (was starts)) (was scratch)) ++ drop (6 * sizeOf (was starts)) (was scratch)) ⌝ }
 {
     let n = starts.len() - 1;
     let first = first_in_e(starts, &scratch[4 * n + from..4 * n + to]);

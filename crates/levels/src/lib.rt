@@ -6,6 +6,7 @@ mod part;
 pub mod shape;
 
 ghost use mathlib.Core.Path.{_≡_};
+ghost use Rattle.basis.specs.Moments.{was, left};
 ghost use Rattle.spec.specs.CallsLevels.{rootedAnswer, rootedLevels, endsAnswer, endsScratch, combinedAnswer, combinedLevels, combinedScratch};
 ghost use Rattle.levels.specs.Answers.{rootedMeaning, endsMeaning, combinedMeaning};
 use answer::CombinedAnswer;
@@ -22,8 +23,8 @@ pub fn rooted_levels(
     root: u16,
     levels: &mut [u16],
 ) -> RootedAnswer
-    ensures { λ r. ⌜ rootedMeaning r ≡ rootedAnswer (now (starts .entry)) (now (neighbours .entry)) root (now (levels .entry)) ⌝ }
-    ensures { λ _. ⌜ now (levels .exit) ≡ rootedLevels (now (starts .entry)) (now (neighbours .entry)) root (now (levels .entry)) ⌝ }
+    ensures { λ r. ⌜ rootedMeaning r ≡ rootedAnswer (was starts) (was neighbours) root (was levels) ⌝ }
+    ensures { λ _. ⌜ left levels ≡ rootedLevels (was starts) (was neighbours) root (was levels) ⌝ }
 {
     match graph::test_adjacency(starts, neighbours) {
         Adjacency::Refused(c) => RootedAnswer::Refused(c),
@@ -47,8 +48,8 @@ pub fn rooted_levels(
 
 // The ends of the part of `node`: v, u, k, both widths and the passes, as the search names v and u.
 pub fn ends(starts: &[u16], neighbours: &[u16], node: u16, scratch: &mut [u16]) -> EndsAnswer
-    ensures { λ r. ⌜ endsMeaning r ≡ endsAnswer (now (starts .entry)) (now (neighbours .entry)) node (now (scratch .entry)) ⌝ }
-    ensures { λ _. ⌜ now (scratch .exit) ≡ endsScratch (now (starts .entry)) (now (neighbours .entry)) node (now (scratch .entry)) ⌝ }
+    ensures { λ r. ⌜ endsMeaning r ≡ endsAnswer (was starts) (was neighbours) node (was scratch) ⌝ }
+    ensures { λ _. ⌜ left scratch ≡ endsScratch (was starts) (was neighbours) node (was scratch) ⌝ }
 {
     match graph::test_adjacency(starts, neighbours) {
         Adjacency::Refused(c) => EndsAnswer::Refused(c),
@@ -81,9 +82,9 @@ pub fn combined_levels(
     levels: &mut [u16],
     scratch: &mut [u16],
 ) -> CombinedAnswer
-    ensures { λ r. ⌜ combinedMeaning r ≡ combinedAnswer (now (starts .entry)) (now (neighbours .entry)) node (now (levels .entry)) (now (scratch .entry)) ⌝ }
-    ensures { λ _. ⌜ now (levels .exit) ≡ combinedLevels (now (starts .entry)) (now (neighbours .entry)) node (now (levels .entry)) (now (scratch .entry)) ⌝ }
-    ensures { λ _. ⌜ now (scratch .exit) ≡ combinedScratch (now (starts .entry)) (now (neighbours .entry)) node (now (levels .entry)) (now (scratch .entry)) ⌝ }
+    ensures { λ r. ⌜ combinedMeaning r ≡ combinedAnswer (was starts) (was neighbours) node (was levels) (was scratch) ⌝ }
+    ensures { λ _. ⌜ left levels ≡ combinedLevels (was starts) (was neighbours) node (was levels) (was scratch) ⌝ }
+    ensures { λ _. ⌜ left scratch ≡ combinedScratch (was starts) (was neighbours) node (was levels) (was scratch) ⌝ }
 {
     match graph::test_adjacency(starts, neighbours) {
         Adjacency::Refused(c) => CombinedAnswer::Refused(c),

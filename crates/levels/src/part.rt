@@ -2,6 +2,7 @@
 ghost use mathlib.Core.Path.{_≡_};
 ghost use Prim.Native.Nat.{_*_, _≤_};
 ghost use lib.ListN.{length};
+ghost use Rattle.basis.specs.Moments.{was, left};
 ghost use Rattle.spec.specs.Combined.{combined};
 ghost use Rattle.spec.specs.Ends.{ends};
 ghost use Rattle.spec.specs.Graph.{graphOf, sizeOf, graphRefusal};
@@ -22,8 +23,8 @@ pub(crate) fn find_ends(starts: &[u16], neighbours: &[u16], node: u16, scratch: 
     requires { ⌜ graphRefusal (now starts) (now neighbours) ≡ 0 ⌝ }
     requires { ⌜ (1 ≤ node) × (node ≤ sizeOf (now starts)) ⌝ }
     requires { ⌜ wordsPerNode * sizeOf (now starts) ≤ length (now scratch) ⌝ }
-    ensures { λ r. ⌜ r ≡ foundOf (ends (graphOf (now (starts .entry)) (now (neighbours .entry))) node) ⌝ }
-    ensures { λ _. ⌜ now (scratch .exit) ≡ zeroed (wordsPerNode * sizeOf (now (starts .entry))) (now (scratch .entry)) ⌝ }
+    ensures { λ r. ⌜ r ≡ foundOf (ends (graphOf (was starts) (was neighbours)) node) ⌝ }
+    ensures { λ _. ⌜ left scratch ≡ zeroed (wordsPerNode * sizeOf (was starts)) (was scratch) ⌝ }
 {
     let n = starts.len() - 1;
     let half = n + n;
@@ -37,7 +38,7 @@ pub(crate) fn find_ends(starts: &[u16], neighbours: &[u16], node: u16, scratch: 
 // Copies the words of `from` over those of `to`, which are as many.
 fn copy(to: &mut [u16], from: &[u16])
     requires { ⌜ length (now to) ≡ length (now from) ⌝ }
-    ensures { λ _. ⌜ now (to .exit) ≡ now (from .entry) ⌝ }
+    ensures { λ _. ⌜ left to ≡ was from ⌝ }
 {
     let mut i = 0;
     while i < from.len() {
@@ -58,9 +59,9 @@ pub(crate) fn find_levels(
     requires { ⌜ (1 ≤ node) × (node ≤ sizeOf (now starts)) ⌝ }
     requires { ⌜ length (now levels) ≡ sizeOf (now starts) ⌝ }
     requires { ⌜ wordsPerNode * sizeOf (now starts) ≤ length (now scratch) ⌝ }
-    ensures { λ r. ⌜ r ≡ partLevelsOf (graphOf (now (starts .entry)) (now (neighbours .entry))) (ends (graphOf (now (starts .entry)) (now (neighbours .entry))) node) ⌝ }
-    ensures { λ _. ⌜ now (levels .exit) ≡ combined (graphOf (now (starts .entry)) (now (neighbours .entry))) (ends (graphOf (now (starts .entry)) (now (neighbours .entry))) node) ⌝ }
-    ensures { λ _. ⌜ now (scratch .exit) ≡ zeroed (wordsPerNode * sizeOf (now (starts .entry))) (now (scratch .entry)) ⌝ }
+    ensures { λ r. ⌜ r ≡ partLevelsOf (graphOf (was starts) (was neighbours)) (ends (graphOf (was starts) (was neighbours)) node) ⌝ }
+    ensures { λ _. ⌜ left levels ≡ combined (graphOf (was starts) (was neighbours)) (ends (graphOf (was starts) (was neighbours)) node) ⌝ }
+    ensures { λ _. ⌜ left scratch ≡ zeroed (wordsPerNode * sizeOf (was starts)) (was scratch) ⌝ }
 {
     let n = starts.len() - 1;
     clear(scratch, WORDS_PER_NODE * n);

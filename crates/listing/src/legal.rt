@@ -3,6 +3,7 @@ ghost use mathlib.Core.Path.{_≡_};
 ghost use Prim.Native.Nat.{_*_, _≤_};
 ghost use lib.ListN.{length};
 ghost use Rattle.basis.specs.Lists.{overwrite};
+ghost use Rattle.basis.specs.Moments.{was, left};
 ghost use Rattle.spec.specs.Graph.{graphOf, graphRefusal, maxNodes};
 ghost use Rattle.spec.specs.Lent.{outcome, filled, wordsPerNode};
 ghost use Rattle.spec.specs.Mesh.{entryCount, startList, neighbourList};
@@ -43,8 +44,8 @@ fn renumber(
 ) -> usize
     requires { ⌜ graphRefusal (now starts) (now neighbours) ≡ 0 ⌝ }
     requires { ⌜ (wordsPerNode * maxNodes ≤ length (now scratch)) × TextRoom (now numbers) (now levels) (now output) ⌝ }
-    ensures { λ r. ⌜ r ≡ length (listing (graphOf (now (starts .entry)) (now (neighbours .entry))) (run (graphOf (now (starts .entry)) (now (neighbours .entry))))) ⌝ }
-    ensures { λ _. ⌜ now (output .exit) ≡ overwrite (listing (graphOf (now (starts .entry)) (now (neighbours .entry))) (run (graphOf (now (starts .entry)) (now (neighbours .entry))))) (now (output .entry)) ⌝ }
+    ensures { λ r. ⌜ r ≡ length (listing (graphOf (was starts) (was neighbours)) (run (graphOf (was starts) (was neighbours)))) ⌝ }
+    ensures { λ _. ⌜ left output ≡ overwrite (listing (graphOf (was starts) (was neighbours)) (run (graphOf (was starts) (was neighbours)))) (was output) ⌝ }
 {
     let n = starts.len() - 1;
     let x = &mut numbers[..n];
@@ -62,9 +63,9 @@ fn read(
     scratch: &mut [u16],
 ) -> Entries
     requires { ⌜ ReadingRoom (now words) (now starts) (now neighbours) (now scratch) ⌝ }
-    ensures { λ r. ⌜ meaning r ≡ outcome (fileRefusal (now (file .entry))) (entryCount (fileGraph (now (file .entry)))) ⌝ }
-    ensures { λ _. ⌜ now (starts .exit) ≡ filled (fileRefusal (now (file .entry))) (startList (fileGraph (now (file .entry)))) (now (starts .entry)) ⌝ }
-    ensures { λ _. ⌜ now (neighbours .exit) ≡ filled (fileRefusal (now (file .entry))) (neighbourList (fileGraph (now (file .entry)))) (now (neighbours .entry)) ⌝ }
+    ensures { λ r. ⌜ meaning r ≡ outcome (fileRefusal (was file)) (entryCount (fileGraph (was file))) ⌝ }
+    ensures { λ _. ⌜ left starts ≡ filled (fileRefusal (was file)) (startList (fileGraph (was file))) (was starts) ⌝ }
+    ensures { λ _. ⌜ left neighbours ≡ filled (fileRefusal (was file)) (neighbourList (fileGraph (was file))) (was neighbours) ⌝ }
 {
     let refusal = reading::header_refusal(file);
     if refusal != 0 {
@@ -86,8 +87,8 @@ pub fn list_file(
 ) -> usize
     requires { ⌜ ReadingRoom (now words) (now starts) (now neighbours) (now scratch) ⌝ }
     requires { ⌜ TextRoom (now numbers) (now levels) (now output) ⌝ }
-    ensures { λ r. ⌜ r ≡ length (programOutput (now (file .entry))) ⌝ }
-    ensures { λ _. ⌜ now (output .exit) ≡ overwrite (programOutput (now (file .entry))) (now (output .entry)) ⌝ }
+    ensures { λ r. ⌜ r ≡ length (programOutput (was file)) ⌝ }
+    ensures { λ _. ⌜ left output ≡ overwrite (programOutput (was file)) (was output) ⌝ }
 {
     match read(file, words, starts, neighbours, scratch) {
         Entries::Refused(number) => writing::legal::write_refusal(number, output),

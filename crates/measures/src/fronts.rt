@@ -5,6 +5,7 @@ ghost use mathlib.Core.List.{map};
 ghost use Prim.Native.Nat.{_-_};
 ghost use lib.ListN.{length, take, replicate};
 ghost use Rattle.basis.specs.Lists.{greatest, sum, upFrom};
+ghost use Rattle.basis.specs.Moments.{was, left};
 ghost use Rattle.measures.specs.Fronts.{Sweeps};
 use words::larger;
 use words::wide;
@@ -12,8 +13,8 @@ use words::wide;
 // The greatest of what is opened up to i and not passed before i. The words end as 0.
 pub(crate) fn sweep(counts: &mut [u16]) -> usize
     requires { ⌜ Sweeps (now counts) ⌝ }
-    ensures { λ r. ⌜ r ≡ greatest (map (λ i. sum (take i (now (counts .entry))) - (i - 1)) (upFrom 1 (length (now (counts .entry))))) ⌝ }
-    ensures { λ _. ⌜ now (counts .exit) ≡ replicate (length (now (counts .entry))) 0 ⌝ }
+    ensures { λ r. ⌜ r ≡ greatest (map (λ i. sum (take i (was counts)) - (i - 1)) (upFrom 1 (length (was counts)))) ⌝ }
+    ensures { λ _. ⌜ left counts ≡ replicate (length (was counts)) 0 ⌝ }
 {
     let n = counts.len();
     let mut live = 0;

@@ -4,6 +4,7 @@
 ghost use mathlib.Core.Path.{_≡_};
 ghost use mathlib.Core.Bool.{true};
 ghost use lib.ListN.{length, replicate};
+ghost use Rattle.basis.specs.Moments.{was, left};
 ghost use Rattle.spec.specs.CallsNumbering.{measureFigures};
 ghost use Rattle.spec.specs.Graph.{sizeOf, graphOf};
 ghost use Rattle.spec.specs.Measures.{isNumbering, renumbered, bandwidth, profile};
@@ -28,9 +29,9 @@ fn walk(starts: &[u16], neighbours: &[u16], numbering: &[u16], counts: &mut [u16
     requires { ⌜ LegalLists (now starts) (now neighbours) ⌝ }
     requires { ⌜ isNumbering (sizeOf (now starts)) (now numbering) ≡ true ⌝ }
     requires { ⌜ now counts ≡ replicate (sizeOf (now starts)) 0 ⌝ }
-    ensures { λ r. ⌜ r .bandwidth ≡ bandwidth (renumbered (graphOf (now (starts .entry)) (now (neighbours .entry))) (now (numbering .entry))) ⌝ }
-    ensures { λ r. ⌜ r .profile ≡ profile (renumbered (graphOf (now (starts .entry)) (now (neighbours .entry))) (now (numbering .entry))) ⌝ }
-    ensures { λ _. ⌜ now (counts .exit) ≡ opened (graphOf (now (starts .entry)) (now (neighbours .entry))) (now (numbering .entry)) (sizeOf (now (starts .entry))) ⌝ }
+    ensures { λ r. ⌜ r .bandwidth ≡ bandwidth (renumbered (graphOf (was starts) (was neighbours)) (was numbering)) ⌝ }
+    ensures { λ r. ⌜ r .profile ≡ profile (renumbered (graphOf (was starts) (was neighbours)) (was numbering)) ⌝ }
+    ensures { λ _. ⌜ left counts ≡ opened (graphOf (was starts) (was neighbours)) (was numbering) (sizeOf (was starts)) ⌝ }
 {
     let n = numbering.len();
     let mut widest = 0;
@@ -61,8 +62,8 @@ pub fn figures(
     requires { ⌜ LegalLists (now starts) (now neighbours) ⌝ }
     requires { ⌜ isNumbering (sizeOf (now starts)) (now numbering) ≡ true ⌝ }
     requires { ⌜ length (now counts) ≡ sizeOf (now starts) ⌝ }
-    ensures { λ r. ⌜ three r ≡ measureFigures (renumbered (graphOf (now (starts .entry)) (now (neighbours .entry))) (now (numbering .entry))) ⌝ }
-    ensures { λ _. ⌜ now (counts .exit) ≡ replicate (sizeOf (now (starts .entry))) 0 ⌝ }
+    ensures { λ r. ⌜ three r ≡ measureFigures (renumbered (graphOf (was starts) (was neighbours)) (was numbering)) ⌝ }
+    ensures { λ _. ⌜ left counts ≡ replicate (sizeOf (was starts)) 0 ⌝ }
 {
     clear(counts, numbering.len());
     let spans = walk(starts, neighbours, numbering, counts);

@@ -1,5 +1,6 @@
 // Bandwidth, profile and front of a legal graph under a numbering. Linear in nodes and entries.
 ghost use mathlib.Core.Path.{_≡_};
+ghost use Rattle.basis.specs.Moments.{was, left};
 ghost use Rattle.spec.specs.CallsNumbering.{measuresAnswer, measuresScratch};
 ghost use Rattle.measures.specs.Answer.{meaning};
 
@@ -18,8 +19,8 @@ pub fn measures(
     numbering: &[u16],
     scratch: &mut [u16],
 ) -> MeasuresAnswer
-    ensures { λ r. ⌜ meaning r ≡ measuresAnswer (now (starts .entry)) (now (neighbours .entry)) (now (numbering .entry)) (now (scratch .entry)) ⌝ }
-    ensures { λ _. ⌜ now (scratch .exit) ≡ measuresScratch (now (starts .entry)) (now (neighbours .entry)) (now (numbering .entry)) (now (scratch .entry)) ⌝ }
+    ensures { λ r. ⌜ meaning r ≡ measuresAnswer (was starts) (was neighbours) (was numbering) (was scratch) ⌝ }
+    ensures { λ _. ⌜ left scratch ≡ measuresScratch (was starts) (was neighbours) (was numbering) (was scratch) ⌝ }
 {
     let tested = graph::test_adjacency(starts, neighbours);
     if let Adjacency::Refused(c) = tested {

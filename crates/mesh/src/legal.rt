@@ -2,6 +2,7 @@
 ghost use mathlib.Core.Path.{_≡_};
 ghost use Prim.Native.Nat.{_≤_, _<_};
 ghost use lib.ListN.{length};
+ghost use Rattle.basis.specs.Moments.{was, left};
 ghost use Rattle.spec.specs.Refusal.{refuse};
 ghost use Rattle.spec.specs.Lent.{outcome, filled, zeroed};
 ghost use Rattle.spec.specs.Mesh.{elementsRefusal, entryCount, startList, neighbourList, refuses11};
@@ -19,10 +20,10 @@ pub fn adjacency(
 ) -> Entries
     requires { ⌜ (n ≤ 4096) × (n < length (now starts)) × (32768 ≤ length (now neighbours)) × (n ≤ length (now scratch)) ⌝ }
     requires { ⌜ elementsRefusal (length (now elements)) n (now elements) ≡ 0 ⌝ }
-    ensures { λ r. ⌜ meaning r ≡ outcome (refuse (refuses11 (graphOfElements n (now (elements .entry)))) 11) (entryCount (graphOfElements n (now (elements .entry)))) ⌝ }
-    ensures { λ _. ⌜ now (starts .exit) ≡ filled (refuse (refuses11 (graphOfElements n (now (elements .entry)))) 11) (startList (graphOfElements n (now (elements .entry)))) (now (starts .entry)) ⌝ }
-    ensures { λ _. ⌜ now (neighbours .exit) ≡ filled (refuse (refuses11 (graphOfElements n (now (elements .entry)))) 11) (neighbourList (graphOfElements n (now (elements .entry)))) (now (neighbours .entry)) ⌝ }
-    ensures { λ _. ⌜ now (scratch .exit) ≡ zeroed n (now (scratch .entry)) ⌝ }
+    ensures { λ r. ⌜ meaning r ≡ outcome (refuse (refuses11 (graphOfElements n (was elements))) 11) (entryCount (graphOfElements n (was elements))) ⌝ }
+    ensures { λ _. ⌜ left starts ≡ filled (refuse (refuses11 (graphOfElements n (was elements))) 11) (startList (graphOfElements n (was elements))) (was starts) ⌝ }
+    ensures { λ _. ⌜ left neighbours ≡ filled (refuse (refuses11 (graphOfElements n (was elements))) 11) (neighbourList (graphOfElements n (was elements))) (was neighbours) ⌝ }
+    ensures { λ _. ⌜ left scratch ≡ zeroed n (was scratch) ⌝ }
 {
     let lists = &mut scratch[..n];
     if rows::legal::over(lists, elements, starts, neighbours) {

@@ -1,5 +1,6 @@
 // The mesh call: from elements to the two lists of a graph.
 ghost use mathlib.Core.Path.{_≡_};
+ghost use Rattle.basis.specs.Moments.{was, left};
 ghost use Rattle.spec.specs.CallsMesh.{meshAnswer, meshStarts, meshNeighbours, meshScratch};
 ghost use Rattle.mesh.specs.Answer.{meaning};
 
@@ -16,10 +17,10 @@ pub fn mesh_lists(
     neighbours: &mut [u16],
     scratch: &mut [u16],
 ) -> Entries
-    ensures { λ r. ⌜ meaning r ≡ meshAnswer n (now (elements .entry)) (now (starts .entry)) (now (neighbours .entry)) (now (scratch .entry)) ⌝ }
-    ensures { λ _. ⌜ now (starts .exit) ≡ meshStarts n (now (elements .entry)) (now (starts .entry)) (now (neighbours .entry)) (now (scratch .entry)) ⌝ }
-    ensures { λ _. ⌜ now (neighbours .exit) ≡ meshNeighbours n (now (elements .entry)) (now (starts .entry)) (now (neighbours .entry)) (now (scratch .entry)) ⌝ }
-    ensures { λ _. ⌜ now (scratch .exit) ≡ meshScratch n (now (elements .entry)) (now (starts .entry)) (now (neighbours .entry)) (now (scratch .entry)) ⌝ }
+    ensures { λ r. ⌜ meaning r ≡ meshAnswer n (was elements) (was starts) (was neighbours) (was scratch) ⌝ }
+    ensures { λ _. ⌜ left starts ≡ meshStarts n (was elements) (was starts) (was neighbours) (was scratch) ⌝ }
+    ensures { λ _. ⌜ left neighbours ≡ meshNeighbours n (was elements) (was starts) (was neighbours) (was scratch) ⌝ }
+    ensures { λ _. ⌜ left scratch ≡ meshScratch n (was elements) (was starts) (was neighbours) (was scratch) ⌝ }
 {
     if n == 0 {
         return Entries::Refused(1);

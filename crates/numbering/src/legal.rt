@@ -2,6 +2,7 @@
 ghost use mathlib.Core.Path.{_≡_};
 ghost use Prim.Native.Nat.{_+_, _*_, _≤_, _<_, max};
 ghost use lib.ListN.{length};
+ghost use Rattle.basis.specs.Moments.{was, left};
 ghost use Rattle.spec.specs.Graph.{graphOf, sizeOf, graphRefusal};
 ghost use Rattle.spec.specs.Lent.{zeroed, wordsPerNode};
 ghost use Rattle.spec.specs.Levels.{parts};
@@ -61,8 +62,8 @@ fn next_part(
     requires { ⌜ t .parts < length (parts (graphOf (now starts) (now neighbours))) ⌝ }
     requires { ⌜ Ran (now starts) (now neighbours) (t .parts) (t .nodes) (t .levels) (t .width) (t .passes) (now numbers) (now levels) (now scratch) ⌝ }
     ensures { λ r. ⌜ r .parts ≡ t .parts + 1 ⌝ }
-    ensures { λ r. ⌜ Ran (now (starts .entry)) (now (neighbours .entry)) (r .parts) (r .nodes) (r .levels) (r .width) (r .passes) (now (numbers .exit)) (now (levels .exit)) (now (scratch .entry)) ⌝ }
-    ensures { λ _. ⌜ now (scratch .exit) ≡ now (scratch .entry) ⌝ }
+    ensures { λ r. ⌜ Ran (was starts) (was neighbours) (r .parts) (r .nodes) (r .levels) (r .width) (r .passes) (left numbers) (left levels) (was scratch) ⌝ }
+    ensures { λ _. ⌜ left scratch ≡ was scratch ⌝ }
 {
     let n = starts.len() - 1;
     let from = wide(t.nodes);
@@ -101,10 +102,10 @@ fn number_parts(
 ) -> Tally
     requires { ⌜ count ≡ length (parts (graphOf (now starts) (now neighbours))) ⌝ }
     requires { ⌜ Ran (now starts) (now neighbours) 0 0 0 0 0 (now numbers) (now levels) (now scratch) ⌝ }
-    ensures { λ r. ⌜ Summed (run (graphOf (now (starts .entry)) (now (neighbours .entry))) .figures) (r .parts) (r .nodes) (r .levels) (r .width) (r .passes) ⌝ }
-    ensures { λ _. ⌜ now (numbers .exit) ≡ run (graphOf (now (starts .entry)) (now (neighbours .entry))) .numbers ⌝ }
-    ensures { λ _. ⌜ now (levels .exit) ≡ run (graphOf (now (starts .entry)) (now (neighbours .entry))) .levels ⌝ }
-    ensures { λ _. ⌜ now (scratch .exit) ≡ now (scratch .entry) ⌝ }
+    ensures { λ r. ⌜ Summed (run (graphOf (was starts) (was neighbours)) .figures) (r .parts) (r .nodes) (r .levels) (r .width) (r .passes) ⌝ }
+    ensures { λ _. ⌜ left numbers ≡ run (graphOf (was starts) (was neighbours)) .numbers ⌝ }
+    ensures { λ _. ⌜ left levels ≡ run (graphOf (was starts) (was neighbours)) .levels ⌝ }
+    ensures { λ _. ⌜ left scratch ≡ was scratch ⌝ }
 {
     let mut t = Tally {
         parts: 0,
@@ -130,10 +131,10 @@ pub fn number_all(
     requires { ⌜ graphRefusal (now starts) (now neighbours) ≡ 0 ⌝ }
     requires { ⌜ (length (now numbers) ≡ sizeOf (now starts)) × (length (now levels) ≡ sizeOf (now starts)) ⌝ }
     requires { ⌜ wordsPerNode * sizeOf (now starts) ≤ length (now scratch) ⌝ }
-    ensures { λ r. ⌜ eight r ≡ run (graphOf (now (starts .entry)) (now (neighbours .entry))) .figures ⌝ }
-    ensures { λ _. ⌜ now (numbers .exit) ≡ run (graphOf (now (starts .entry)) (now (neighbours .entry))) .numbers ⌝ }
-    ensures { λ _. ⌜ now (levels .exit) ≡ run (graphOf (now (starts .entry)) (now (neighbours .entry))) .levels ⌝ }
-    ensures { λ _. ⌜ now (scratch .exit) ≡ zeroed (wordsPerNode * sizeOf (now (starts .entry))) (now (scratch .entry)) ⌝ }
+    ensures { λ r. ⌜ eight r ≡ run (graphOf (was starts) (was neighbours)) .figures ⌝ }
+    ensures { λ _. ⌜ left numbers ≡ run (graphOf (was starts) (was neighbours)) .numbers ⌝ }
+    ensures { λ _. ⌜ left levels ≡ run (graphOf (was starts) (was neighbours)) .levels ⌝ }
+    ensures { λ _. ⌜ left scratch ≡ zeroed (wordsPerNode * sizeOf (was starts)) (was scratch) ⌝ }
 {
     let n = starts.len() - 1;
     clear(scratch, WORDS_PER_NODE * n);

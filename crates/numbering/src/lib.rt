@@ -7,6 +7,7 @@ ghost use mathlib.Core.Bool.{_||_};
 ghost use Prim.Native.Nat.{_*_, _≤_};
 ghost use lib.Dec.{ltb};
 ghost use lib.ListN.{take};
+ghost use Rattle.basis.specs.Moments.{was, left};
 ghost use Rattle.spec.specs.Claim.{Numbered};
 ghost use Rattle.spec.specs.CallsNumbering.{runAnswer, runNumbers, runLevels, runScratch};
 ghost use Rattle.spec.specs.Graph.{sizeOf};
@@ -38,11 +39,11 @@ pub fn run(
     levels: &mut [u16],
     scratch: &mut [u16],
 ) -> RunAnswer
-    ensures { λ r. ⌜ meaning r ≡ runAnswer (now (starts .entry)) (now (neighbours .entry)) (now (numbers .entry)) (now (levels .entry)) (now (scratch .entry)) ⌝ }
-    ensures { λ _. ⌜ now (numbers .exit) ≡ runNumbers (now (starts .entry)) (now (neighbours .entry)) (now (numbers .entry)) (now (levels .entry)) (now (scratch .entry)) ⌝ }
-    ensures { λ _. ⌜ now (levels .exit) ≡ runLevels (now (starts .entry)) (now (neighbours .entry)) (now (numbers .entry)) (now (levels .entry)) (now (scratch .entry)) ⌝ }
-    ensures { λ _. ⌜ now (scratch .exit) ≡ runScratch (now (starts .entry)) (now (neighbours .entry)) (now (numbers .entry)) (now (levels .entry)) (now (scratch .entry)) ⌝ }
-    ensures { λ r. ⌜ ((F : Figures) → meaning r ≡ accepted F → Numbered (now (starts .entry)) (now (neighbours .entry)) F (take (sizeOf (now (starts .entry))) (now (numbers .exit))) (take (sizeOf (now (starts .entry))) (now (levels .exit)))) ⌝ }
+    ensures { λ r. ⌜ meaning r ≡ runAnswer (was starts) (was neighbours) (was numbers) (was levels) (was scratch) ⌝ }
+    ensures { λ _. ⌜ left numbers ≡ runNumbers (was starts) (was neighbours) (was numbers) (was levels) (was scratch) ⌝ }
+    ensures { λ _. ⌜ left levels ≡ runLevels (was starts) (was neighbours) (was numbers) (was levels) (was scratch) ⌝ }
+    ensures { λ _. ⌜ left scratch ≡ runScratch (was starts) (was neighbours) (was numbers) (was levels) (was scratch) ⌝ }
+    ensures { λ r. ⌜ ((F : Figures) → meaning r ≡ accepted F → Numbered (was starts) (was neighbours) F (take (sizeOf (was starts)) (left numbers)) (take (sizeOf (was starts)) (left levels))) ⌝ }
 {
     match graph::test_adjacency(starts, neighbours) {
         Adjacency::Refused(c) => RunAnswer::Refused(c),

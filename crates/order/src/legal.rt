@@ -8,6 +8,7 @@ ghost use Prim.Native.Nat.{ℕ, _+_, _-_, _*_, _≤_};
 ghost use lib.ListN.{length, take, drop, replicate};
 ghost use lib.Dec.{ltb};
 ghost use Rattle.basis.specs.Lists.{filterb, chainb, memb, upFrom, overwrite};
+ghost use Rattle.basis.specs.Moments.{was, left};
 ghost use Rattle.spec.specs.Graph.{sizeOf, graphOf, graphRefusal, sortE};
 ghost use Rattle.spec.specs.Numbering.{forwardOrder};
 ghost use Rattle.laws.specs.Legal.{Starts};
@@ -22,7 +23,7 @@ use words::wide;
 // Whether the node q has no number yet and stands in level i.
 fn is_free(work: &[u16], at: usize, q: usize, i: u16) -> bool
     requires { ⌜ (1 ≤ q) × (at + q ≤ length (now work)) ⌝ }
-    ensures { λ r. ⌜ r ≡ isFree (now (work .entry)) at i q ⌝ }
+    ensures { λ r. ⌜ r ≡ isFree (was work) at i q ⌝ }
 {
     let p = q - 1;
     if work[p] != 0 {
@@ -36,7 +37,7 @@ fn push(work: &mut [u16], n: usize, t: usize, z: u16)
     requires { ⌜ Open n t (now work) ⌝ }
     requires { ⌜ (1 ≤ z) × (z ≤ n) ⌝ }
     requires { ⌜ memb z (orderIn n t (now work)) ≡ false ⌝ }
-    ensures { λ _. ⌜ now (work .exit) ≡ stand n (orderIn n t (now (work .entry)) ++ (z ∷ [])) (drop n (now (work .entry))) ⌝ }
+    ensures { λ _. ⌜ left work ≡ stand n (orderIn n t (was work) ++ (z ∷ [])) (drop n (was work)) ⌝ }
 {
     let p = wide(z) - 1;
     work[p] = 1;
@@ -48,7 +49,7 @@ fn offer(work: &mut [u16], n: usize, at: usize, t: usize, q: u16, i: u16) -> usi
     requires { ⌜ Open n t (now work) ⌝ }
     requires { ⌜ Far n at (now work) ⌝ }
     requires { ⌜ (1 ≤ q) × (q ≤ n) ⌝ }
-    ensures { λ r. ⌜ Became n (now (work .entry)) (orderIn n t (now (work .entry)) ++ filterb (free (drop at (now (work .entry))) i (orderIn n t (now (work .entry)))) (q ∷ [])) r (now (work .exit)) ⌝ }
+    ensures { λ r. ⌜ Became n (was work) (orderIn n t (was work) ++ filterb (free (drop at (was work)) i (orderIn n t (was work))) (q ∷ [])) r (left work) ⌝ }
 {
     if is_free(work, at, wide(q), i) {
         push(work, n, t, q);
@@ -63,7 +64,7 @@ fn append(row: &[u16], work: &mut [u16], n: usize, at: usize, t: usize, i: u16) 
     requires { ⌜ Far n at (now work) ⌝ }
     requires { ⌜ Nodes n (now row) ⌝ }
     requires { ⌜ chainb ltb (now row) ≡ true ⌝ }
-    ensures { λ r. ⌜ Became n (now (work .entry)) (orderIn n t (now (work .entry)) ++ filterb (free (drop at (now (work .entry))) i (orderIn n t (now (work .entry)))) (now (row .entry))) r (now (work .exit)) ⌝ }
+    ensures { λ r. ⌜ Became n (was work) (orderIn n t (was work) ++ filterb (free (drop at (was work)) i (orderIn n t (was work))) (was row)) r (left work) ⌝ }
 {
     let mut e = t;
     let mut j = 0;
@@ -81,7 +82,7 @@ fn sort_tail(starts: &[u16], work: &mut [u16], n: usize, t: usize, e: usize)
     requires { ⌜ n ≡ sizeOf (now starts) ⌝ }
     requires { ⌜ Open n e (now work) ⌝ }
     requires { ⌜ t ≤ e ⌝ }
-    ensures { λ _. ⌜ ((neighbours : List ℕ) → Starts (now (starts .entry)) neighbours → now (work .exit) ≡ stand n (take t (orderIn n e (now (work .entry))) ++ sortE (graphOf (now (starts .entry)) neighbours) (drop t (orderIn n e (now (work .entry))))) (drop n (now (work .entry)))) ⌝ }
+    ensures { λ _. ⌜ ((neighbours : List ℕ) → Starts (was starts) neighbours → left work ≡ stand n (take t (orderIn n e (was work)) ++ sortE (graphOf (was starts) neighbours) (drop t (orderIn n e (was work)))) (drop n (was work))) ⌝ }
 {
     sorting::legal::by_e(starts, &mut work[n + t..n + e]);
 }
@@ -102,7 +103,7 @@ fn extend(
     requires { ⌜ Open n t (now work) ⌝ }
     requires { ⌜ Far n at (now work) ⌝ }
     requires { ⌜ (1 ≤ w) × (w ≤ n) ⌝ }
-    ensures { λ r. ⌜ Became n (now (work .entry)) (addBy (foundBy (graphOf (now (starts .entry)) (now (neighbours .entry))) (drop at (now (work .entry))) i) (orderIn n t (now (work .entry))) w) r (now (work .exit)) ⌝ }
+    ensures { λ r. ⌜ Became n (was work) (addBy (foundBy (graphOf (was starts) (was neighbours)) (drop at (was work)) i) (orderIn n t (was work)) w) r (left work) ⌝ }
 {
     let row = graph::legal::row(starts, neighbours, wide(w));
     let e = append(row, work, n, at, t, i);
@@ -126,7 +127,7 @@ fn from_before(
     requires { ⌜ Open n b (now work) ⌝ }
     requires { ⌜ Far n at (now work) ⌝ }
     requires { ⌜ a ≤ b ⌝ }
-    ensures { λ r. ⌜ Became n (now (work .entry)) (foldl (addBy (foundBy (graphOf (now (starts .entry)) (now (neighbours .entry))) (drop at (now (work .entry))) i)) (orderIn n b (now (work .entry))) (drop a (orderIn n b (now (work .entry))))) r (now (work .exit)) ⌝ }
+    ensures { λ r. ⌜ Became n (was work) (foldl (addBy (foundBy (graphOf (was starts) (was neighbours)) (drop at (was work)) i)) (orderIn n b (was work)) (drop a (orderIn n b (was work)))) r (left work) ⌝ }
 {
     let mut e = b;
     let mut h = a;
@@ -154,7 +155,7 @@ fn spread(
     requires { ⌜ n ≡ sizeOf (now starts) ⌝ }
     requires { ⌜ Open n t (now work) ⌝ }
     requires { ⌜ Far n at (now work) ⌝ }
-    ensures { λ r. ⌜ Spreads n (foundBy (graphOf (now (starts .entry)) (now (neighbours .entry))) (drop at (now (work .entry))) i) c (orderIn n t (now (work .entry))) (now (work .entry)) r (now (work .exit)) ⌝ }
+    ensures { λ r. ⌜ Spreads n (foundBy (graphOf (was starts) (was neighbours)) (drop at (was work)) i) c (orderIn n t (was work)) (was work) r (left work) ⌝ }
 {
     let mut e = t;
     let mut h = c;
@@ -183,7 +184,7 @@ fn resume(
     requires { ⌜ Far n at (now work) ⌝ }
     requires { ⌜ (1 ≤ z) × (z ≤ n) ⌝ }
     requires { ⌜ memb z (orderIn n t (now work)) ≡ false ⌝ }
-    ensures { λ r. ⌜ Spreads n (foundBy (graphOf (now (starts .entry)) (now (neighbours .entry))) (drop at (now (work .entry))) i) t (orderIn n t (now (work .entry)) ++ (z ∷ [])) (now (work .entry)) r (now (work .exit)) ⌝ }
+    ensures { λ r. ⌜ Spreads n (foundBy (graphOf (was starts) (was neighbours)) (drop at (was work)) i) t (orderIn n t (was work) ++ (z ∷ [])) (was work) r (left work) ⌝ }
 {
     push(work, n, t, z);
     spread(starts, neighbours, work, n, at, t, t + 1, i)
@@ -206,7 +207,7 @@ fn fill(
     requires { ⌜ Open n t (now work) ⌝ }
     requires { ⌜ i ≤ n ⌝ }
     requires { ⌜ ((P : List ℕ) × Fills (graphOf (now starts) (now neighbours)) n at t i b (now work) P) ⌝ }
-    ensures { λ r. ⌜ ((P : List ℕ) → Fills (graphOf (now (starts .entry)) (now (neighbours .entry))) n at t i b (now (work .entry)) P → Became n (now (work .entry)) (filledIn (graphOf (now (starts .entry)) (now (neighbours .entry))) (ownLevels (graphOf (now (starts .entry)) (now (neighbours .entry))) P (drop at (now (work .entry)))) i (orderIn n t (now (work .entry)))) r (now (work .exit))) ⌝ }
+    ensures { λ r. ⌜ ((P : List ℕ) → Fills (graphOf (was starts) (was neighbours)) n at t i b (was work) P → Became n (was work) (filledIn (graphOf (was starts) (was neighbours)) (ownLevels (graphOf (was starts) (was neighbours)) P (drop at (was work))) i (orderIn n t (was work))) r (left work)) ⌝ }
 {
     let top = work[n + n + n + (wide(i) - 1)];
     let left = unmarked(work, n, top);
@@ -238,7 +239,7 @@ fn level(
     requires { ⌜ Open n b (now work) ⌝ }
     requires { ⌜ i ≤ n ⌝ }
     requires { ⌜ ((P : List ℕ) × Follows (graphOf (now starts) (now neighbours)) n at b i a (now work) P) ⌝ }
-    ensures { λ r. ⌜ ((P : List ℕ) → Follows (graphOf (now (starts .entry)) (now (neighbours .entry))) n at b i a (now (work .entry)) P → Became n (now (work .entry)) (laterIn (graphOf (now (starts .entry)) (now (neighbours .entry))) (ownLevels (graphOf (now (starts .entry)) (now (neighbours .entry))) P (drop at (now (work .entry)))) (orderIn n b (now (work .entry))) i) r (now (work .exit))) ⌝ }
+    ensures { λ r. ⌜ ((P : List ℕ) → Follows (graphOf (was starts) (was neighbours)) n at b i a (was work) P → Became n (was work) (laterIn (graphOf (was starts) (was neighbours)) (ownLevels (graphOf (was starts) (was neighbours)) P (drop at (was work))) (orderIn n b (was work)) i) r (left work)) ⌝ }
 {
     let e = from_before(starts, neighbours, work, n, at, a, b, i);
     fill(starts, neighbours, work, n, at, b, e, i)
@@ -247,7 +248,7 @@ fn level(
 // Sets the marks of the t nodes of the order to 0 again.
 fn wipe(work: &mut [u16], n: usize, t: usize)
     requires { ⌜ Open n t (now work) ⌝ }
-    ensures { λ _. ⌜ now (work .exit) ≡ replicate n 0 ++ drop n (now (work .entry)) ⌝ }
+    ensures { λ _. ⌜ left work ≡ replicate n 0 ++ drop n (was work) ⌝ }
 {
     let mut h = 0;
     while h < t {
@@ -272,7 +273,7 @@ fn later_levels(
     requires { ⌜ Open n t (now work) ⌝ }
     requires { ⌜ (1 ≤ k) × (k ≤ n) ⌝ }
     requires { ⌜ ((P : List ℕ) × Follows (graphOf (now starts) (now neighbours)) n at t 2 0 (now work) P) ⌝ }
-    ensures { λ r. ⌜ ((P : List ℕ) → Follows (graphOf (now (starts .entry)) (now (neighbours .entry))) n at t 2 0 (now (work .entry)) P → Became n (now (work .entry)) (foldl (laterIn (graphOf (now (starts .entry)) (now (neighbours .entry))) (ownLevels (graphOf (now (starts .entry)) (now (neighbours .entry))) P (drop at (now (work .entry))))) (orderIn n t (now (work .entry))) (upFrom 2 (k - 1))) r (now (work .exit))) ⌝ }
+    ensures { λ r. ⌜ ((P : List ℕ) → Follows (graphOf (was starts) (was neighbours)) n at t 2 0 (was work) P → Became n (was work) (foldl (laterIn (graphOf (was starts) (was neighbours)) (ownLevels (graphOf (was starts) (was neighbours)) P (drop at (was work)))) (orderIn n t (was work)) (upFrom 2 (k - 1))) r (left work)) ⌝ }
 {
     let mut a = 0;
     let mut b = t;
@@ -292,7 +293,7 @@ fn number(starts: &[u16], neighbours: &[u16], work: &mut [u16], n: usize, at: us
     requires { ⌜ n ≡ sizeOf (now starts) ⌝ }
     requires { ⌜ take n (now work) ≡ replicate n 0 ⌝ }
     requires { ⌜ ((P : List ℕ) × Opens (graphOf (now starts) (now neighbours)) n at k v (now work) P) ⌝ }
-    ensures { λ _. ⌜ ((P : List ℕ) → Opens (graphOf (now (starts .entry)) (now (neighbours .entry))) n at k v (now (work .entry)) P → now (work .exit) ≡ replicate n 0 ++ overwrite (forwardOrder (graphOf (now (starts .entry)) (now (neighbours .entry))) (ownLevels (graphOf (now (starts .entry)) (now (neighbours .entry))) P (drop at (now (work .entry)))) k v) (drop n (now (work .entry)))) ⌝ }
+    ensures { λ _. ⌜ ((P : List ℕ) → Opens (graphOf (was starts) (was neighbours)) n at k v (was work) P → left work ≡ replicate n 0 ++ overwrite (forwardOrder (graphOf (was starts) (was neighbours)) (ownLevels (graphOf (was starts) (was neighbours)) P (drop at (was work))) k v) (drop n (was work))) ⌝ }
 {
     push(work, n, 0, v);
     let b = fill(starts, neighbours, work, n, at, 0, 1, 1);
@@ -316,7 +317,7 @@ pub fn forward(
     requires { ⌜ take (4 * sizeOf (now starts)) (now work) ≡ replicate (4 * sizeOf (now starts)) 0 ⌝ }
     requires { ⌜ Behind (graphOf (now starts) (now neighbours)) (sizeOf (now starts)) at from m (now work) ⌝ }
     requires { ⌜ Starting (levelsIn (graphOf (now starts) (now neighbours)) at from m (now work)) (membersIn from m (now work)) k v ⌝ }
-    ensures { λ _. ⌜ now (work .exit) ≡ replicate (sizeOf (now (starts .entry))) 0 ++ overwrite (forwardOrder (graphOf (now (starts .entry)) (now (neighbours .entry))) (levelsIn (graphOf (now (starts .entry)) (now (neighbours .entry))) at from m (now (work .entry))) k v) (drop (sizeOf (now (starts .entry))) (now (work .entry))) ⌝ }
+    ensures { λ _. ⌜ left work ≡ replicate (sizeOf (was starts)) 0 ++ overwrite (forwardOrder (graphOf (was starts) (was neighbours)) (levelsIn (graphOf (was starts) (was neighbours)) at from m (was work)) k v) (drop (sizeOf (was starts)) (was work)) ⌝ }
 {
     let n = starts.len() - 1;
     rank(starts, neighbours, work, n, at, from, m);

@@ -6,6 +6,7 @@ ghost use Prim.Native.Nat.{_+_, _*_, _≤_, _<_};
 ghost use lib.ListN.{length};
 ghost use mathlib.Core.List.{map};
 ghost use Rattle.basis.specs.Lists.{upFrom, greatest};
+ghost use Rattle.basis.specs.Moments.{was, left};
 ghost use Rattle.combining.specs.Areas.{workOf, heldOf};
 ghost use Rattle.combining.specs.Tally.{tally, untally};
 ghost use Rattle.combining.specs.Model.{slotAt, countOf, queued, slots, peakOf, written, numberAt, goesSecond, chosen, Readable, Countable, Full, Placeable};
@@ -17,7 +18,7 @@ fn slot(scratch: &[u16], n: usize, base: usize, s: usize, t: usize, p: usize) ->
     requires { ⌜ 6 * n ≤ length (now scratch) ⌝ }
     requires { ⌜ Readable n base s t (workOf n (now scratch)) ⌝ }
     requires { ⌜ (s ≤ p) × (p < t) ⌝ }
-    ensures { λ r. ⌜ r ≡ 2 * n + slotAt n base (workOf n (now (scratch .entry))) p ⌝ }
+    ensures { λ r. ⌜ r ≡ 2 * n + slotAt n base (workOf n (was scratch)) p ⌝ }
 {
     let z = wide(scratch[n + p]);
     let i = wide(scratch[base + z - 1]);
@@ -29,9 +30,9 @@ fn slot(scratch: &[u16], n: usize, base: usize, s: usize, t: usize, p: usize) ->
 fn raise(scratch: &mut [u16], n: usize, base: usize, s: usize, t: usize) -> usize
     requires { ⌜ 6 * n ≤ length (now scratch) ⌝ }
     requires { ⌜ Countable n base s t (workOf n (now scratch)) ⌝ }
-    ensures { λ r. ⌜ r ≡ peakOf n base s t (workOf n (now (scratch .entry))) ⌝ }
-    ensures { λ _. ⌜ workOf n (now (scratch .exit)) ≡ tally (workOf n (now (scratch .entry))) (slots n base s t (workOf n (now (scratch .entry)))) ⌝ }
-    ensures { λ _. ⌜ heldOf n (now (scratch .exit)) ≡ heldOf n (now (scratch .entry)) ⌝ }
+    ensures { λ r. ⌜ r ≡ peakOf n base s t (workOf n (was scratch)) ⌝ }
+    ensures { λ _. ⌜ workOf n (left scratch) ≡ tally (workOf n (was scratch)) (slots n base s t (workOf n (was scratch))) ⌝ }
+    ensures { λ _. ⌜ heldOf n (left scratch) ≡ heldOf n (was scratch) ⌝ }
 {
     let mut top = 0;
     let mut p = s;
@@ -49,8 +50,8 @@ fn raise(scratch: &mut [u16], n: usize, base: usize, s: usize, t: usize) -> usiz
 fn lower(scratch: &mut [u16], n: usize, base: usize, s: usize, t: usize)
     requires { ⌜ 6 * n ≤ length (now scratch) ⌝ }
     requires { ⌜ Full n base s t (workOf n (now scratch)) ⌝ }
-    ensures { λ _. ⌜ workOf n (now (scratch .exit)) ≡ untally (workOf n (now (scratch .entry))) (slots n base s t (workOf n (now (scratch .entry)))) ⌝ }
-    ensures { λ _. ⌜ heldOf n (now (scratch .exit)) ≡ heldOf n (now (scratch .entry)) ⌝ }
+    ensures { λ _. ⌜ workOf n (left scratch) ≡ untally (workOf n (was scratch)) (slots n base s t (workOf n (was scratch))) ⌝ }
+    ensures { λ _. ⌜ heldOf n (left scratch) ≡ heldOf n (was scratch) ⌝ }
 {
     let mut p = s;
     while p < t {
@@ -65,9 +66,9 @@ fn lower(scratch: &mut [u16], n: usize, base: usize, s: usize, t: usize)
 fn peak(scratch: &mut [u16], n: usize, base: usize, s: usize, t: usize) -> usize
     requires { ⌜ 6 * n ≤ length (now scratch) ⌝ }
     requires { ⌜ Countable n base s t (workOf n (now scratch)) ⌝ }
-    ensures { λ r. ⌜ r ≡ peakOf n base s t (workOf n (now (scratch .entry))) ⌝ }
-    ensures { λ _. ⌜ workOf n (now (scratch .exit)) ≡ workOf n (now (scratch .entry)) ⌝ }
-    ensures { λ _. ⌜ heldOf n (now (scratch .exit)) ≡ heldOf n (now (scratch .entry)) ⌝ }
+    ensures { λ r. ⌜ r ≡ peakOf n base s t (workOf n (was scratch)) ⌝ }
+    ensures { λ _. ⌜ workOf n (left scratch) ≡ workOf n (was scratch) ⌝ }
+    ensures { λ _. ⌜ heldOf n (left scratch) ≡ heldOf n (was scratch) ⌝ }
 {
     let h = raise(scratch, n, base, s, t);
     lower(scratch, n, base, s, t);
@@ -78,8 +79,8 @@ fn peak(scratch: &mut [u16], n: usize, base: usize, s: usize, t: usize) -> usize
 fn put(scratch: &mut [u16], n: usize, base: usize, s: usize, t: usize)
     requires { ⌜ Readable n base s t (workOf n (now scratch)) ⌝ }
     requires { ⌜ n ≤ length (heldOf n (now scratch)) ⌝ }
-    ensures { λ _. ⌜ workOf n (now (scratch .exit)) ≡ workOf n (now (scratch .entry)) ⌝ }
-    ensures { λ _. ⌜ heldOf n (now (scratch .exit)) ≡ written (numberAt base (workOf n (now (scratch .entry)))) (heldOf n (now (scratch .entry))) (queued n s t (workOf n (now (scratch .entry)))) ⌝ }
+    ensures { λ _. ⌜ workOf n (left scratch) ≡ workOf n (was scratch) ⌝ }
+    ensures { λ _. ⌜ heldOf n (left scratch) ≡ written (numberAt base (workOf n (was scratch))) (heldOf n (was scratch)) (queued n s t (workOf n (was scratch))) ⌝ }
 {
     let mut p = s;
     while p < t {
@@ -93,8 +94,8 @@ fn put(scratch: &mut [u16], n: usize, base: usize, s: usize, t: usize)
 pub fn settle(scratch: &mut [u16], n: usize, base: usize, s: usize, t: usize)
     requires { ⌜ Countable n base s t (workOf n (now scratch)) ⌝ }
     requires { ⌜ n ≤ length (heldOf n (now scratch)) ⌝ }
-    ensures { λ _. ⌜ workOf n (now (scratch .exit)) ≡ tally (workOf n (now (scratch .entry))) (slots n base s t (workOf n (now (scratch .entry)))) ⌝ }
-    ensures { λ _. ⌜ heldOf n (now (scratch .exit)) ≡ written (numberAt base (workOf n (now (scratch .entry)))) (heldOf n (now (scratch .entry))) (queued n s t (workOf n (now (scratch .entry)))) ⌝ }
+    ensures { λ _. ⌜ workOf n (left scratch) ≡ tally (workOf n (was scratch)) (slots n base s t (workOf n (was scratch))) ⌝ }
+    ensures { λ _. ⌜ heldOf n (left scratch) ≡ written (numberAt base (workOf n (was scratch))) (heldOf n (was scratch)) (queued n s t (workOf n (was scratch))) ⌝ }
 {
     put(scratch, n, base, s, t);
     raise(scratch, n, base, s, t);
@@ -118,8 +119,8 @@ fn choose(n: usize, h: usize, l: usize, narrow: bool) -> usize
 // Places the piece s..t of the queue against the counts as they now are.
 pub fn place(scratch: &mut [u16], n: usize, s: usize, t: usize, narrow: bool)
     requires { ⌜ Placeable n s t (workOf n (now scratch)) (heldOf n (now scratch)) ⌝ }
-    ensures { λ _. ⌜ workOf n (now (scratch .exit)) ≡ tally (workOf n (now (scratch .entry))) (slots n (chosen n s t narrow (workOf n (now (scratch .entry)))) s t (workOf n (now (scratch .entry)))) ⌝ }
-    ensures { λ _. ⌜ heldOf n (now (scratch .exit)) ≡ written (numberAt (chosen n s t narrow (workOf n (now (scratch .entry)))) (workOf n (now (scratch .entry)))) (heldOf n (now (scratch .entry))) (queued n s t (workOf n (now (scratch .entry)))) ⌝ }
+    ensures { λ _. ⌜ workOf n (left scratch) ≡ tally (workOf n (was scratch)) (slots n (chosen n s t narrow (workOf n (was scratch))) s t (workOf n (was scratch))) ⌝ }
+    ensures { λ _. ⌜ heldOf n (left scratch) ≡ written (numberAt (chosen n s t narrow (workOf n (was scratch))) (workOf n (was scratch))) (heldOf n (was scratch)) (queued n s t (workOf n (was scratch))) ⌝ }
 {
     let h = peak(scratch, n, 0, s, t);
     let l = peak(scratch, n, 2 * n, s, t);
@@ -130,7 +131,7 @@ pub fn place(scratch: &mut [u16], n: usize, s: usize, t: usize, narrow: bool)
 // The greatest count of the levels 1..k.
 pub fn widest(scratch: &[u16], n: usize, k: usize) -> usize
     requires { ⌜ (n ≤ 4096) × (k ≤ n) × (6 * n ≤ length (now scratch)) ⌝ }
-    ensures { λ r. ⌜ r ≡ greatest (map (countOf n (workOf n (now (scratch .entry)))) (upFrom 1 k)) ⌝ }
+    ensures { λ r. ⌜ r ≡ greatest (map (countOf n (workOf n (was scratch))) (upFrom 1 k)) ⌝ }
 {
     let mut top = 0;
     let mut i = 0;

@@ -2,12 +2,13 @@
 ghost use mathlib.Core.Path.{_≡_};
 ghost use Prim.Native.Nat.{_+_, _<_, _≤_};
 ghost use lib.ListN.{length, getD};
+ghost use Rattle.basis.specs.Moments.{was};
 ghost use Rattle.spec.specs.File.{word, hasMark, badHeader};
 
 // The word of two bytes, "low byte first".
 pub(crate) fn word_at(file: &[u8], at: usize) -> u16
     requires { ⌜ at + 1 < length (now file) ⌝ }
-    ensures { λ r. ⌜ r ≡ word (getD (now (file .entry)) at 0) (getD (now (file .entry)) (at + 1) 0) ⌝ }
+    ensures { λ r. ⌜ r ≡ word (getD (was file) at 0) (getD (was file) (at + 1) 0) ⌝ }
 {
     let low = file[at] as u16;
     let high = file[at + 1] as u16;
@@ -17,7 +18,7 @@ pub(crate) fn word_at(file: &[u8], at: usize) -> u16
 // Whether the file begins with the letters G, R and D.
 fn has_mark(file: &[u8]) -> bool
     requires { ⌜ 3 ≤ length (now file) ⌝ }
-    ensures { λ r. ⌜ r ≡ hasMark (now (file .entry)) ⌝ }
+    ensures { λ r. ⌜ r ≡ hasMark (was file) ⌝ }
 {
     if file[0] != 71 {
         return false;
@@ -30,7 +31,7 @@ fn has_mark(file: &[u8]) -> bool
 
 // "wrong mark or version, file too long, under 9 bytes"
 pub(crate) fn bad_header(file: &[u8]) -> bool
-    ensures { λ r. ⌜ r ≡ badHeader (now (file .entry)) ⌝ }
+    ensures { λ r. ⌜ r ≡ badHeader (was file) ⌝ }
 {
     let size = file.len();
     if 65535 < size {

@@ -5,6 +5,7 @@ ghost use Prim.Native.Nat.{_≤_, _<_};
 ghost use lib.ListN.{length};
 ghost use lib.Dec.{eqb};
 ghost use Rattle.basis.specs.Lists.{overwrite};
+ghost use Rattle.basis.specs.Moments.{was, left};
 ghost use Rattle.spec.specs.Lent.{outcome, filled, scratchAfter};
 ghost use Rattle.spec.specs.Mesh.{entryCount, startList, neighbourList};
 ghost use Rattle.spec.specs.File.{fileNodes, body, countedRefusal, wordsTaken, fileGraph, headerRefusal, bodyRefusal};
@@ -17,7 +18,7 @@ use mesh::Entries;
 // n, the number of nodes.
 pub fn nodes(file: &[u8]) -> usize
     requires { ⌜ headerRefusal (now file) ≡ 0 ⌝ }
-    ensures { λ r. ⌜ r ≡ fileNodes (now (file .entry)) ⌝ }
+    ensures { λ r. ⌜ r ≡ fileNodes (was file) ⌝ }
 {
     words::wide(crate::header::word_at(file, 5))
 }
@@ -25,8 +26,8 @@ pub fn nodes(file: &[u8]) -> usize
 // Writes the words after the header to the front of the list, and returns how many there are.
 fn decode(file: &[u8], list: &mut [u16]) -> usize
     requires { ⌜ (9 ≤ length (now file)) × (length (body (now file)) ≤ length (now list)) ⌝ }
-    ensures { λ r. ⌜ r ≡ length (body (now (file .entry))) ⌝ }
-    ensures { λ _. ⌜ now (list .exit) ≡ overwrite (body (now (file .entry))) (now (list .entry)) ⌝ }
+    ensures { λ r. ⌜ r ≡ length (body (was file)) ⌝ }
+    ensures { λ _. ⌜ left list ≡ overwrite (body (was file)) (was list) ⌝ }
 {
     let count = (file.len() - 9) / 2;
     let mut i = 0;
@@ -40,7 +41,7 @@ fn decode(file: &[u8], list: &mut [u16]) -> usize
 // Tests `count` elements of a file of n nodes, one by one: how many words they take, or the refusal: 9, 10, or 12 for a record that
 // runs past the file's end.
 fn test_elements(count: usize, n: usize, list: &[u16]) -> Tested
-    ensures { λ r. ⌜ tested r ≡ outcome (countedRefusal count n (now (list .entry))) (wordsTaken count (now (list .entry))) ⌝ }
+    ensures { λ r. ⌜ tested r ≡ outcome (countedRefusal count n (was list)) (wordsTaken count (was list)) ⌝ }
 {
     let mut at = 0;
     let mut left = count;
@@ -63,8 +64,8 @@ fn test_elements(count: usize, n: usize, list: &[u16]) -> Tested
 // "bytes left over once all elements pass" are 12.
 fn read_elements(file: &[u8], list: &mut [u16]) -> Tested
     requires { ⌜ (headerRefusal (now file) ≡ 0) × (length (body (now file)) ≤ length (now list)) ⌝ }
-    ensures { λ r. ⌜ tested r ≡ outcome (wordsRefusal (now (file .entry))) (length (body (now (file .entry)))) ⌝ }
-    ensures { λ _. ⌜ now (list .exit) ≡ overwrite (body (now (file .entry))) (now (list .entry)) ⌝ }
+    ensures { λ r. ⌜ tested r ≡ outcome (wordsRefusal (was file)) (length (body (was file))) ⌝ }
+    ensures { λ _. ⌜ left list ≡ overwrite (body (was file)) (was list) ⌝ }
 {
     let n = nodes(file);
     let count = words::wide(crate::header::word_at(file, 7));
@@ -92,11 +93,11 @@ pub fn read_mesh(
 ) -> Entries
     requires { ⌜ (headerRefusal (now file) ≡ 0) × (length (body (now file)) ≤ length (now list)) ⌝ }
     requires { ⌜ (fileNodes (now file) < length (now starts)) × (32768 ≤ length (now neighbours)) × (fileNodes (now file) ≤ length (now scratch)) ⌝ }
-    ensures { λ r. ⌜ meaning r ≡ outcome (bodyRefusal (now (file .entry))) (entryCount (fileGraph (now (file .entry)))) ⌝ }
-    ensures { λ _. ⌜ now (list .exit) ≡ overwrite (body (now (file .entry))) (now (list .entry)) ⌝ }
-    ensures { λ _. ⌜ now (starts .exit) ≡ filled (bodyRefusal (now (file .entry))) (startList (fileGraph (now (file .entry)))) (now (starts .entry)) ⌝ }
-    ensures { λ _. ⌜ now (neighbours .exit) ≡ filled (bodyRefusal (now (file .entry))) (neighbourList (fileGraph (now (file .entry)))) (now (neighbours .entry)) ⌝ }
-    ensures { λ _. ⌜ now (scratch .exit) ≡ scratchAfter (eqb (bodyRefusal (now (file .entry))) 0 || eqb (bodyRefusal (now (file .entry))) 11) (fileNodes (now (file .entry))) (now (scratch .entry)) ⌝ }
+    ensures { λ r. ⌜ meaning r ≡ outcome (bodyRefusal (was file)) (entryCount (fileGraph (was file))) ⌝ }
+    ensures { λ _. ⌜ left list ≡ overwrite (body (was file)) (was list) ⌝ }
+    ensures { λ _. ⌜ left starts ≡ filled (bodyRefusal (was file)) (startList (fileGraph (was file))) (was starts) ⌝ }
+    ensures { λ _. ⌜ left neighbours ≡ filled (bodyRefusal (was file)) (neighbourList (fileGraph (was file))) (was neighbours) ⌝ }
+    ensures { λ _. ⌜ left scratch ≡ scratchAfter (eqb (bodyRefusal (was file)) 0 || eqb (bodyRefusal (was file)) 11) (fileNodes (was file)) (was scratch) ⌝ }
 {
     let n = nodes(file);
     let answer = read_elements(file, list);

@@ -1,5 +1,6 @@
 // A file's bytes, read to the two lists of its mesh: header, words, elements, then the adjacency.
 ghost use mathlib.Core.Path.{_≡_};
+ghost use Rattle.basis.specs.Moments.{was};
 ghost use Rattle.spec.specs.File.{headerRefusal};
 
 mod answer;
@@ -8,7 +9,7 @@ pub mod legal;
 
 // What a file is refused by before its elements are looked at, 12 or 1, or 0: "length, mark and version for 12 first, then 1".
 pub fn header_refusal(file: &[u8]) -> u16
-    ensures { λ r. ⌜ r ≡ headerRefusal (now (file .entry)) ⌝ }
+    ensures { λ r. ⌜ r ≡ headerRefusal (was file) ⌝ }
 {
     if header::bad_header(file) {
         return 12;

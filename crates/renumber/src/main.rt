@@ -1,6 +1,7 @@
 // Document 01's program: reads a file from standard input and prints its listing, or the line of a refusal.
 ghost use mathlib.Core.Path.{_≡_};
 ghost use lib.ListN.{take};
+ghost use Rattle.basis.specs.Moments.{was, left};
 ghost use Rattle.spec.specs.File.{programOutput};
 ghost use Rattle.io.specs.Counts.{Counts};
 use libc::STDIN_FILENO;
@@ -17,8 +18,8 @@ fn text(
     levels: &mut [u16; 4096],
     output: &mut [u8; 61539],
 ) -> usize
-    ensures { λ r. ⌜ Counts r (now (output .exit)) ⌝ }
-    ensures { λ r. ⌜ take r (now (output .exit)) ≡ programOutput (now (file .entry)) ⌝ }
+    ensures { λ r. ⌜ Counts r (left output) ⌝ }
+    ensures { λ r. ⌜ take r (left output) ≡ programOutput (was file) ⌝ }
 {
     let bytes = listing::legal::list_file(
         file,

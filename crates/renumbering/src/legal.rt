@@ -4,6 +4,7 @@ ghost use mathlib.Core.Path.{_≡_};
 ghost use Prim.Native.Nat.{_+_, _-_, _*_, _≤_, _<_};
 ghost use lib.ListN.{length, replicate, set};
 ghost use lib.Seq.{sets, slice};
+ghost use Rattle.basis.specs.Moments.{was, left};
 ghost use Rattle.spec.specs.Graph.{graphOf, sizeOf, graphRefusal, ofNode};
 ghost use Rattle.spec.specs.Numbering.{partResult};
 ghost use Rattle.combining.specs.Areas.{wordsOf};
@@ -21,8 +22,8 @@ use words::wide;
 // "take the next free numbers": those after a, in the part's order, whose words it clears.
 fn give_numbers(scratch: &mut [u16], numbers: &mut [u16], n: usize, m: usize, a: usize)
     requires { ⌜ Numberable n m a (now scratch) (now numbers) ⌝ }
-    ensures { λ _. ⌜ now (scratch .exit) ≡ sets (now (scratch .entry)) n (replicate m 0) ⌝ }
-    ensures { λ _. ⌜ now (numbers .exit) ≡ numbered a (orderAt n m (now (scratch .entry))) (now (numbers .entry)) ⌝ }
+    ensures { λ _. ⌜ left scratch ≡ sets (was scratch) n (replicate m 0) ⌝ }
+    ensures { λ _. ⌜ left numbers ≡ numbered a (orderAt n m (was scratch)) (was numbers) ⌝ }
 {
     let mut i = 0;
     while i < m {
@@ -39,8 +40,8 @@ fn give_levels(scratch: &mut [u16], levels: &mut [u16], n: usize, from: usize, t
     requires { ⌜ Members n from to (now scratch) ⌝ }
     requires { ⌜ 6 * n ≤ length (now scratch) ⌝ }
     requires { ⌜ length (now levels) ≡ n ⌝ }
-    ensures { λ _. ⌜ now (scratch .exit) ≡ stored (5 * n) nought (now (scratch .entry)) (membersOf n from to (now (scratch .entry))) ⌝ }
-    ensures { λ _. ⌜ now (levels .exit) ≡ written (numberAt (5 * n) (now (scratch .entry))) (now (levels .entry)) (membersOf n from to (now (scratch .entry))) ⌝ }
+    ensures { λ _. ⌜ left scratch ≡ stored (5 * n) nought (was scratch) (membersOf n from to (was scratch)) ⌝ }
+    ensures { λ _. ⌜ left levels ≡ written (numberAt (5 * n) (was scratch)) (was levels) (membersOf n from to (was scratch)) ⌝ }
 {
     let mut i = from;
     while i < to {
@@ -56,8 +57,8 @@ pub fn number_lone(numbers: &mut [u16], levels: &mut [u16], q: usize, from: usiz
     requires { ⌜ (1 ≤ q) × (q ≤ length (now numbers)) ⌝ }
     requires { ⌜ length (now levels) ≡ length (now numbers) ⌝ }
     requires { ⌜ (length (now numbers) ≤ 4096) × (from < 4096) ⌝ }
-    ensures { λ _. ⌜ now (numbers .exit) ≡ set (now (numbers .entry)) (q - 1) (from + 1) ⌝ }
-    ensures { λ _. ⌜ now (levels .exit) ≡ set (now (levels .entry)) (q - 1) 1 ⌝ }
+    ensures { λ _. ⌜ left numbers ≡ set (was numbers) (q - 1) (from + 1) ⌝ }
+    ensures { λ _. ⌜ left levels ≡ set (was levels) (q - 1) 1 ⌝ }
 {
     let number = from + 1;
     numbers[q - 1] = number as u16;
@@ -78,10 +79,10 @@ pub fn number_part(
     requires { ⌜ graphRefusal (now starts) (now neighbours) ≡ 0 ⌝ }
     requires { ⌜ PartGiven (graphOf (now starts) (now neighbours)) from to (wordsOf (sizeOf (now starts)) (now scratch)) (slice (5 * sizeOf (now starts)) (6 * sizeOf (now starts)) (now scratch)) ⌝ }
     requires { ⌜ (length (now numbers) ≡ sizeOf (now starts)) × (length (now levels) ≡ sizeOf (now starts)) ⌝ }
-    ensures { λ r. ⌜ r ≡ partFiguresOf (partResult (graphOf (now (starts .entry)) (now (neighbours .entry))) (firstOf (sizeOf (now (starts .entry))) from (wordsOf (sizeOf (now (starts .entry))) (now (scratch .entry)))) .report) ⌝ }
-    ensures { λ _. ⌜ now (scratch .exit) ≡ now (scratch .entry) ⌝ }
-    ensures { λ _. ⌜ now (numbers .exit) ≡ renewed (graphOf (now (starts .entry)) (now (neighbours .entry))) (firstOf (sizeOf (now (starts .entry))) from (wordsOf (sizeOf (now (starts .entry))) (now (scratch .entry)))) (numberFrom from (partResult (graphOf (now (starts .entry)) (now (neighbours .entry))) (firstOf (sizeOf (now (starts .entry))) from (wordsOf (sizeOf (now (starts .entry))) (now (scratch .entry)))) .order)) (now (numbers .entry)) ⌝ }
-    ensures { λ _. ⌜ now (levels .exit) ≡ renewed (graphOf (now (starts .entry)) (now (neighbours .entry))) (firstOf (sizeOf (now (starts .entry))) from (wordsOf (sizeOf (now (starts .entry))) (now (scratch .entry)))) (ofNode (partResult (graphOf (now (starts .entry)) (now (neighbours .entry))) (firstOf (sizeOf (now (starts .entry))) from (wordsOf (sizeOf (now (starts .entry))) (now (scratch .entry)))) .levels)) (now (levels .entry)) ⌝ }
+    ensures { λ r. ⌜ r ≡ partFiguresOf (partResult (graphOf (was starts) (was neighbours)) (firstOf (sizeOf (was starts)) from (wordsOf (sizeOf (was starts)) (was scratch))) .report) ⌝ }
+    ensures { λ _. ⌜ left scratch ≡ was scratch ⌝ }
+    ensures { λ _. ⌜ left numbers ≡ renewed (graphOf (was starts) (was neighbours)) (firstOf (sizeOf (was starts)) from (wordsOf (sizeOf (was starts)) (was scratch))) (numberFrom from (partResult (graphOf (was starts) (was neighbours)) (firstOf (sizeOf (was starts)) from (wordsOf (sizeOf (was starts)) (was scratch))) .order)) (was numbers) ⌝ }
+    ensures { λ _. ⌜ left levels ≡ renewed (graphOf (was starts) (was neighbours)) (firstOf (sizeOf (was starts)) from (wordsOf (sizeOf (was starts)) (was scratch))) (ofNode (partResult (graphOf (was starts) (was neighbours)) (firstOf (sizeOf (was starts)) from (wordsOf (sizeOf (was starts)) (was scratch))) .levels)) (was levels) ⌝ }
 {
     let n = starts.len() - 1;
     let m = to - from;

@@ -5,6 +5,7 @@ pub mod legal;
 mod part;
 
 ghost use mathlib.Core.Path.{_≡_};
+ghost use Rattle.basis.specs.Moments.{was, left};
 ghost use Rattle.spec.specs.CallsNumbering.{reportAnswer, reportScratch};
 ghost use Rattle.report.specs.Answers.{answerMeaning};
 use answer::ReportAnswer;
@@ -19,8 +20,8 @@ pub fn part_report(
     node: u16,
     scratch: &mut [u16],
 ) -> ReportAnswer
-    ensures { λ r. ⌜ answerMeaning r ≡ reportAnswer (now (starts .entry)) (now (neighbours .entry)) node (now (scratch .entry)) ⌝ }
-    ensures { λ _. ⌜ now (scratch .exit) ≡ reportScratch (now (starts .entry)) (now (neighbours .entry)) node (now (scratch .entry)) ⌝ }
+    ensures { λ r. ⌜ answerMeaning r ≡ reportAnswer (was starts) (was neighbours) node (was scratch) ⌝ }
+    ensures { λ _. ⌜ left scratch ≡ reportScratch (was starts) (was neighbours) node (was scratch) ⌝ }
 {
     match graph::test_adjacency(starts, neighbours) {
         Adjacency::Refused(c) => ReportAnswer::Refused(c),

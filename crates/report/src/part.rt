@@ -2,6 +2,7 @@
 ghost use mathlib.Core.Path.{_≡_};
 ghost use Prim.Native.Nat.{_*_, _≤_};
 ghost use lib.ListN.{length};
+ghost use Rattle.basis.specs.Moments.{was, left};
 ghost use Rattle.spec.specs.Graph.{graphOf, sizeOf, graphRefusal};
 ghost use Rattle.spec.specs.Lent.{zeroed, wordsPerNode};
 ghost use Rattle.spec.specs.Numbering.{partResult};
@@ -25,8 +26,8 @@ pub(crate) fn find_report(
     requires { ⌜ graphRefusal (now starts) (now neighbours) ≡ 0 ⌝ }
     requires { ⌜ (1 ≤ node) × (node ≤ sizeOf (now starts)) ⌝ }
     requires { ⌜ wordsPerNode * sizeOf (now starts) ≤ length (now scratch) ⌝ }
-    ensures { λ r. ⌜ reportMeaning r ≡ partResult (graphOf (now (starts .entry)) (now (neighbours .entry))) node .report ⌝ }
-    ensures { λ _. ⌜ now (scratch .exit) ≡ zeroed (wordsPerNode * sizeOf (now (starts .entry))) (now (scratch .entry)) ⌝ }
+    ensures { λ r. ⌜ reportMeaning r ≡ partResult (graphOf (was starts) (was neighbours)) node .report ⌝ }
+    ensures { λ _. ⌜ left scratch ≡ zeroed (wordsPerNode * sizeOf (was starts)) (was scratch) ⌝ }
 {
     let n = starts.len() - 1;
     clear(scratch, WORDS_PER_NODE * n);

@@ -4,6 +4,7 @@ ghost use mathlib.Core.Bool.{true};
 ghost use Prim.Native.Nat.{_≤_};
 ghost use lib.ListN.{length, replicate};
 ghost use Rattle.basis.specs.Lists.{overwrite};
+ghost use Rattle.basis.specs.Moments.{was, left};
 ghost use Rattle.spec.specs.Mesh.{elementsRefusal, entryCount, startList, neighbourList, refuses11};
 ghost use Rattle.spec.specs.CallsMesh.{graphOfElements};
 ghost use Rattle.rows.specs.Rows.{Room};
@@ -17,10 +18,10 @@ mod row;
 fn count(lists: &mut [u16], elements: &[u16], starts: &mut [u16], neighbours: &mut [u16]) -> usize
     requires { ⌜ length (now lists) ≤ 4096 ⌝ }
     requires { ⌜ elementsRefusal (length (now elements)) (length (now lists)) (now elements) ≡ 0 ⌝ }
-    ensures { λ r. ⌜ r ≡ entryCount (graphOfElements (length (now (lists .entry))) (now (elements .entry))) ⌝ }
-    ensures { λ _. ⌜ now (lists .exit) ≡ replicate (length (now (lists .entry))) 0 ⌝ }
-    ensures { λ _. ⌜ now (starts .exit) ≡ now (starts .entry) ⌝ }
-    ensures { λ _. ⌜ now (neighbours .exit) ≡ now (neighbours .entry) ⌝ }
+    ensures { λ r. ⌜ r ≡ entryCount (graphOfElements (length (was lists)) (was elements)) ⌝ }
+    ensures { λ _. ⌜ left lists ≡ replicate (length (was lists)) 0 ⌝ }
+    ensures { λ _. ⌜ left starts ≡ was starts ⌝ }
+    ensures { λ _. ⌜ left neighbours ≡ was neighbours ⌝ }
 {
     let n = lists.len();
     let mut bits = [0u64; 64];
@@ -40,10 +41,10 @@ fn count(lists: &mut [u16], elements: &[u16], starts: &mut [u16], neighbours: &m
 pub fn over(lists: &mut [u16], elements: &[u16], starts: &mut [u16], neighbours: &mut [u16]) -> bool
     requires { ⌜ length (now lists) ≤ 4096 ⌝ }
     requires { ⌜ elementsRefusal (length (now elements)) (length (now lists)) (now elements) ≡ 0 ⌝ }
-    ensures { λ r. ⌜ r ≡ refuses11 (graphOfElements (length (now (lists .entry))) (now (elements .entry))) ⌝ }
-    ensures { λ r. ⌜ (r ≡ true → now (lists .exit) ≡ replicate (length (now (lists .entry))) 0) ⌝ }
-    ensures { λ _. ⌜ now (starts .exit) ≡ now (starts .entry) ⌝ }
-    ensures { λ _. ⌜ now (neighbours .exit) ≡ now (neighbours .entry) ⌝ }
+    ensures { λ r. ⌜ r ≡ refuses11 (graphOfElements (length (was lists)) (was elements)) ⌝ }
+    ensures { λ r. ⌜ (r ≡ true → left lists ≡ replicate (length (was lists)) 0) ⌝ }
+    ensures { λ _. ⌜ left starts ≡ was starts ⌝ }
+    ensures { λ _. ⌜ left neighbours ≡ was neighbours ⌝ }
 {
     if bound::few(elements) {
         return false;
@@ -60,10 +61,10 @@ pub fn fill(
 ) -> usize
     requires { ⌜ elementsRefusal (length (now elements)) (length (now lists)) (now elements) ≡ 0 ⌝ }
     requires { ⌜ Room (graphOfElements (length (now lists)) (now elements)) (length (now lists)) (now starts) (now neighbours) ⌝ }
-    ensures { λ r. ⌜ r ≡ entryCount (graphOfElements (length (now (lists .entry))) (now (elements .entry))) ⌝ }
-    ensures { λ _. ⌜ now (lists .exit) ≡ replicate (length (now (lists .entry))) 0 ⌝ }
-    ensures { λ _. ⌜ now (starts .exit) ≡ overwrite (startList (graphOfElements (length (now (lists .entry))) (now (elements .entry)))) (now (starts .entry)) ⌝ }
-    ensures { λ _. ⌜ now (neighbours .exit) ≡ overwrite (neighbourList (graphOfElements (length (now (lists .entry))) (now (elements .entry)))) (now (neighbours .entry)) ⌝ }
+    ensures { λ r. ⌜ r ≡ entryCount (graphOfElements (length (was lists)) (was elements)) ⌝ }
+    ensures { λ _. ⌜ left lists ≡ replicate (length (was lists)) 0 ⌝ }
+    ensures { λ _. ⌜ left starts ≡ overwrite (startList (graphOfElements (length (was lists)) (was elements))) (was starts) ⌝ }
+    ensures { λ _. ⌜ left neighbours ≡ overwrite (neighbourList (graphOfElements (length (was lists)) (was elements))) (was neighbours) ⌝ }
 {
     let n = lists.len();
     let mut bits = [0u64; 64];

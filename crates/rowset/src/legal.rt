@@ -4,6 +4,7 @@ ghost use Prim.Native.Nat.{ℕ, _+_, _≤_, _<_};
 ghost use lib.ListN.{length, getD, set};
 ghost use lib.Seq.{sets};
 ghost use Rattle.basis.specs.Lists.{memb};
+ghost use Rattle.basis.specs.Moments.{was, left};
 ghost use Rattle.rowset.specs.Set.{Covered, Added, Empty, Wrote, members};
 
 // Adds the nodes to the set, and returns its mask.
@@ -11,8 +12,8 @@ pub fn add(bits: &mut [u64], nodes: &[u16], mask: u64) -> u64
     requires { ⌜ length (now bits) ≡ 64 ⌝ }
     requires { ⌜ ((j : ℕ) → j < length (now nodes) → (1 ≤ getD (now nodes) j 0) × (getD (now nodes) j 0 ≤ 4096)) ⌝ }
     requires { ⌜ Covered mask (now bits) ⌝ }
-    ensures { λ r. ⌜ Covered r (now (bits .exit)) ⌝ }
-    ensures { λ _. ⌜ Added (λ q. memb q (now (nodes .entry))) (now (bits .entry)) (now (bits .exit)) ⌝ }
+    ensures { λ r. ⌜ Covered r (left bits) ⌝ }
+    ensures { λ _. ⌜ Added (λ q. memb q (was nodes)) (was bits) (left bits) ⌝ }
 {
     let mut cover = mask;
     let mut j = 0;
@@ -29,8 +30,8 @@ pub fn add(bits: &mut [u64], nodes: &[u16], mask: u64) -> u64
 // Stores q at `at` where the list has room, and returns the next place; p is left out.
 fn put(list: &mut [u16], at: usize, q: usize, p: usize) -> usize
     requires { ⌜ (q ≤ 4096) × (at ≤ 4294967296) ⌝ }
-    ensures { λ r. ⌜ (q ≡ p → (r ≡ at) × (now (list .exit) ≡ now (list .entry))) ⌝ }
-    ensures { λ r. ⌜ ((q ≡ p → ⊥) → (r ≡ at + 1) × (now (list .exit) ≡ set (now (list .entry)) at q)) ⌝ }
+    ensures { λ r. ⌜ (q ≡ p → (r ≡ at) × (left list ≡ was list)) ⌝ }
+    ensures { λ r. ⌜ ((q ≡ p → ⊥) → (r ≡ at + 1) × (left list ≡ set (was list) at q)) ⌝ }
 {
     if q == p {
         return at;
@@ -44,7 +45,7 @@ fn put(list: &mut [u16], at: usize, q: usize, p: usize) -> usize
 // Writes the nodes of one word, whose nodes follow base, from `at` on, p left out; returns where they end.
 fn write_word(word: u64, base: usize, p: usize, at: usize, list: &mut [u16]) -> usize
     requires { ⌜ (base + 64 ≤ 4096) × (at + 64 ≤ 4294967296) ⌝ }
-    ensures { λ r. ⌜ Wrote word base p at (now (list .entry)) r (now (list .exit)) ⌝ }
+    ensures { λ r. ⌜ Wrote word base p at (was list) r (left list) ⌝ }
 {
     let mut to = at;
     let mut k = 0;
@@ -63,9 +64,9 @@ fn write_word(word: u64, base: usize, p: usize, at: usize, list: &mut [u16]) -> 
 pub fn empty(bits: &mut [u64], mask: u64, p: usize, at: usize, list: &mut [u16]) -> usize
     requires { ⌜ (length (now bits) ≡ 64) × (at ≤ 2147483648) ⌝ }
     requires { ⌜ Covered mask (now bits) ⌝ }
-    ensures { λ r. ⌜ r ≡ at + length (members p (now (bits .entry))) ⌝ }
-    ensures { λ _. ⌜ now (list .exit) ≡ sets (now (list .entry)) at (members p (now (bits .entry))) ⌝ }
-    ensures { λ _. ⌜ Empty (now (bits .exit)) ⌝ }
+    ensures { λ r. ⌜ r ≡ at + length (members p (was bits)) ⌝ }
+    ensures { λ _. ⌜ left list ≡ sets (was list) at (members p (was bits)) ⌝ }
+    ensures { λ _. ⌜ Empty (left bits) ⌝ }
 {
     let mut to = at;
     let mut g = 0;

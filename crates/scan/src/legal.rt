@@ -6,6 +6,7 @@ ghost use Prim.Native.Nat.{_+_, _≤_, _<_};
 ghost use lib.ListN.{length};
 ghost use lib.Dec.{eqb};
 ghost use Rattle.basis.specs.Lists.{filterb, upFrom};
+ghost use Rattle.basis.specs.Moments.{was, left};
 ghost use Rattle.spec.specs.Graph.{graphOf, sizeOf, graphRefusal, ofNode};
 ghost use Rattle.search.specs.Marks.{within, rows};
 ghost use Rattle.search.specs.Queue.{Readable};
@@ -21,7 +22,7 @@ use words::wide;
 fn visit(row: &[u16], levels: &mut [u16], j: u16) -> usize
     requires { ⌜ 0 < j ⌝ }
     requires { ⌜ within (length (now levels)) (now row) ⌝ }
-    ensures { λ r. ⌜ Visited (now (row .entry)) j (now (levels .entry)) (now (levels .exit)) r ⌝ }
+    ensures { λ r. ⌜ Visited (was row) j (was levels) (left levels) r ⌝ }
 {
     let mut count = 0;
     let mut k = 0;
@@ -41,7 +42,7 @@ fn visit_at(starts: &[u16], neighbours: &[u16], levels: &mut [u16], p: usize, i:
     requires { ⌜ Readable (length (now levels)) (now starts) (now neighbours) ⌝ }
     requires { ⌜ (1 ≤ p) × (p ≤ length (now levels)) ⌝ }
     requires { ⌜ i ≤ 4096 ⌝ }
-    ensures { λ r. ⌜ Visited (rows (now (starts .entry)) (now (neighbours .entry)) (filterb (λ q. eqb (ofNode (now (levels .entry)) q) i) (p ∷ []))) (i + 1) (now (levels .entry)) (now (levels .exit)) r ⌝ }
+    ensures { λ r. ⌜ Visited (rows (was starts) (was neighbours) (filterb (λ q. eqb (ofNode (was levels) q) i) (p ∷ []))) (i + 1) (was levels) (left levels) r ⌝ }
 {
     if levels[p - 1] != i {
         return 0;
@@ -53,7 +54,7 @@ fn visit_at(starts: &[u16], neighbours: &[u16], levels: &mut [u16], p: usize, i:
 fn next_level(starts: &[u16], neighbours: &[u16], levels: &mut [u16], i: u16) -> usize
     requires { ⌜ Readable (length (now levels)) (now starts) (now neighbours) ⌝ }
     requires { ⌜ (1 ≤ i) × (i ≤ 4096) ⌝ }
-    ensures { λ r. ⌜ Visited (rows (now (starts .entry)) (now (neighbours .entry)) (filterb (λ q. eqb (ofNode (now (levels .entry)) q) i) (upFrom 1 (length (now (levels .entry)))))) (i + 1) (now (levels .entry)) (now (levels .exit)) r ⌝ }
+    ensures { λ r. ⌜ Visited (rows (was starts) (was neighbours) (filterb (λ q. eqb (ofNode (was levels) q) i) (upFrom 1 (length (was levels))))) (i + 1) (was levels) (left levels) r ⌝ }
 {
     let n = levels.len();
     let mut count = 0;
@@ -70,8 +71,8 @@ pub fn scan(starts: &[u16], neighbours: &[u16], root: u16, levels: &mut [u16]) -
     requires { ⌜ graphRefusal (now starts) (now neighbours) ≡ 0 ⌝ }
     requires { ⌜ (1 ≤ root) × (root ≤ sizeOf (now starts)) ⌝ }
     requires { ⌜ length (now levels) ≡ sizeOf (now starts) ⌝ }
-    ensures { λ r. ⌜ r ≡ figuresOf (graphOf (now (starts .entry)) (now (neighbours .entry))) root ⌝ }
-    ensures { λ _. ⌜ now (levels .exit) ≡ listOf (graphOf (now (starts .entry)) (now (neighbours .entry))) root ⌝ }
+    ensures { λ r. ⌜ r ≡ figuresOf (graphOf (was starts) (was neighbours)) root ⌝ }
+    ensures { λ _. ⌜ left levels ≡ listOf (graphOf (was starts) (was neighbours)) root ⌝ }
 {
     let n = levels.len();
     clear(levels, n);

@@ -8,6 +8,7 @@ ghost use lib.ListN.{length, take, drop, set, replicate};
 ghost use lib.Seq.{slice};
 ghost use lib.Dec.{eqb, ltb};
 ghost use Rattle.basis.specs.Lists.{bit, chainb};
+ghost use Rattle.basis.specs.Moments.{was, left};
 ghost use Rattle.spec.specs.Graph.{graphOf, sizeOf, rowOf, graphRefusal};
 ghost use Rattle.spec.specs.Levels.{levels, part};
 ghost use Rattle.search.specs.Marks.{within, found, rows};
@@ -37,7 +38,7 @@ fn level(w: u16, j: u16) -> u16
 fn visit_one(work: &mut [u16], n: usize, tail: usize, v: u16, j: u16) -> usize
     requires { ⌜ Lent n (now work) tail j ⌝ }
     requires { ⌜ within n (v ∷ []) ⌝ }
-    ensures { λ r. ⌜ Moved n (v ∷ []) j (now (work .entry)) tail (now (work .exit)) r ⌝ }
+    ensures { λ r. ⌜ Moved n (v ∷ []) j (was work) tail (left work) r ⌝ }
 {
     let at = wide(v) - 1;
     if work[at] != 0 {
@@ -55,7 +56,7 @@ fn visit_two(work: &mut [u16], n: usize, tail: usize, u: u16, v: u16, j: u16) ->
     requires { ⌜ within n (u ∷ v ∷ []) ⌝ }
     requires { ⌜ u < v ⌝ }
     requires { ⌜ tail + 1 < n ⌝ }
-    ensures { λ r. ⌜ Moved n (u ∷ v ∷ []) j (now (work .entry)) tail (now (work .exit)) r ⌝ }
+    ensures { λ r. ⌜ Moved n (u ∷ v ∷ []) j (was work) tail (left work) r ⌝ }
 {
     let a = wide(u) - 1;
     let b = wide(v) - 1;
@@ -74,7 +75,7 @@ fn visit(row: &[u16], work: &mut [u16], n: usize, tail: usize, j: u16) -> usize
     requires { ⌜ Lent n (now work) tail j ⌝ }
     requires { ⌜ within n (now row) ⌝ }
     requires { ⌜ chainb ltb (now row) ≡ true ⌝ }
-    ensures { λ r. ⌜ Moved n (now (row .entry)) j (now (work .entry)) tail (now (work .exit)) r ⌝ }
+    ensures { λ r. ⌜ Moved n (was row) j (was work) tail (left work) r ⌝ }
 {
     let mut t = tail;
     let mut k = 0;
@@ -103,7 +104,7 @@ fn visit_node(
     requires { ⌜ Lent n (now work) tail j ⌝ }
     requires { ⌜ Readable n (now starts) (now neighbours) ⌝ }
     requires { ⌜ (1 ≤ p) × (p ≤ n) ⌝ }
-    ensures { λ r. ⌜ Moved n (rowOf (now (starts .entry)) (now (neighbours .entry)) p) j (now (work .entry)) tail (now (work .exit)) r ⌝ }
+    ensures { λ r. ⌜ Moved n (rowOf (was starts) (was neighbours) p) j (was work) tail (left work) r ⌝ }
 {
     visit(row(starts, neighbours, wide(p)), work, n, tail, j)
 }
@@ -125,7 +126,7 @@ fn expand(
     requires { ⌜ a ≤ b ⌝ }
     requires { ⌜ within n (slice a b (drop n (now work))) ⌝ }
     requires { ⌜ b + length (found j (take n (now work)) (rows (now starts) (now neighbours) (slice a b (drop n (now work))))) ≤ most ⌝ }
-    ensures { λ r. ⌜ Moved n (rows (now (starts .entry)) (now (neighbours .entry)) (slice a b (drop n (now (work .entry))))) j (now (work .entry)) b (now (work .exit)) r ⌝ }
+    ensures { λ r. ⌜ Moved n (rows (was starts) (was neighbours) (slice a b (drop n (was work)))) j (was work) b (left work) r ⌝ }
 {
     let mut tail = b;
     let mut h = a;
@@ -140,7 +141,7 @@ fn expand(
 // Sets the word where the queue ends to 0, if there is one.
 fn shut(work: &mut [u16], n: usize, tail: usize)
     requires { ⌜ length (now work) ≡ n + n ⌝ }
-    ensures { λ _. ⌜ now (work .exit) ≡ set (now (work .entry)) (n + tail) 0 ⌝ }
+    ensures { λ _. ⌜ left work ≡ set (was work) (n + tail) 0 ⌝ }
 {
     if tail < n {
         work[n + tail] = 0;
@@ -160,8 +161,8 @@ pub fn search(
     requires { ⌜ (1 ≤ root) × (root ≤ sizeOf (now starts)) ⌝ }
     requires { ⌜ length (part (graphOf (now starts) (now neighbours)) root) ≤ most ⌝ }
     requires { ⌜ now work ≡ replicate (sizeOf (now starts) + sizeOf (now starts)) 0 ⌝ }
-    ensures { λ r. ⌜ r ≡ rootedOf (levels (graphOf (now (starts .entry)) (now (neighbours .entry))) root) ⌝ }
-    ensures { λ _. ⌜ Searched (now (starts .entry)) (now (neighbours .entry)) root (now (work .exit)) ⌝ }
+    ensures { λ r. ⌜ r ≡ rootedOf (levels (graphOf (was starts) (was neighbours)) root) ⌝ }
+    ensures { λ _. ⌜ Searched (was starts) (was neighbours) root (left work) ⌝ }
 {
     let n = starts.len() - 1;
     let at = wide(root) - 1;
@@ -192,7 +193,7 @@ pub fn search(
 // Sets the words of a search to 0 again, node by node, by the `count` nodes that its queue holds.
 fn wipe_each(work: &mut [u16], n: usize, count: usize)
     requires { ⌜ Queued n count (now work) ⌝ }
-    ensures { λ _. ⌜ now (work .exit) ≡ replicate (n + n) 0 ⌝ }
+    ensures { λ _. ⌜ left work ≡ replicate (n + n) 0 ⌝ }
 {
     let mut i = 0;
     while i < count {
@@ -207,7 +208,7 @@ fn wipe_each(work: &mut [u16], n: usize, count: usize)
 // The same, and in one go where the part has an eighth of the nodes or more: that is many times faster a word.
 pub fn wipe(work: &mut [u16], n: usize, count: usize)
     requires { ⌜ Queued n count (now work) ⌝ }
-    ensures { λ _. ⌜ now (work .exit) ≡ replicate (n + n) 0 ⌝ }
+    ensures { λ _. ⌜ left work ≡ replicate (n + n) 0 ⌝ }
 {
     if count < n / 8 {
         return wipe_each(work, n, count);

@@ -6,6 +6,7 @@ ghost use Prim.Native.Nat.{ℕ, _+_, _≤_};
 ghost use lib.ListN.{getD};
 ghost use lib.Dec.{ltb};
 ghost use lib.Seq.{sets, slice};
+ghost use Rattle.basis.specs.Moments.{was, left};
 ghost use Rattle.spec.specs.Graph.{sizeOf, graphOf, graphRefusal, degree};
 ghost use Rattle.spec.specs.Combined.{mirrored};
 ghost use Rattle.spec.specs.Ends.{ends};
@@ -20,7 +21,7 @@ use words::wide;
 fn renames(starts: &[u16], v: u16, u: u16) -> bool
     requires { ⌜ ((neighbours : List ℕ) × Starts (now starts) neighbours) ⌝ }
     requires { ⌜ (1 ≤ v) × (v ≤ sizeOf (now starts)) × (1 ≤ u) × (u ≤ sizeOf (now starts)) ⌝ }
-    ensures { λ r. ⌜ ((neighbours : List ℕ) → Starts (now (starts .entry)) neighbours → r ≡ ltb (degree (graphOf (now (starts .entry)) neighbours) u) (degree (graphOf (now (starts .entry)) neighbours) v)) ⌝ }
+    ensures { λ r. ⌜ ((neighbours : List ℕ) → Starts (was starts) neighbours → r ≡ ltb (degree (graphOf (was starts) neighbours) u) (degree (graphOf (was starts) neighbours) v)) ⌝ }
 {
     let a = degree(starts, wide(u));
     let b = degree(starts, wide(v));
@@ -30,7 +31,7 @@ fn renames(starts: &[u16], v: u16, u: u16) -> bool
 // "level i becomes k + 1 − i", for the part's nodes; all other nodes have no level.
 fn mirror(work: &mut [u16], n: usize, at: usize, from: usize, m: usize, k: u16)
     requires { ⌜ Mirrorable n at from m k (now work) ⌝ }
-    ensures { λ _. ⌜ now (work .exit) ≡ sets (now (work .entry)) at (map (mirrored k) (slice at (at + n) (now (work .entry)))) ⌝ }
+    ensures { λ _. ⌜ left work ≡ sets (was work) at (map (mirrored k) (slice at (at + n) (was work))) ⌝ }
 {
     let mut j = 0;
     while j < m {
@@ -54,8 +55,8 @@ fn arrange(
 ) -> bool
     requires { ⌜ graphRefusal (now starts) (now neighbours) ≡ 0 ⌝ }
     requires { ⌜ Named (graphOf (now starts) (now neighbours)) at from m k v (now work) ⌝ }
-    ensures { λ r. ⌜ r ≡ turns (graphOf (now (starts .entry)) (now (neighbours .entry))) (forwardBy (graphOf (now (starts .entry)) (now (neighbours .entry))) (ends (graphOf (now (starts .entry)) (now (neighbours .entry))) (getD (now (work .entry)) from 0))) ⌝ }
-    ensures { λ _. ⌜ now (work .exit) ≡ sets (now (work .entry)) (sizeOf (now (starts .entry))) (partResult (graphOf (now (starts .entry)) (now (neighbours .entry))) (getD (now (work .entry)) from 0) .order) ⌝ }
+    ensures { λ r. ⌜ r ≡ turns (graphOf (was starts) (was neighbours)) (forwardBy (graphOf (was starts) (was neighbours)) (ends (graphOf (was starts) (was neighbours)) (getD (was work) from 0))) ⌝ }
+    ensures { λ _. ⌜ left work ≡ sets (was work) (sizeOf (was starts)) (partResult (graphOf (was starts) (was neighbours)) (getD (was work) from 0) .order) ⌝ }
 {
     let n = starts.len() - 1;
     order::legal::forward(starts, neighbours, work, at, from, m, k, v);
@@ -78,8 +79,8 @@ pub fn sequence(
 ) -> Sequence
     requires { ⌜ graphRefusal (now starts) (now neighbours) ≡ 0 ⌝ }
     requires { ⌜ Sequenceable (graphOf (now starts) (now neighbours)) at from m k v u (now work) ⌝ }
-    ensures { λ r. ⌜ r ≡ sequenceOf (graphOf (now (starts .entry)) (now (neighbours .entry))) (ends (graphOf (now (starts .entry)) (now (neighbours .entry))) (getD (now (work .entry)) from 0)) ⌝ }
-    ensures { λ _. ⌜ now (work .exit) ≡ sets (sets (now (work .entry)) (sizeOf (now (starts .entry))) (partResult (graphOf (now (starts .entry)) (now (neighbours .entry))) (getD (now (work .entry)) from 0) .order)) at (partResult (graphOf (now (starts .entry)) (now (neighbours .entry))) (getD (now (work .entry)) from 0) .levels) ⌝ }
+    ensures { λ r. ⌜ r ≡ sequenceOf (graphOf (was starts) (was neighbours)) (ends (graphOf (was starts) (was neighbours)) (getD (was work) from 0)) ⌝ }
+    ensures { λ _. ⌜ left work ≡ sets (sets (was work) (sizeOf (was starts)) (partResult (graphOf (was starts) (was neighbours)) (getD (was work) from 0) .order)) at (partResult (graphOf (was starts) (was neighbours)) (getD (was work) from 0) .levels) ⌝ }
 {
     if renames(starts, v, u) {
         let n = starts.len() - 1;

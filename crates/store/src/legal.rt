@@ -2,6 +2,7 @@
 ghost use mathlib.Core.Path.{_≡_};
 ghost use Prim.Native.Nat.{_≤_};
 ghost use lib.ListN.{length, take, replicate};
+ghost use Rattle.basis.specs.Moments.{was, left};
 ghost use Rattle.spec.specs.CallsStore.{eliminationFigures};
 ghost use Rattle.spec.specs.Graph.{sizeOf};
 ghost use Rattle.spec.specs.Lent.{outcome, filled, zeroed, short};
@@ -16,7 +17,7 @@ use crate::answer::Elimination;
 // "profile / 8 rounded up"
 fn byte_count(starts: &[u16], neighbours: &[u16], numbering: &[u16]) -> usize
     requires { ⌜ Given (now starts) (now neighbours) (now numbering) ⌝ }
-    ensures { λ r. ⌜ r ≡ markByteCount (newGraph (now (starts .entry)) (now (neighbours .entry)) (now (numbering .entry))) ⌝ }
+    ensures { λ r. ⌜ r ≡ markByteCount (newGraph (was starts) (was neighbours) (was numbering)) ⌝ }
 {
     let profile = envelope::legal::profile(starts, neighbours, numbering);
     ((profile + 7) / 8) as usize
@@ -33,9 +34,9 @@ fn mark(
     requires { ⌜ Given (now starts) (now neighbours) (now numbering)
         × (now scratch ≡ orderOf (now numbering))
         × (length (now bytes) ≡ markByteCount (newGraph (now starts) (now neighbours) (now numbering))) ⌝ }
-    ensures { λ r. ⌜ (figuresOf r ≡ eliminationFigures (newGraph (now (starts .entry)) (now (neighbours .entry)) (now (numbering .entry))))
-        × (now (scratch .exit) ≡ replicate (sizeOf (now (starts .entry))) 0)
-        × (now (bytes .exit) ≡ markBytes (newGraph (now (starts .entry)) (now (neighbours .entry)) (now (numbering .entry)))) ⌝ }
+    ensures { λ r. ⌜ (figuresOf r ≡ eliminationFigures (newGraph (was starts) (was neighbours) (was numbering)))
+        × (left scratch ≡ replicate (sizeOf (was starts)) 0)
+        × (left bytes ≡ markBytes (newGraph (was starts) (was neighbours) (was numbering))) ⌝ }
 {
     let marked = eliminate::legal::mark(starts, neighbours, numbering, scratch, bytes);
     let edges = (neighbours.len() / 2) as u32;
@@ -58,9 +59,9 @@ pub fn eliminate(
         × (n ≡ sizeOf (now starts))
         × (n ≤ length (now scratch))
         × (take n (now scratch) ≡ orderOf (now numbering)) ⌝ }
-    ensures { λ r. ⌜ (meaning r ≡ outcome (refuse (short (now (bytes .entry)) (markByteCount (newGraph (now (starts .entry)) (now (neighbours .entry)) (now (numbering .entry))))) 8) (eliminationFigures (newGraph (now (starts .entry)) (now (neighbours .entry)) (now (numbering .entry)))))
-        × (now (scratch .exit) ≡ zeroed n (now (scratch .entry)))
-        × (now (bytes .exit) ≡ filled (refuse (short (now (bytes .entry)) (markByteCount (newGraph (now (starts .entry)) (now (neighbours .entry)) (now (numbering .entry))))) 8) (markBytes (newGraph (now (starts .entry)) (now (neighbours .entry)) (now (numbering .entry)))) (now (bytes .entry))) ⌝ }
+    ensures { λ r. ⌜ (meaning r ≡ outcome (refuse (short (was bytes) (markByteCount (newGraph (was starts) (was neighbours) (was numbering)))) 8) (eliminationFigures (newGraph (was starts) (was neighbours) (was numbering))))
+        × (left scratch ≡ zeroed n (was scratch))
+        × (left bytes ≡ filled (refuse (short (was bytes) (markByteCount (newGraph (was starts) (was neighbours) (was numbering)))) 8) (markBytes (newGraph (was starts) (was neighbours) (was numbering))) (was bytes)) ⌝ }
 {
     let m = byte_count(starts, neighbours, numbering);
     if bytes.len() < m {

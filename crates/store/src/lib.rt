@@ -1,6 +1,7 @@
 // The store of a numbered graph: the marks of the pairs that the elimination joins; and the whole run with the elimination after it, whose
 // contract has demand 3.
 ghost use mathlib.Core.Path.{_≡_};
+ghost use Rattle.basis.specs.Moments.{was, left};
 ghost use Rattle.spec.specs.CallsNumbering.{runNumbers, runLevels, runScratch};
 ghost use Rattle.spec.specs.CallsStore.{RunElimination as RunEliminated, eliminationAnswer, eliminationScratch, eliminationBytes, handedScratch, runEliminateAnswer, runEliminateBytes};
 ghost use Rattle.spec.specs.Claim.{Claimed};
@@ -26,9 +27,9 @@ pub fn eliminate(
     scratch: &mut [u16],
     bytes: &mut [u8],
 ) -> Elimination
-    ensures { λ r. ⌜ meaning r ≡ eliminationAnswer (now (starts .entry)) (now (neighbours .entry)) (now (numbering .entry)) (now (scratch .entry)) (now (bytes .entry)) ⌝ }
-    ensures { λ _. ⌜ now (scratch .exit) ≡ eliminationScratch (now (starts .entry)) (now (neighbours .entry)) (now (numbering .entry)) (now (scratch .entry)) (now (bytes .entry)) ⌝ }
-    ensures { λ _. ⌜ now (bytes .exit) ≡ eliminationBytes (now (starts .entry)) (now (neighbours .entry)) (now (numbering .entry)) (now (scratch .entry)) (now (bytes .entry)) ⌝ }
+    ensures { λ r. ⌜ meaning r ≡ eliminationAnswer (was starts) (was neighbours) (was numbering) (was scratch) (was bytes) ⌝ }
+    ensures { λ _. ⌜ left scratch ≡ eliminationScratch (was starts) (was neighbours) (was numbering) (was scratch) (was bytes) ⌝ }
+    ensures { λ _. ⌜ left bytes ≡ eliminationBytes (was starts) (was neighbours) (was numbering) (was scratch) (was bytes) ⌝ }
 {
     let tested = graph::test_adjacency(starts, neighbours);
     if let Adjacency::Refused(c) = tested {
@@ -54,9 +55,9 @@ fn eliminate_after(
     scratch: &mut [u16],
     bytes: &mut [u8],
 ) -> RunElimination
-    ensures { λ r. ⌜ runMeaning r ≡ accepted (record { figures = eight figures; elimination = eliminationAnswer (now (starts .entry)) (now (neighbours .entry)) (now (numbers .entry)) (now (scratch .entry)) (now (bytes .entry)) }) ⌝ }
-    ensures { λ _. ⌜ now (scratch .exit) ≡ eliminationScratch (now (starts .entry)) (now (neighbours .entry)) (now (numbers .entry)) (now (scratch .entry)) (now (bytes .entry)) ⌝ }
-    ensures { λ _. ⌜ now (bytes .exit) ≡ eliminationBytes (now (starts .entry)) (now (neighbours .entry)) (now (numbers .entry)) (now (scratch .entry)) (now (bytes .entry)) ⌝ }
+    ensures { λ r. ⌜ runMeaning r ≡ accepted (record { figures = eight figures; elimination = eliminationAnswer (was starts) (was neighbours) (was numbers) (was scratch) (was bytes) }) ⌝ }
+    ensures { λ _. ⌜ left scratch ≡ eliminationScratch (was starts) (was neighbours) (was numbers) (was scratch) (was bytes) ⌝ }
+    ensures { λ _. ⌜ left bytes ≡ eliminationBytes (was starts) (was neighbours) (was numbers) (was scratch) (was bytes) ⌝ }
 {
     match eliminate(starts, neighbours, numbers, scratch, bytes) {
         Elimination::Refused(c) => RunElimination::RunOnly {
@@ -76,12 +77,12 @@ pub fn run_eliminate(
     scratch: &mut [u16],
     bytes: &mut [u8],
 ) -> RunElimination
-    ensures { λ r. ⌜ runMeaning r ≡ runEliminateAnswer (now (starts .entry)) (now (neighbours .entry)) (now (numbers .entry)) (now (levels .entry)) (now (scratch .entry)) (now (bytes .entry)) ⌝ }
-    ensures { λ _. ⌜ now (numbers .exit) ≡ runNumbers (now (starts .entry)) (now (neighbours .entry)) (now (numbers .entry)) (now (levels .entry)) (now (scratch .entry)) ⌝ }
-    ensures { λ _. ⌜ now (levels .exit) ≡ runLevels (now (starts .entry)) (now (neighbours .entry)) (now (numbers .entry)) (now (levels .entry)) (now (scratch .entry)) ⌝ }
-    ensures { λ _. ⌜ now (scratch .exit) ≡ runScratch (now (starts .entry)) (now (neighbours .entry)) (now (numbers .entry)) (now (levels .entry)) (now (scratch .entry)) ⌝ }
-    ensures { λ _. ⌜ now (bytes .exit) ≡ runEliminateBytes (now (starts .entry)) (now (neighbours .entry)) (now (numbers .entry)) (now (levels .entry)) (now (scratch .entry)) (now (bytes .entry)) ⌝ }
-    ensures { λ r. ⌜ ((e : RunEliminated) → runMeaning r ≡ accepted e → Claimed (now (starts .entry)) (now (neighbours .entry)) (e .figures) (now (numbers .exit)) (now (levels .exit)) (handedScratch (now (starts .entry)) (now (neighbours .entry)) (now (numbers .entry)) (now (levels .entry)) (now (scratch .entry))) (now (bytes .entry)) (e .elimination) (now (bytes .exit))) ⌝ }
+    ensures { λ r. ⌜ runMeaning r ≡ runEliminateAnswer (was starts) (was neighbours) (was numbers) (was levels) (was scratch) (was bytes) ⌝ }
+    ensures { λ _. ⌜ left numbers ≡ runNumbers (was starts) (was neighbours) (was numbers) (was levels) (was scratch) ⌝ }
+    ensures { λ _. ⌜ left levels ≡ runLevels (was starts) (was neighbours) (was numbers) (was levels) (was scratch) ⌝ }
+    ensures { λ _. ⌜ left scratch ≡ runScratch (was starts) (was neighbours) (was numbers) (was levels) (was scratch) ⌝ }
+    ensures { λ _. ⌜ left bytes ≡ runEliminateBytes (was starts) (was neighbours) (was numbers) (was levels) (was scratch) (was bytes) ⌝ }
+    ensures { λ r. ⌜ ((e : RunEliminated) → runMeaning r ≡ accepted e → Claimed (was starts) (was neighbours) (e .figures) (left numbers) (left levels) (handedScratch (was starts) (was neighbours) (was numbers) (was levels) (was scratch)) (was bytes) (e .elimination) (left bytes)) ⌝ }
 {
     match numbering::run(starts, neighbours, numbers, levels, scratch) {
         RunAnswer::Refused(c) => RunElimination::Refused(c),

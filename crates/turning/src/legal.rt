@@ -6,6 +6,7 @@ ghost use mathlib.Core.List.{_++_, map, reverse};
 ghost use Prim.Native.Nat.{_+_, _-_, _≤_, _<_, max, suc};
 ghost use lib.ListN.{length, drop, replicate};
 ghost use Rattle.basis.specs.Lists.{greatest, least};
+ghost use Rattle.basis.specs.Moments.{was, left};
 ghost use Rattle.spec.specs.Graph.{sizeOf, graphOf, ofNode};
 ghost use Rattle.spec.specs.Measures.{inOrder, rowSpan, profile};
 ghost use Rattle.spec.specs.Numbering.{turns};
@@ -32,7 +33,7 @@ struct Both {
 fn put_places(work: &mut [u16], n: usize, m: usize)
     requires { ⌜ (m ≤ n) × (n ≤ 4096) × (n + m ≤ length (now work)) ⌝ }
     requires { ⌜ Listed n (segment n m (now work)) ⌝ }
-    ensures { λ _. ⌜ Put n m (now (work .entry)) (now (work .exit)) m ⌝ }
+    ensures { λ _. ⌜ Put n m (was work) (left work) m ⌝ }
 {
     let mut i = 0;
     while i < m {
@@ -47,7 +48,7 @@ fn wipe(work: &mut [u16], n: usize, m: usize)
     requires { ⌜ (m ≤ n) × (n ≤ 4096) × (n + m ≤ length (now work)) ⌝ }
     requires { ⌜ Listed n (segment n m (now work)) ⌝ }
     requires { ⌜ Clean n (segment n m (now work)) (now work) ⌝ }
-    ensures { λ _. ⌜ now (work .exit) ≡ replicate n 0 ++ drop n (now (work .entry)) ⌝ }
+    ensures { λ _. ⌜ left work ≡ replicate n 0 ++ drop n (was work) ⌝ }
 {
     let mut i = 0;
     while i < m {
@@ -60,8 +61,8 @@ fn wipe(work: &mut [u16], n: usize, m: usize)
 // The places of a row, with that of its own node.
 fn ends(row: &[u16], places: &[u16], own: usize) -> Range
     requires { ⌜ Words (length (now places)) (now row) ⌝ }
-    ensures { λ r. ⌜ r .first ≡ least own (map (ofNode (now (places .entry))) (now (row .entry))) ⌝ }
-    ensures { λ r. ⌜ r .last ≡ max own (greatest (map (ofNode (now (places .entry))) (now (row .entry)))) ⌝ }
+    ensures { λ r. ⌜ r .first ≡ least own (map (ofNode (was places)) (was row)) ⌝ }
+    ensures { λ r. ⌜ r .last ≡ max own (greatest (map (ofNode (was places)) (was row))) ⌝ }
 {
     let mut first = own;
     let mut last = own;
@@ -84,8 +85,8 @@ fn span(starts: &[u16], neighbours: &[u16], work: &[u16], n: usize, m: usize, a:
     requires { ⌜ (n ≡ sizeOf (now starts)) × (n + m ≤ length (now work)) × (a < m) ⌝ }
     requires { ⌜ Part (now starts) (now neighbours) (segment n m (now work)) ⌝ }
     requires { ⌜ Placed (segment n m (now work)) (now work) ⌝ }
-    ensures { λ r. ⌜ r .forward ≡ rowSpan (inOrder (graphOf (now (starts .entry)) (now (neighbours .entry))) (segment n m (now (work .entry)))) (suc a) ⌝ }
-    ensures { λ r. ⌜ r .backward ≡ rowSpan (inOrder (graphOf (now (starts .entry)) (now (neighbours .entry))) (reverse (segment n m (now (work .entry))))) (m - a) ⌝ }
+    ensures { λ r. ⌜ r .forward ≡ rowSpan (inOrder (graphOf (was starts) (was neighbours)) (segment n m (was work))) (suc a) ⌝ }
+    ensures { λ r. ⌜ r .backward ≡ rowSpan (inOrder (graphOf (was starts) (was neighbours)) (reverse (segment n m (was work)))) (m - a) ⌝ }
 {
     let z = wide(work[n + a]);
     let row = graph::legal::row(starts, neighbours, z);
@@ -104,8 +105,8 @@ fn spans(starts: &[u16], neighbours: &[u16], work: &[u16], n: usize, m: usize) -
     requires { ⌜ (n ≡ sizeOf (now starts)) × (n + m ≤ length (now work)) ⌝ }
     requires { ⌜ Part (now starts) (now neighbours) (segment n m (now work)) ⌝ }
     requires { ⌜ Placed (segment n m (now work)) (now work) ⌝ }
-    ensures { λ r. ⌜ r .forward ≡ profile (inOrder (graphOf (now (starts .entry)) (now (neighbours .entry))) (segment n m (now (work .entry)))) ⌝ }
-    ensures { λ r. ⌜ r .backward ≡ profile (inOrder (graphOf (now (starts .entry)) (now (neighbours .entry))) (reverse (segment n m (now (work .entry))))) ⌝ }
+    ensures { λ r. ⌜ r .forward ≡ profile (inOrder (graphOf (was starts) (was neighbours)) (segment n m (was work))) ⌝ }
+    ensures { λ r. ⌜ r .backward ≡ profile (inOrder (graphOf (was starts) (was neighbours)) (reverse (segment n m (was work)))) ⌝ }
 {
     let mut forward: u32 = 0;
     let mut backward: u32 = 0;
@@ -127,9 +128,9 @@ fn profiles(starts: &[u16], neighbours: &[u16], work: &mut [u16], n: usize, m: u
     requires { ⌜ (n ≡ sizeOf (now starts)) × (n + m ≤ length (now work)) ⌝ }
     requires { ⌜ Part (now starts) (now neighbours) (segment n m (now work)) ⌝ }
     requires { ⌜ Clean n (segment n m (now work)) (now work) ⌝ }
-    ensures { λ r. ⌜ r .forward ≡ profile (inOrder (graphOf (now (starts .entry)) (now (neighbours .entry))) (segment n m (now (work .entry)))) ⌝ }
-    ensures { λ r. ⌜ r .backward ≡ profile (inOrder (graphOf (now (starts .entry)) (now (neighbours .entry))) (reverse (segment n m (now (work .entry))))) ⌝ }
-    ensures { λ _. ⌜ now (work .exit) ≡ replicate n 0 ++ drop n (now (work .entry)) ⌝ }
+    ensures { λ r. ⌜ r .forward ≡ profile (inOrder (graphOf (was starts) (was neighbours)) (segment n m (was work))) ⌝ }
+    ensures { λ r. ⌜ r .backward ≡ profile (inOrder (graphOf (was starts) (was neighbours)) (reverse (segment n m (was work)))) ⌝ }
+    ensures { λ _. ⌜ left work ≡ replicate n 0 ++ drop n (was work) ⌝ }
 {
     put_places(work, n, m);
     let sums = spans(starts, neighbours, work, n, m);
@@ -139,7 +140,7 @@ fn profiles(starts: &[u16], neighbours: &[u16], work: &mut [u16], n: usize, m: u
 
 // The words in the reverse order.
 fn turn_round(words: &mut [u16])
-    ensures { λ _. ⌜ now (words .exit) ≡ reverse (now (words .entry)) ⌝ }
+    ensures { λ _. ⌜ left words ≡ reverse (was words) ⌝ }
 {
     let mut i = 0;
     let mut e = words.len();
@@ -157,8 +158,8 @@ pub fn turn(starts: &[u16], neighbours: &[u16], work: &mut [u16], n: usize, m: u
     requires { ⌜ (n ≡ sizeOf (now starts)) × (n + m ≤ length (now work)) ⌝ }
     requires { ⌜ Part (now starts) (now neighbours) (segment n m (now work)) ⌝ }
     requires { ⌜ Clean n (segment n m (now work)) (now work) ⌝ }
-    ensures { λ r. ⌜ r ≡ turns (graphOf (now (starts .entry)) (now (neighbours .entry))) (segment n m (now (work .entry))) ⌝ }
-    ensures { λ r. ⌜ now (work .exit) ≡ replicate n 0 ++ (cond r (reverse (segment n m (now (work .entry)))) (segment n m (now (work .entry))) ++ drop (n + m) (now (work .entry))) ⌝ }
+    ensures { λ r. ⌜ r ≡ turns (graphOf (was starts) (was neighbours)) (segment n m (was work)) ⌝ }
+    ensures { λ r. ⌜ left work ≡ replicate n 0 ++ (cond r (reverse (segment n m (was work))) (segment n m (was work)) ++ drop (n + m) (was work)) ⌝ }
 {
     let both = profiles(starts, neighbours, work, n, m);
     if both.backward < both.forward {

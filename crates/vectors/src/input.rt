@@ -1,5 +1,6 @@
 // Numbers and lists of standard input. Low byte first.
 ghost use Prim.Native.Nat.{_≤_};
+ghost use Rattle.basis.specs.Moments.{left};
 ghost use Rattle.io.specs.Counts.{Counts};
 use libc::STDIN_FILENO;
 
@@ -37,7 +38,7 @@ fn word() -> u16 {
 
 // The next list, its length and its words, to the front of `words`. How many there are, or 0 where there is no room.
 pub fn read(words: &mut [u16]) -> usize
-    ensures { λ r. ⌜ Counts r (now (words .exit)) ⌝ }
+    ensures { λ r. ⌜ Counts r (left words) ⌝ }
 {
     let count = number();
     if words.len() < count {

@@ -1,5 +1,6 @@
 // What lent buffers hold before a call.
 ghost use Rattle.io.specs.Counts.{Counts};
+ghost use Rattle.basis.specs.Moments.{left};
 use crate::input::number;
 
 // The word that stands at i. No list of a mesh has a word above 32,768.
@@ -29,7 +30,7 @@ fn fill_bytes(bytes: &mut [u8]) {
 
 // The length of the next buffer, which is filled, or 0 where there is no room.
 pub fn lend(words: &mut [u16]) -> usize
-    ensures { λ r. ⌜ Counts r (now (words .exit)) ⌝ }
+    ensures { λ r. ⌜ Counts r (left words) ⌝ }
 {
     let count = number();
     if words.len() < count {
@@ -40,7 +41,7 @@ pub fn lend(words: &mut [u16]) -> usize
 }
 
 pub fn lend_bytes(bytes: &mut [u8]) -> usize
-    ensures { λ r. ⌜ Counts r (now (bytes .exit)) ⌝ }
+    ensures { λ r. ⌜ Counts r (left bytes) ⌝ }
 {
     let count = number();
     if bytes.len() < count {

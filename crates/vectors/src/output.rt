@@ -1,5 +1,6 @@
 // Answers and end contents of lent buffers as text.
 ghost use Prim.Native.Nat.{_<_};
+ghost use Rattle.basis.specs.Moments.{was};
 ghost use Rattle.io.specs.Counts.{Counts};
 use crate::lent::pattern;
 use libc::STDOUT_FILENO;
@@ -38,7 +39,7 @@ pub fn end_line() {
 
 // How many words there are up to the last one that isn't as it was lent.
 fn changed(words: &[u16]) -> usize
-    ensures { λ r. ⌜ Counts r (now (words .entry)) ⌝ }
+    ensures { λ r. ⌜ Counts r (was words) ⌝ }
 {
     let mut size = words.len();
     while 0 < size {

@@ -5,6 +5,7 @@ ghost use Prim.Native.Nat.{_≤_};
 ghost use lib.ListN.{length};
 ghost use lib.Dec.{leb};
 ghost use Rattle.basis.specs.Lists.{joinAll, overwrite};
+ghost use Rattle.basis.specs.Moments.{was, left};
 ghost use Rattle.spec.specs.File.{refusedLine};
 ghost use Rattle.writing.specs.Figures.{figuresOf};
 ghost use Rattle.writing.specs.Listed.{firstItems, lastItems, rowItems, rows, listed};
@@ -18,7 +19,7 @@ use crate::text::put_text;
 // The first four figures.
 fn put_first(f: Figures, out: &mut [u8], at: usize) -> usize
     requires { ⌜ Room (joinAll (firstItems (figuresOf f))) at (now out) ⌝ }
-    ensures { λ r. ⌜ Put (joinAll (firstItems (figuresOf f))) at r (now (out .entry)) (now (out .exit)) ⌝ }
+    ensures { λ r. ⌜ Put (joinAll (firstItems (figuresOf f))) at r (was out) (left out) ⌝ }
 {
     let mut end = put_item(b"nodes ", f.nodes, out, at);
     end = put_item(b" parts ", f.parts, out, end);
@@ -29,7 +30,7 @@ fn put_first(f: Figures, out: &mut [u8], at: usize) -> usize
 // The last four, and the line's end.
 fn put_last(f: Figures, out: &mut [u8], at: usize) -> usize
     requires { ⌜ Room (joinAll (lastItems (figuresOf f))) at (now out) ⌝ }
-    ensures { λ r. ⌜ Put (joinAll (lastItems (figuresOf f))) at r (now (out .entry)) (now (out .exit)) ⌝ }
+    ensures { λ r. ⌜ Put (joinAll (lastItems (figuresOf f))) at r (was out) (left out) ⌝ }
 {
     let mut end = put_item(b" front ", f.front, out, at);
     end = put_item(b" levels ", f.levels, out, end);
@@ -41,7 +42,7 @@ fn put_last(f: Figures, out: &mut [u8], at: usize) -> usize
 // A row: "old number, new number, level".
 fn put_row(node: u32, number: u16, level: u16, out: &mut [u8], at: usize) -> usize
     requires { ⌜ Room (joinAll (rowItems node number level)) at (now out) ⌝ }
-    ensures { λ r. ⌜ Put (joinAll (rowItems node number level)) at r (now (out .entry)) (now (out .exit)) ⌝ }
+    ensures { λ r. ⌜ Put (joinAll (rowItems node number level)) at r (was out) (left out) ⌝ }
 {
     let mut end = put_number(node, out, at);
     end = put_item(b" ", number as u32, out, end);
@@ -53,7 +54,7 @@ fn put_row(node: u32, number: u16, level: u16, out: &mut [u8], at: usize) -> usi
 fn put_rows(numbers: &[u16], levels: &[u16], out: &mut [u8], at: usize) -> usize
     requires { ⌜ (length (now numbers) ≡ length (now levels)) × (length (now numbers) ≤ 4096) ⌝ }
     requires { ⌜ Room (rows (now numbers) (now levels) (length (now numbers))) at (now out) ⌝ }
-    ensures { λ r. ⌜ Put (rows (now (numbers .entry)) (now (levels .entry)) (length (now (numbers .entry)))) at r (now (out .entry)) (now (out .exit)) ⌝ }
+    ensures { λ r. ⌜ Put (rows (was numbers) (was levels) (length (was numbers))) at r (was out) (left out) ⌝ }
 {
     let mut end = at;
     let mut i = 0;
@@ -68,8 +69,8 @@ fn put_rows(numbers: &[u16], levels: &[u16], out: &mut [u8], at: usize) -> usize
 pub fn write_listing(f: Figures, numbers: &[u16], levels: &[u16], out: &mut [u8]) -> usize
     requires { ⌜ (length (now numbers) ≡ length (now levels)) × (length (now numbers) ≤ 4096) ⌝ }
     requires { ⌜ length (listed (figuresOf f) (now numbers) (now levels)) ≤ length (now out) ⌝ }
-    ensures { λ r. ⌜ r ≡ length (listed (figuresOf f) (now (numbers .entry)) (now (levels .entry))) ⌝ }
-    ensures { λ _. ⌜ now (out .exit) ≡ overwrite (listed (figuresOf f) (now (numbers .entry)) (now (levels .entry))) (now (out .entry)) ⌝ }
+    ensures { λ r. ⌜ r ≡ length (listed (figuresOf f) (was numbers) (was levels)) ⌝ }
+    ensures { λ _. ⌜ left out ≡ overwrite (listed (figuresOf f) (was numbers) (was levels)) (was out) ⌝ }
 {
     let mut end = put_first(f, out, 0);
     end = put_last(f, out, end);
@@ -78,8 +79,8 @@ pub fn write_listing(f: Figures, numbers: &[u16], levels: &[u16], out: &mut [u8]
 
 // Writes the line of a refusal to the front of the buffer, and returns its length; where it has no room, writes nothing and returns 0.
 pub fn write_refusal(number: u16, out: &mut [u8]) -> usize
-    ensures { λ r. ⌜ r ≡ cond (leb (length (refusedLine number)) (length (now (out .entry)))) (length (refusedLine number)) 0 ⌝ }
-    ensures { λ _. ⌜ now (out .exit) ≡ cond (leb (length (refusedLine number)) (length (now (out .entry)))) (overwrite (refusedLine number) (now (out .entry))) (now (out .entry)) ⌝ }
+    ensures { λ r. ⌜ r ≡ cond (leb (length (refusedLine number)) (length (was out))) (length (refusedLine number)) 0 ⌝ }
+    ensures { λ _. ⌜ left out ≡ cond (leb (length (refusedLine number)) (length (was out))) (overwrite (refusedLine number) (was out)) (was out) ⌝ }
 {
     let x = number as u32;
     if out.len() < 9 + digits(x) {

@@ -3,13 +3,14 @@ ghost use mathlib.Core.Path.{_≡_};
 ghost use mathlib.Core.List.{_++_};
 ghost use Prim.Native.Nat.{_+_, _<_};
 ghost use lib.ListN.{length};
+ghost use Rattle.basis.specs.Moments.{was, left};
 ghost use Rattle.spec.specs.Text.{decimal};
 ghost use Rattle.writing.specs.Written.{Room, Put};
 
 // The bytes of a text.
 pub(crate) fn put_text(text: &[u8], out: &mut [u8], at: usize) -> usize
     requires { ⌜ Room (now text) at (now out) ⌝ }
-    ensures { λ r. ⌜ Put (now (text .entry)) at r (now (out .entry)) (now (out .exit)) ⌝ }
+    ensures { λ r. ⌜ Put (was text) at r (was out) (left out) ⌝ }
 {
     let mut i = 0;
     while i < text.len() {
@@ -43,7 +44,7 @@ fn digit(x: u32) -> u8
 // A number in decimal, the digits in front of the last one first.
 pub(crate) fn put_number(x: u32, out: &mut [u8], at: usize) -> usize
     requires { ⌜ Room (decimal x) at (now out) ⌝ }
-    ensures { λ r. ⌜ Put (decimal x) at r (now (out .entry)) (now (out .exit)) ⌝ }
+    ensures { λ r. ⌜ Put (decimal x) at r (was out) (left out) ⌝ }
 {
     let mut last = at;
     if 10 <= x {
@@ -56,7 +57,7 @@ pub(crate) fn put_number(x: u32, out: &mut [u8], at: usize) -> usize
 // A label and a number.
 pub(crate) fn put_item(label: &[u8], x: u32, out: &mut [u8], at: usize) -> usize
     requires { ⌜ Room (now label ++ decimal x) at (now out) ⌝ }
-    ensures { λ r. ⌜ Put (now (label .entry) ++ decimal x) at r (now (out .entry)) (now (out .exit)) ⌝ }
+    ensures { λ r. ⌜ Put (was label ++ decimal x) at r (was out) (left out) ⌝ }
 {
     let behind = put_text(label, out, at);
     put_number(x, out, behind)

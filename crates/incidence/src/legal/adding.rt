@@ -2,6 +2,7 @@
 ghost use mathlib.Core.Path.{_≡_};
 ghost use Prim.Native.Nat.{_≤_, _<_};
 ghost use lib.ListN.{length};
+ghost use Rattle.basis.specs.Moments.{was, left};
 ghost use Rattle.rowset.specs.Set.{Covered, Added, Empty};
 ghost use Rattle.incidence.specs.Cells.{nodeIn, Sound, held, Linked};
 
@@ -9,8 +10,8 @@ ghost use Rattle.incidence.specs.Cells.{nodeIn, Sound, held, Linked};
 fn add_element(bits: &mut [u64], elements: &[u16], at: usize, mask: u64) -> u64
     requires { ⌜ (length (now bits) ≡ 64) × Sound (now elements) at ⌝ }
     requires { ⌜ Covered mask (now bits) ⌝ }
-    ensures { λ r. ⌜ Covered r (now (bits .exit)) ⌝ }
-    ensures { λ _. ⌜ Added (nodeIn (now (elements .entry)) at) (now (bits .entry)) (now (bits .exit)) ⌝ }
+    ensures { λ r. ⌜ Covered r (left bits) ⌝ }
+    ensures { λ _. ⌜ Added (nodeIn (was elements) at) (was bits) (left bits) ⌝ }
 {
     let first = at + 1;
     let next = first + elements::node_count(elements[at]);
@@ -21,8 +22,8 @@ fn add_element(bits: &mut [u64], elements: &[u16], at: usize, mask: u64) -> u64
 pub fn add_listed(bits: &mut [u64], lists: &[u16], elements: &[u16], rows: usize, row: usize) -> u64
     requires { ⌜ (length (now bits) ≡ 64) × (length (now lists) ≤ 4096) × (row < rows) ⌝ }
     requires { ⌜ Empty (now bits) × Linked (now elements) rows (now lists) ⌝ }
-    ensures { λ r. ⌜ Covered r (now (bits .exit)) ⌝ }
-    ensures { λ _. ⌜ Added (held (nodeIn (now (elements .entry))) rows (now (lists .entry)) row) (now (bits .entry)) (now (bits .exit)) ⌝ }
+    ensures { λ r. ⌜ Covered r (left bits) ⌝ }
+    ensures { λ _. ⌜ Added (held (nodeIn (was elements)) rows (was lists) row) (was bits) (left bits) ⌝ }
 {
     let mut mask: u64 = 0;
     let mut cell = words::wide(lists[row]);

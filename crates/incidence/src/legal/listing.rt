@@ -6,6 +6,7 @@ ghost use Prim.Native.Nat.{ℕ, suc, _+_, _*_, _≤_, _<_};
 ghost use lib.ListN.{length};
 ghost use lib.Dec.{eqb};
 ghost use Rattle.basis.specs.Lists.{memb};
+ghost use Rattle.basis.specs.Moments.{was, left};
 ghost use Rattle.spec.specs.Mesh.{elementsRefusal};
 ghost use Rattle.incidence.specs.Cells.{Cells, pushed, Entered, Listed};
 
@@ -20,7 +21,7 @@ pub fn row_of(p: u16, base: usize) -> usize
 // Puts a position in front of the list of a row, as this cell.
 fn push(lists: &mut [u16], row: usize, rows: usize, cell: usize, at: u16)
     requires { ⌜ (row < rows) × (rows + 2 * cell + 1 < length (now lists)) × (length (now lists) ≤ 4096) ⌝ }
-    ensures { λ _. ⌜ now (lists .exit) ≡ pushed rows (now (lists .entry)) row cell at ⌝ }
+    ensures { λ _. ⌜ left lists ≡ pushed rows (was lists) row cell at ⌝ }
 {
     let first = lists[row];
     let to = rows + 2 * cell;
@@ -32,7 +33,7 @@ fn push(lists: &mut [u16], row: usize, rows: usize, cell: usize, at: u16)
 // Enters a position in the list of a row; returns the cell that is free then, 0 where the words are full.
 fn enter_row(lists: &mut [u16], row: usize, rows: usize, cell: usize, at: u16) -> usize
     requires { ⌜ (length (now lists) ≤ 4096) × Cells rows (now lists) cell × (row < rows) ⌝ }
-    ensures { λ r. ⌜ ((r ≡ 0 → ⊥) → Entered at rows (λ k. eqb k row) (now (lists .entry)) cell (now (lists .exit)) r) ⌝ }
+    ensures { λ r. ⌜ ((r ≡ 0 → ⊥) → Entered at rows (λ k. eqb k row) (was lists) cell (left lists) r) ⌝ }
 {
     let next = cell + 1;
     if lists.len() < rows + 2 * next {
@@ -46,7 +47,7 @@ fn enter_row(lists: &mut [u16], row: usize, rows: usize, cell: usize, at: u16) -
 // order that could be foreseen: one test passes them by.
 fn enter(lists: &mut [u16], nodes: &[u16], at: u16, base: usize, rows: usize, cell: usize) -> usize
     requires { ⌜ (length (now lists) ≤ 4096) × Cells rows (now lists) cell ⌝ }
-    ensures { λ r. ⌜ ((r ≡ 0 → ⊥) → Entered at rows (λ k. memb (base + suc k) (now (nodes .entry))) (now (lists .entry)) cell (now (lists .exit)) r) ⌝ }
+    ensures { λ r. ⌜ ((r ≡ 0 → ⊥) → Entered at rows (λ k. memb (base + suc k) (was nodes)) (was lists) cell (left lists) r) ⌝ }
 {
     let mut free = cell;
     let mut j = 0;
@@ -67,7 +68,7 @@ fn enter(lists: &mut [u16], nodes: &[u16], at: u16, base: usize, rows: usize, ce
 fn list(lists: &mut [u16], elements: &[u16], base: usize, rows: usize) -> bool
     requires { ⌜ (length (now lists) ≤ 4096) × (rows + 2 ≤ length (now lists)) × (length (now elements) ≤ 65536) ⌝ }
     requires { ⌜ elementsRefusal (length (now elements)) (length (now lists)) (now elements) ≡ 0 ⌝ }
-    ensures { λ r. ⌜ (r ≡ true → Listed (now (elements .entry)) base rows (now (lists .exit))) ⌝ }
+    ensures { λ r. ⌜ (r ≡ true → Listed (was elements) base rows (left lists)) ⌝ }
 {
     words::legal::clear(lists, rows);
     let mut cell = 1;
@@ -89,7 +90,7 @@ fn list(lists: &mut [u16], elements: &[u16], base: usize, rows: usize) -> bool
 pub fn list_rows(lists: &mut [u16], elements: &[u16], base: usize, most: usize) -> usize
     requires { ⌜ (length (now lists) ≤ 4096) × (most + 2 ≤ length (now lists)) × (length (now elements) ≤ 65536) ⌝ }
     requires { ⌜ elementsRefusal (length (now elements)) (length (now lists)) (now elements) ≡ 0 ⌝ }
-    ensures { λ r. ⌜ (r ≤ most) × (1 ≤ r → Listed (now (elements .entry)) base r (now (lists .exit))) ⌝ }
+    ensures { λ r. ⌜ (r ≤ most) × (1 ≤ r → Listed (was elements) base r (left lists)) ⌝ }
 {
     let mut rows = most;
     while 64 < rows {

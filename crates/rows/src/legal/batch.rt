@@ -2,6 +2,7 @@
 ghost use mathlib.Core.Path.{_≡_};
 ghost use Prim.Native.Nat.{_+_, _≤_, _<_};
 ghost use lib.ListN.{length, replicate};
+ghost use Rattle.basis.specs.Moments.{was, left};
 ghost use Rattle.spec.specs.Mesh.{elementsRefusal};
 ghost use Rattle.spec.specs.CallsMesh.{graphOfElements};
 ghost use Rattle.rowset.specs.Set.{Empty};
@@ -25,7 +26,7 @@ fn to_try(guess: usize, last: usize) -> usize
 fn list_some(lists: &mut [u16], elements: &[u16], base: usize, last: usize) -> usize
     requires { ⌜ (length (now lists) ≤ 4096) × (base < length (now lists)) × (last ≤ 4096) ⌝ }
     requires { ⌜ elementsRefusal (length (now elements)) (length (now lists)) (now elements) ≡ 0 ⌝ }
-    ensures { λ r. ⌜ (base + r ≤ length (now (lists .entry))) × (1 ≤ r → Listed (now (elements .entry)) base r (now (lists .exit))) ⌝ }
+    ensures { λ r. ⌜ (base + r ≤ length (was lists)) × (1 ≤ r → Listed (was elements) base r (left lists)) ⌝ }
 {
     let n = lists.len();
     if 65536 < elements.len() {
@@ -44,7 +45,7 @@ fn list_some(lists: &mut [u16], elements: &[u16], base: usize, last: usize) -> u
 fn next_rows(lists: &mut [u16], elements: &[u16], base: usize, last: usize) -> usize
     requires { ⌜ (length (now lists) ≤ 4096) × (base < length (now lists)) × (last ≤ 4096) ⌝ }
     requires { ⌜ elementsRefusal (length (now elements)) (length (now lists)) (now elements) ≡ 0 ⌝ }
-    ensures { λ r. ⌜ (1 ≤ r) × (base + r ≤ length (now (lists .entry))) × (64 < r → Listed (now (elements .entry)) base r (now (lists .exit))) ⌝ }
+    ensures { λ r. ⌜ (1 ≤ r) × (base + r ≤ length (was lists)) × (64 < r → Listed (was elements) base r (left lists)) ⌝ }
 {
     let group = words::smaller(lists.len() - base, 64);
     words::larger(list_some(lists, elements, base, last), group)
@@ -64,8 +65,8 @@ fn listed_rows(
     requires { ⌜ Ready (length (now lists)) (now elements) (now starts) × Clean (now bits) ⌝ }
     requires { ⌜ Listed (now elements) base rows (now lists) × (base + rows ≤ length (now lists)) ⌝ }
     requires { ⌜ at ≡ entriesTo (graphOfElements (length (now lists)) (now elements)) base ⌝ }
-    ensures { λ _. ⌜ Empty (now (bits .exit)) ⌝ }
-    ensures { λ r. ⌜ Goes (graphOfElements (length (now (lists .entry))) (now (elements .entry))) base (now (starts .entry)) (now (neighbours .entry)) (base + rows) (now (starts .exit)) (now (neighbours .exit)) r ⌝ }
+    ensures { λ _. ⌜ Empty (left bits) ⌝ }
+    ensures { λ r. ⌜ Goes (graphOfElements (length (was lists)) (was elements)) base (was starts) (was neighbours) (base + rows) (left starts) (left neighbours) r ⌝ }
 {
     let mut to = at;
     let mut row = 0;
@@ -100,7 +101,7 @@ fn gathered_rows(
     requires { ⌜ Ready n (now elements) (now starts) × (rows ≤ 64) × (base + rows ≤ n) ⌝ }
     requires { ⌜ now group ≡ replicate 4096 0 ⌝ }
     requires { ⌜ at ≡ entriesTo (graphOfElements n (now elements)) base ⌝ }
-    ensures { λ r. ⌜ Goes (graphOfElements n (now (elements .entry))) base (now (starts .entry)) (now (neighbours .entry)) (base + rows) (now (starts .exit)) (now (neighbours .exit)) r ⌝ }
+    ensures { λ r. ⌜ Goes (graphOfElements n (was elements)) base (was starts) (was neighbours) (base + rows) (left starts) (left neighbours) r ⌝ }
 {
     gathering::legal::gather(group, elements, base);
     let mut to = at;
@@ -124,7 +125,7 @@ fn group_rows(
 ) -> usize
     requires { ⌜ Ready n (now elements) (now starts) × (rows ≤ 64) × (base + rows ≤ n) ⌝ }
     requires { ⌜ at ≡ entriesTo (graphOfElements n (now elements)) base ⌝ }
-    ensures { λ r. ⌜ Goes (graphOfElements n (now (elements .entry))) base (now (starts .entry)) (now (neighbours .entry)) (base + rows) (now (starts .exit)) (now (neighbours .exit)) r ⌝ }
+    ensures { λ r. ⌜ Goes (graphOfElements n (was elements)) base (was starts) (was neighbours) (base + rows) (left starts) (left neighbours) r ⌝ }
 {
     let mut group = [0u64; 4096];
     gathered_rows(&mut group, n, elements, base, rows, at, starts, neighbours)
@@ -144,8 +145,8 @@ fn some_rows(
     requires { ⌜ Ready (length (now lists)) (now elements) (now starts) × Clean (now bits) ⌝ }
     requires { ⌜ (64 < rows → Listed (now elements) base rows (now lists)) × (base + rows ≤ length (now lists)) ⌝ }
     requires { ⌜ at ≡ entriesTo (graphOfElements (length (now lists)) (now elements)) base ⌝ }
-    ensures { λ _. ⌜ Empty (now (bits .exit)) ⌝ }
-    ensures { λ r. ⌜ Goes (graphOfElements (length (now (lists .entry))) (now (elements .entry))) base (now (starts .entry)) (now (neighbours .entry)) (base + rows) (now (starts .exit)) (now (neighbours .exit)) r ⌝ }
+    ensures { λ _. ⌜ Empty (left bits) ⌝ }
+    ensures { λ r. ⌜ Goes (graphOfElements (length (was lists)) (was elements)) base (was starts) (was neighbours) (base + rows) (left starts) (left neighbours) r ⌝ }
 {
     if rows <= 64 {
         let n = lists.len();
@@ -163,8 +164,8 @@ pub(crate) fn all_rows(
     neighbours: &mut [u16],
 ) -> usize
     requires { ⌜ Ready (length (now lists)) (now elements) (now starts) × Clean (now bits) ⌝ }
-    ensures { λ r. ⌜ r ≡ entriesTo (graphOfElements (length (now (lists .entry))) (now (elements .entry))) (length (now (lists .entry))) ⌝ }
-    ensures { λ _. ⌜ Laid (graphOfElements (length (now (lists .entry))) (now (elements .entry))) (now (starts .entry)) (now (neighbours .entry)) (length (now (lists .entry))) (now (starts .exit)) (now (neighbours .exit)) ⌝ }
+    ensures { λ r. ⌜ r ≡ entriesTo (graphOfElements (length (was lists)) (was elements)) (length (was lists)) ⌝ }
+    ensures { λ _. ⌜ Laid (graphOfElements (length (was lists)) (was elements)) (was starts) (was neighbours) (length (was lists)) (left starts) (left neighbours) ⌝ }
 {
     let n = lists.len();
     if n <= 64 {

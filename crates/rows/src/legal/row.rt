@@ -3,6 +3,7 @@ ghost use mathlib.Core.Path.{_≡_};
 ghost use Prim.Native.Nat.{ℕ, _+_, _≤_, _<_};
 ghost use lib.ListN.{length, set};
 ghost use lib.Seq.{sets};
+ghost use Rattle.basis.specs.Moments.{was, left};
 ghost use Rattle.spec.specs.CallsMesh.{graphOfElements};
 ghost use Rattle.rowset.specs.Set.{Covered, Empty, members};
 ghost use Rattle.incidence.specs.Cells.{Listed};
@@ -12,7 +13,7 @@ ghost use Rattle.rows.specs.Rows.{entriesTo, Ready, Clean, Goes};
 // Writes where row p ends.
 fn mark_end(starts: &mut [u16], p: usize, to: usize)
     requires { ⌜ (p < length (now starts) → to ≤ 32768) ⌝ }
-    ensures { λ _. ⌜ now (starts .exit) ≡ set (now (starts .entry)) p to ⌝ }
+    ensures { λ _. ⌜ left starts ≡ set (was starts) p to ⌝ }
 {
     if p < starts.len() {
         starts[p] = to as u16;
@@ -30,10 +31,10 @@ fn close_row(
 ) -> usize
     requires { ⌜ (length (now bits) ≡ 64) × Covered mask (now bits) × (at ≤ 2147483648) ⌝ }
     requires { ⌜ (p < length (now starts) → at + length (members p (now bits)) ≤ 32768) ⌝ }
-    ensures { λ r. ⌜ r ≡ at + length (members p (now (bits .entry))) ⌝ }
-    ensures { λ _. ⌜ Empty (now (bits .exit)) ⌝ }
-    ensures { λ r. ⌜ now (starts .exit) ≡ set (now (starts .entry)) p r ⌝ }
-    ensures { λ _. ⌜ now (neighbours .exit) ≡ sets (now (neighbours .entry)) at (members p (now (bits .entry))) ⌝ }
+    ensures { λ r. ⌜ r ≡ at + length (members p (was bits)) ⌝ }
+    ensures { λ _. ⌜ Empty (left bits) ⌝ }
+    ensures { λ r. ⌜ left starts ≡ set (was starts) p r ⌝ }
+    ensures { λ _. ⌜ left neighbours ≡ sets (was neighbours) at (members p (was bits)) ⌝ }
 {
     let to = rowset::legal::empty(bits, mask, p, at, neighbours);
     mark_end(starts, p, to);
@@ -55,8 +56,8 @@ pub(crate) fn listed_row(
     requires { ⌜ Ready (length (now lists)) (now elements) (now starts) × Clean (now bits) ⌝ }
     requires { ⌜ Listed (now elements) base rows (now lists) × (row < rows) × (base + rows ≤ length (now lists)) ⌝ }
     requires { ⌜ at ≡ entriesTo (graphOfElements (length (now lists)) (now elements)) (base + row) ⌝ }
-    ensures { λ _. ⌜ Empty (now (bits .exit)) ⌝ }
-    ensures { λ r. ⌜ Goes (graphOfElements (length (now (lists .entry))) (now (elements .entry))) (base + row) (now (starts .entry)) (now (neighbours .entry)) (base + row + 1) (now (starts .exit)) (now (neighbours .exit)) r ⌝ }
+    ensures { λ _. ⌜ Empty (left bits) ⌝ }
+    ensures { λ r. ⌜ Goes (graphOfElements (length (was lists)) (was elements)) (base + row) (was starts) (was neighbours) (base + row + 1) (left starts) (left neighbours) r ⌝ }
 {
     let mask = incidence::legal::adding::add_listed(bits, lists, elements, rows, row);
     close_row(bits, mask, base + row + 1, at, starts, neighbours)
@@ -73,10 +74,10 @@ pub(crate) fn gathered_row(
 ) -> usize
     requires { ⌜ (length (now group) ≡ 4096) × (row < 64) × (base + row < 4096) × (at ≤ 2147483648) ⌝ }
     requires { ⌜ (base + row + 1 < length (now starts) → at + length (members (base + row + 1) (setAt (now group) row)) ≤ 32768) ⌝ }
-    ensures { λ r. ⌜ r ≡ at + length (members (base + row + 1) (setAt (now (group .entry)) row)) ⌝ }
-    ensures { λ _. ⌜ ((k : ℕ) → row < k → setAt (now (group .exit)) k ≡ setAt (now (group .entry)) k) ⌝ }
-    ensures { λ r. ⌜ now (starts .exit) ≡ set (now (starts .entry)) (base + row + 1) r ⌝ }
-    ensures { λ _. ⌜ now (neighbours .exit) ≡ sets (now (neighbours .entry)) at (members (base + row + 1) (setAt (now (group .entry)) row)) ⌝ }
+    ensures { λ r. ⌜ r ≡ at + length (members (base + row + 1) (setAt (was group) row)) ⌝ }
+    ensures { λ _. ⌜ ((k : ℕ) → row < k → setAt (left group) k ≡ setAt (was group) k) ⌝ }
+    ensures { λ r. ⌜ left starts ≡ set (was starts) (base + row + 1) r ⌝ }
+    ensures { λ _. ⌜ left neighbours ≡ sets (was neighbours) at (members (base + row + 1) (setAt (was group) row)) ⌝ }
 {
     let first = 64 * row;
     let next = first + 64;
