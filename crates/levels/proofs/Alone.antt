@@ -13,7 +13,7 @@ use Rattle.basis.proofs.Next.{sets-behind, sets-at}
 use Rattle.spec.specs.Combined.{combined}
 use Rattle.spec.specs.Ends.{ends}
 use Rattle.spec.specs.Graph.{Graph, graphOf, sizeOf, graphRefusal, nodes, ofNode}
-use Rattle.spec.specs.Lent.{zeroed}
+use Rattle.spec.specs.Lent.{zeroed, wordsPerNode}
 use Rattle.spec.specs.Levels.{part}
 use Rattle.laws.specs.Legal.{Node, LegalGraph}
 use Rattle.laws.proofs.Ends.{ends-of, ends-same}
@@ -33,7 +33,7 @@ use Rattle.levels.specs.declared.shape.PartLevels.{PartLevels}
 use Rattle.levels.proofs.Scratch.{zero-front, behind-front, behind-sets, zeroed-again}
 
 module _ (S N : List ℕ) (p : ℕ) (W : List ℕ) (ok : graphRefusal S N ≡ 0) (range : (1 ≤ p) × (p ≤ sizeOf S))
-    (room : 8 * sizeOf S ≤ length W) {W₀ : List ℕ} (w₀ : W₀ ≡ zeroed (8 * sizeOf S) W) where
+    (room : wordsPerNode * sizeOf S ≤ length W) {W₀ : List ℕ} (w₀ : W₀ ≡ zeroed (wordsPerNode * sizeOf S) W) where
   abbrev g : Graph
   g = graphOf S N
 
@@ -50,10 +50,10 @@ module _ (S N : List ℕ) (p : ℕ) (W : List ℕ) (ok : graphRefusal S N ≡ 0)
   M = record { low = range .0; high = range .1 }
 
   W₀-size : length W₀ ≡ length W
-  W₀-size = ap length w₀ ∙ zeroed-length (8 * n) W room
+  W₀-size = ap length w₀ ∙ zeroed-length (wordsPerNode * n) W room
 
-  blank : (k : ℕ) → k ≤ 8 * n → take k W₀ ≡ replicate k 0
-  blank k l = ap (take k) w₀ ∙ zero-front k (8 * n) W l
+  blank : (k : ℕ) → k ≤ wordsPerNode * n → take k W₀ ≡ replicate k 0
+  blank k l = ap (take k) w₀ ∙ zero-front k (wordsPerNode * n) W l
 
   pub gather-ask : (graphRefusal S N ≡ 0) × (((1 ≤ p) × (p ≤ sizeOf S)) × ((5 * n ≤ length W₀) × (take (2 * n) W₀ ≡ replicate (2 * n) 0)))
   gather-ask = (ok, (range, (omega (arith, W₀-size), blank (2 * n) (omega arith))))
@@ -93,7 +93,7 @@ module _ (S N : List ℕ) (p : ℕ) (W : List ℕ) (ok : graphRefusal S N ≡ 0)
         (λ i l.
         getD-drop (5 * n) (take (6 * n) U) i 0 ∙ getD-take (6 * n) U (5 * n + i) 0 (omega (arith, L₀-size))
         ∙ ap (λ (x : List ℕ). getD x (5 * n + i) 0) u ∙ sets-behind W₀ (4 * n) P (5 * n + i) (omega (arith, P-most))
-        ∙ ap (λ (x : List ℕ). getD x (5 * n + i) 0) w₀ ∙ zeroed-at (8 * n) W (5 * n + i) (omega (arith, L₀-size))
+        ∙ ap (λ (x : List ℕ). getD x (5 * n + i) 0) w₀ ∙ zeroed-at (wordsPerNode * n) W (5 * n + i) (omega (arith, L₀-size))
         ∙ sym (zeros-at n i))
 
     L₀-at : (i : ℕ) → getD L₀ i 0 ≡ 0
@@ -151,7 +151,7 @@ module _ (S N : List ℕ) (p : ℕ) (W : List ℕ) (ok : graphRefusal S N ≡ 0)
       V₀-size : length V₀ ≡ 5 * n
       V₀-size = length-take-le (5 * n) U (omega (arith, U-size))
 
-      pub room-again : 8 * n ≤ length Y
+      pub room-again : wordsPerNode * n ≤ length Y
       room-again =
           omega (arith, ap length y, length-append V₀ (K ++ drop (6 * n) U), V₀-size, length-append K (drop (6 * n) U), merged-size, length-drop (6 * n) U, U-size)
 
@@ -165,9 +165,9 @@ module _ (S N : List ℕ) (p : ℕ) (W : List ℕ) (ok : graphRefusal S N ≡ 0)
       pub levels-many : length (take (6 * n - 5 * n) (drop (5 * n) Y)) ≡ n
       levels-many = ap length levels-lent ∙ sym (ap length merged-is) ∙ merged-size
 
-      pub part-words : {X : List ℕ} → X ≡ zeroed (8 * n) Y → X ≡ zeroed (8 * n) W
+      pub part-words : {X : List ℕ} → X ≡ zeroed (wordsPerNode * n) Y → X ≡ zeroed (wordsPerNode * n) W
       part-words x =
-          x ∙ zeroed-again (8 * n) Y W
-          (ap (drop (8 * n)) (y ∙ sym (append-assoc V₀ K (drop (6 * n) U)))
-          ∙ behind-front (6 * n) (8 * n) (V₀ ++ K) U (length-append V₀ K ∙ omega (arith, V₀-size, merged-size)) (omega arith)
-          ∙ ap (drop (8 * n)) u ∙ behind-sets (8 * n) W₀ (4 * n) P (omega (arith, P-most)) ∙ ap (drop (8 * n)) w₀ ∙ zeroed-behind (8 * n) W)
+          x ∙ zeroed-again (wordsPerNode * n) Y W
+          (ap (drop (wordsPerNode * n)) (y ∙ sym (append-assoc V₀ K (drop (6 * n) U)))
+          ∙ behind-front (6 * n) (wordsPerNode * n) (V₀ ++ K) U (length-append V₀ K ∙ omega (arith, V₀-size, merged-size)) (omega arith)
+          ∙ ap (drop (wordsPerNode * n)) u ∙ behind-sets (wordsPerNode * n) W₀ (4 * n) P (omega (arith, P-most)) ∙ ap (drop (wordsPerNode * n)) w₀ ∙ zeroed-behind (wordsPerNode * n) W)

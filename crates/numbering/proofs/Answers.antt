@@ -12,7 +12,7 @@ use Rattle.basis.proofs.Logic.{or-none}
 use Rattle.spec.specs.CallsNumbering.{runRefusal, runAnswer, runNumbers, runLevels, runScratch}
 use Rattle.spec.specs.Claim.{Numbered}
 use Rattle.spec.specs.Graph.{graphOf, sizeOf}
-use Rattle.spec.specs.Lent.{Outcome, accepted, refused, zeroed}
+use Rattle.spec.specs.Lent.{Outcome, accepted, refused, zeroed, wordsPerNode}
 use Rattle.spec.specs.Numbering.{Figures, run}
 use Rattle.spec.specs.Refusal.{refuse}
 use Rattle.laws.proofs.Claim.{run-numbered}
@@ -26,21 +26,21 @@ use Rattle.graph.proofs.Answers.{refused-first, legal-next}
 -- ---- a short buffer
 
 module _ (n a b c : ℕ) where
-  pub first-short : a < n → true ≡ ltb a n || ltb b n || ltb c (8 * n)
+  pub first-short : a < n → true ≡ ltb a n || ltb b n || ltb c (wordsPerNode * n)
   first-short h = rw (lt-ltb a n h)
 
-  pub second-short : n ≤ a → b < n → true ≡ ltb a n || ltb b n || ltb c (8 * n)
+  pub second-short : n ≤ a → b < n → true ≡ ltb a n || ltb b n || ltb c (wordsPerNode * n)
   second-short l h = rw (le-ltb a n l, lt-ltb b n h)
 
-  pub third-short : n ≤ a → n ≤ b → ltb c (8 * n) ≡ ltb a n || ltb b n || ltb c (8 * n)
+  pub third-short : n ≤ a → n ≤ b → ltb c (wordsPerNode * n) ≡ ltb a n || ltb b n || ltb c (wordsPerNode * n)
   third-short l m = rw (le-ltb a n l, le-ltb b n m)
 
 -- all three are long enough
-pub none-short : (n a b c : ℕ) → ltb a n || ltb b n || ltb c (8 * n) ≡ false → (n ≤ a) × (n ≤ b) × (8 * n ≤ c)
+pub none-short : (n a b c : ℕ) → ltb a n || ltb b n || ltb c (wordsPerNode * n) ≡ false → (n ≤ a) × (n ≤ b) × (wordsPerNode * n ≤ c)
 none-short n a b c e =
-    let u = or-none (ltb a n || ltb b n) (ltb c (8 * n)) e in
+    let u = or-none (ltb a n || ltb b n) (ltb c (wordsPerNode * n)) e in
     let v = or-none (ltb a n) (ltb b n) (u .0) in
-    (ltb-false a n (v .0), ltb-false b n (v .1), ltb-false c (8 * n) (u .1))
+    (ltb-false a n (v .0), ltb-false b n (v .1), ltb-false c (wordsPerNode * n) (u .1))
 
 module _ (S N X L W : List ℕ) where
   -- ---- refused: everything lent is untouched
@@ -70,17 +70,17 @@ module _ (S N X L W : List ℕ) where
   lists-refused {c} R = refusal c (refused-first R _) (R .some)
 
   module _ (G : LegalLists S N) where
-    tests : {b : Bool} → ltb (length X) (sizeOf S) || ltb (length L) (sizeOf S) || ltb (length W) (8 * sizeOf S) ≡ b → runRefusal S N X L W ≡ refuse b 5
+    tests : {b : Bool} → ltb (length X) (sizeOf S) || ltb (length L) (sizeOf S) || ltb (length W) (wordsPerNode * sizeOf S) ≡ b → runRefusal S N X L W ≡ refuse b 5
     unfolding runRefusal
     tests e = legal-next G _ ∙ ap (λ (b : Bool). refuse b 5) e
 
     -- 5
-    pub short-refused : ltb (length X) (sizeOf S) || ltb (length L) (sizeOf S) || ltb (length W) (8 * sizeOf S) ≡ true → RunRefused 5
+    pub short-refused : ltb (length X) (sizeOf S) || ltb (length L) (sizeOf S) || ltb (length W) (wordsPerNode * sizeOf S) ≡ true → RunRefused 5
     short-refused e = refusal 5 (tests e) (omega arith)
 
     -- ---- accepted
 
-    module _ (long : ltb (length X) (sizeOf S) || ltb (length L) (sizeOf S) || ltb (length W) (8 * sizeOf S) ≡ false) where
+    module _ (long : ltb (length X) (sizeOf S) || ltb (length L) (sizeOf S) || ltb (length W) (wordsPerNode * sizeOf S) ≡ false) where
       none : runRefusal S N X L W ≡ 0
       none = tests long
 
@@ -100,7 +100,7 @@ module _ (S N X L W : List ℕ) where
           ap (λ (l : List ℕ). l ++ drop (sizeOf S) L) y
           ∙ filled-accepted (runRefusal S N X L W) (sizeOf S) (run (graphOf S N) .levels) L none (levels-length (G .graph))
 
-      pub scratch-back : {Z : List ℕ} → Z ≡ zeroed (8 * sizeOf S) W → Z ≡ runScratch S N X L W
+      pub scratch-back : {Z : List ℕ} → Z ≡ zeroed (wordsPerNode * sizeOf S) W → Z ≡ runScratch S N X L W
       unfolding runScratch
       scratch-back z = z ∙ scratch-accepted (runRefusal S N X L W) S W none
 

@@ -11,7 +11,7 @@ use Rattle.basis.proofs.Walk.{part-slice}
 use Rattle.search.proofs.Stores.{drop-replicate}
 use Rattle.spec.specs.CallsNumbering.{MeasureFigures, measureFigures}
 use Rattle.spec.specs.Graph.{graphOf, sizeOf, graphRefusal}
-use Rattle.spec.specs.Lent.{zeroed}
+use Rattle.spec.specs.Lent.{zeroed, wordsPerNode}
 use Rattle.spec.specs.Levels.{parts}
 use Rattle.spec.specs.Measures.{isNumbering, renumbered, bandwidth, profile, front}
 use Rattle.spec.specs.Numbering.{Figures, run}
@@ -34,15 +34,15 @@ module _ (S N : List ℕ) (legal : graphRefusal S N ≡ 0) where
 
   -- ---- the scratch
 
-  module _ (W₀ : List ℕ) {W₁ : List ℕ} (room : 8 * n ≤ length W₀) (w₁ : W₁ ≡ zeroed (8 * n) W₀) where
+  module _ (W₀ : List ℕ) {W₁ : List ℕ} (room : wordsPerNode * n ≤ length W₀) (w₁ : W₁ ≡ zeroed (wordsPerNode * n) W₀) where
     pub cleared-size : length W₁ ≡ length W₀
-    cleared-size = ap length w₁ ∙ zeroed-length (8 * n) W₀ room
+    cleared-size = ap length w₁ ∙ zeroed-length (wordsPerNode * n) W₀ room
 
     pub members-room : 5 * n ≤ length W₁
     members-room = omega (arith, cleared-size, room)
 
     pub members-blank : take (5 * n) W₁ ≡ replicate (5 * n) 0
-    members-blank = ap (take (5 * n)) w₁ ∙ zero-front (5 * n) (8 * n) W₀ (omega arith)
+    members-blank = ap (take (5 * n)) w₁ ∙ zero-front (5 * n) (wordsPerNode * n) W₀ (omega arith)
 
     module _ {W₂ : List ℕ} (w₂ : W₂ ≡ replicate (4 * n) 0 ++ (joinAll (parts (graphOf S N)) ++ drop (5 * n) W₁)) where
       abbrev front-part : List ℕ
@@ -64,7 +64,7 @@ module _ (S N : List ℕ) (legal : graphRefusal S N ≡ 0) where
           sym (part-slice (5 * n) (6 * n) W₂)
           ∙ ap (take (6 * n - 5 * n)) (ap (drop (5 * n)) two-is ∙ drop-at front-part (drop (5 * n) W₁) (5 * n) (areas-size S N legal))
           ∙ part-slice (5 * n) (6 * n) W₁
-          ∙ ap (drop (5 * n)) (ap (take (6 * n)) w₁ ∙ zero-front (6 * n) (8 * n) W₀ (omega arith))
+          ∙ ap (drop (5 * n)) (ap (take (6 * n)) w₁ ∙ zero-front (6 * n) (wordsPerNode * n) W₀ (omega arith))
           ∙ drop-replicate (5 * n) (6 * n) 0
           ∙ ap (λ (k : ℕ). replicate k 0) c
 
@@ -83,16 +83,16 @@ module _ (S N : List ℕ) (legal : graphRefusal S N ≡ 0) where
         pub back-size : {C : List ℕ} → C ≡ replicate n 0 → length (C ++ drop n W₃) ≡ length W₀
         back-size {C} c = omega (arith, length-append C (drop n W₃), ap length c, length-replicate {A = ℕ} n 0, length-drop n W₃, lent-room, three-size)
 
-        pub last-scratch : {C : List ℕ} → C ≡ replicate n 0 → zeroed (8 * n) (C ++ drop n W₃) ≡ zeroed (8 * n) W₀
+        pub last-scratch : {C : List ℕ} → C ≡ replicate n 0 → zeroed (wordsPerNode * n) (C ++ drop n W₃) ≡ zeroed (wordsPerNode * n) W₀
         last-scratch {C} c =
-            zeroed-again (8 * n) (C ++ drop n W₃) W₀
-            (behind-front n (8 * n) C W₃ (ap length c ∙ length-replicate n 0) (omega arith)
-            ∙ ap (drop (8 * n)) (w₃ ∙ two-is)
-            ∙ behind-front (5 * n) (8 * n) front-part W₁ (areas-size S N legal) (omega arith)
-            ∙ ap (drop (8 * n)) w₁ ∙ zeroed-behind (8 * n) W₀)
+            zeroed-again (wordsPerNode * n) (C ++ drop n W₃) W₀
+            (behind-front n (wordsPerNode * n) C W₃ (ap length c ∙ length-replicate n 0) (omega arith)
+            ∙ ap (drop (wordsPerNode * n)) (w₃ ∙ two-is)
+            ∙ behind-front (5 * n) (wordsPerNode * n) front-part W₁ (areas-size S N legal) (omega arith)
+            ∙ ap (drop (wordsPerNode * n)) w₁ ∙ zeroed-behind (wordsPerNode * n) W₀)
 
-        pub last-size : {C W₅ : List ℕ} → C ≡ replicate n 0 → W₅ ≡ zeroed (8 * n) (C ++ drop n W₃) → length W₅ ≡ length W₀
-        last-size c w₅ = ap length (w₅ ∙ last-scratch c) ∙ zeroed-length (8 * n) W₀ room
+        pub last-size : {C W₅ : List ℕ} → C ≡ replicate n 0 → W₅ ≡ zeroed (wordsPerNode * n) (C ++ drop n W₃) → length W₅ ≡ length W₀
+        last-size c w₅ = ap length (w₅ ∙ last-scratch c) ∙ zeroed-length (wordsPerNode * n) W₀ room
 
   -- ---- the figures
 

@@ -8,7 +8,7 @@ use lib.ListN.{length, getD, drop, List·getD-append}
 use lib.Seq.{sets, slice, length-sets}
 use Rattle.spec.specs.Ends.{ends}
 use Rattle.spec.specs.Graph.{Graph, graphOf, sizeOf, graphRefusal}
-use Rattle.spec.specs.Lent.{zeroed}
+use Rattle.spec.specs.Lent.{zeroed, wordsPerNode}
 use Rattle.spec.specs.Levels.{part}
 use Rattle.spec.specs.Numbering.{PartReport, partResultBy, partResult}
 use Rattle.laws.specs.Legal.{Node, LegalGraph}
@@ -34,8 +34,8 @@ levels-size : {g : Graph} (G : LegalGraph g) {z : ℕ} → Node g z → length (
 unfolding partResult partResultBy
 levels-size G Z = part-levels G Z .size
 
-module _ (S N : List ℕ) (p : ℕ) (W : List ℕ) (ok : graphRefusal S N ≡ 0) (range : (1 ≤ p) × (p ≤ sizeOf S)) (room : 8 * sizeOf S ≤ length W)
-    {W₀ : List ℕ} (w₀ : W₀ ≡ zeroed (8 * sizeOf S) W)
+module _ (S N : List ℕ) (p : ℕ) (W : List ℕ) (ok : graphRefusal S N ≡ 0) (range : (1 ≤ p) × (p ≤ sizeOf S)) (room : wordsPerNode * sizeOf S ≤ length W)
+    {W₀ : List ℕ} (w₀ : W₀ ≡ zeroed (wordsPerNode * sizeOf S) W)
     {m : ℕ} (c : m ≡ length (part (graphOf S N) p)) {U : List ℕ} (u : U ≡ sets W₀ (4 * sizeOf S) (part (graphOf S N) p)) where
   abbrev g : Graph
   g = graphOf S N
@@ -104,18 +104,18 @@ module _ (S N : List ℕ) (p : ℕ) (W : List ℕ) (ok : graphRefusal S N ≡ 0)
       Z : Node g (getD Y (4 * n) 0)
       Z = subst (Node g) (sym first-is) (z-node G few U given)
 
-      pub room-still : 8 * n ≤ length X
+      pub room-still : wordsPerNode * n ≤ length X
       room-still =
           omega (arith, ap length x, length-sets (sets Y n order) (5 * n) levels, length-sets Y n order, room-again S N p W ok range room w₀ c u y)
 
       -- the order and the levels stand among the words that are set to 0
-      pub words-found : {R : List ℕ} → R ≡ zeroed (8 * n) X → R ≡ zeroed (8 * n) W
+      pub words-found : {R : List ℕ} → R ≡ zeroed (wordsPerNode * n) X → R ≡ zeroed (wordsPerNode * n) W
       words-found r =
           part-words S N p W ok range room w₀ c u y
           (r
-          ∙ zeroed-again (8 * n) X Y
-          (ap (drop (8 * n)) x ∙ behind-sets (8 * n) (sets Y n order) (5 * n) levels (omega (arith, levels-size G Z))
-          ∙ behind-sets (8 * n) Y n order (omega (arith, result-size G Z, part-most g (getD Y (4 * n) 0)))))
+          ∙ zeroed-again (wordsPerNode * n) X Y
+          (ap (drop (wordsPerNode * n)) x ∙ behind-sets (wordsPerNode * n) (sets Y n order) (5 * n) levels (omega (arith, levels-size G Z))
+          ∙ behind-sets (wordsPerNode * n) Y n order (omega (arith, result-size G Z, part-most g (getD Y (4 * n) 0)))))
 
-      pub size-found : {R : List ℕ} → R ≡ zeroed (8 * n) X → length R ≡ length W
-      size-found r = ap length (words-found r) ∙ zeroed-length (8 * n) W room
+      pub size-found : {R : List ℕ} → R ≡ zeroed (wordsPerNode * n) X → length R ≡ length W
+      size-found r = ap length (words-found r) ∙ zeroed-length (wordsPerNode * n) W room

@@ -9,7 +9,7 @@ use lib.Seq.{length-take-le}
 use borrow.Author.Needs.{needs}
 use denote.Ref.{now}
 use Rattle.spec.specs.Graph.{sizeOf}
-use Rattle.spec.specs.Lent.{accepted}
+use Rattle.spec.specs.Lent.{accepted, wordsPerNode}
 use Rattle.graph.specs.Facts.{LegalLists}
 use Rattle.graph.proofs.Answers.{legal-lists, refused-lists}
 use Rattle.numbering.proofs.Answers.{none-short, lists-refused, short-refused, run-answer, numbers-back, levels-back, scratch-back, left-numbered}
@@ -25,12 +25,12 @@ legal c =
 -- the three buffers, where none was found short
 long : (c : tie.Else1) → let s = c .before .before .before .before .before .before .before .before .before .before in
     ltb (length (now (s .args .numbers))) (sizeOf (now (s .args .starts))) || ltb (length (now (s .args .levels))) (sizeOf (now (s .args .starts)))
-    || ltb (length (now (s .args .scratch))) (8 * sizeOf (now (s .args .starts))) ≡ false
+    || ltb (length (now (s .args .scratch))) (wordsPerNode * sizeOf (now (s .args .starts))) ≡ false
 long c = sym (c .before .any-short .ensures) ∙ c .if1 .left
 
 room : (c : tie.Else1) → let s = c .before .before .before .before .before .before .before .before .before .before in
     (sizeOf (now (s .args .starts)) ≤ length (now (s .args .numbers))) × (sizeOf (now (s .args .starts)) ≤ length (now (s .args .levels)))
-    × (8 * sizeOf (now (s .args .starts)) ≤ length (now (s .args .scratch)))
+    × (wordsPerNode * sizeOf (now (s .args .starts)) ≤ length (now (s .args .scratch)))
 room c = let s = c .before .before .before .before .before .before .before .before .before .before in none-short (sizeOf (now (s .args .starts))) (length (now (s .args .numbers))) (length (now (s .args .levels))) (length (now (s .args .scratch))) (long c)
 
 test-adjacency-requires : tie.Need-test-adjacency-requires

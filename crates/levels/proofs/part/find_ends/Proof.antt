@@ -7,7 +7,7 @@ use lib.ListN.{take, drop, take-append-drop}
 use borrow.Author.Needs.{needs}
 use borrow.Rule.Slice.PartMut.{postOf}
 use Rattle.spec.specs.Graph.{graphOf, sizeOf}
-use Rattle.spec.specs.Lent.{zeroed}
+use Rattle.spec.specs.Lent.{zeroed, wordsPerNode}
 use Rattle.laws.specs.Legal.{Node}
 use Rattle.laws.proofs.Lent.{zeroed-behind}
 use Rattle.ends.specs.Answer.{foundOf}
@@ -31,7 +31,7 @@ words c =
     c .first-of-part .last .1 .1 .1 .0 ++ postOf 0 (half (start at .args .starts .now) - 0) (at .clear .last .0)
 
 words-are : (c : tie.After-first-of-part) → let s = start (c .before .before .before .before) in
-    words c ≡ zeroed (8 * sizeOf (s .args .starts .now)) (s .args .scratch .now)
+    words c ≡ zeroed (wordsPerNode * sizeOf (s .args .starts .now)) (s .args .scratch .now)
 words-are c =
     let at = c .before .before .before .before in
     let h : ℕ = half (start at .args .starts .now) in
@@ -65,7 +65,7 @@ first-of-part-requires c κs =
     let at = c .before .before .before in
     let s = start at in
     let h : ℕ = half (s .args .starts .now) in
-    (s .pre .0, (s .pre .1 .0, front-lent h (at .clear .last .0) ∙ ap (take h) (at .clear .ensures) ∙ zero-front h (8 * sizeOf (s .args .starts .now)) (s .args .scratch .now) (omega arith)))
+    (s .pre .0, (s .pre .1 .0, front-lent h (at .clear .last .0) ∙ ap (take h) (at .clear .ensures) ∙ zero-front h (wordsPerNode * sizeOf (s .args .starts .now)) (s .args .scratch .now) (omega arith)))
 
 add-ends-from : tie.Need-add-ends-from
 add-ends-from c = search needs
@@ -90,7 +90,7 @@ ends-from-requires c κs =
         first-range (s .args .starts .now) (s .args .neighbours .now) (s .pre .0) (node s) e,
         (
           first-own (s .args .starts .now) (s .args .neighbours .now) (s .pre .0) (node s) e,
-          front-lent (h + h) (words at) ∙ ap (take (h + h)) (words-are at) ∙ zero-front (h + h) (8 * sizeOf (s .args .starts .now)) (s .args .scratch .now) (omega arith),
+          front-lent (h + h) (words at) ∙ ap (take (h + h)) (words-are at) ∙ zero-front (h + h) (wordsPerNode * sizeOf (s .args .starts .now)) (s .args .scratch .now) (omega arith),
         ),
       ),
     )
@@ -110,7 +110,7 @@ returns c =
     let at = on .before .before .before .before in
     let s = start (at .before .before .before .before) in
     let h : ℕ = half (s .args .starts .now) in
-    let m : ℕ = 8 * sizeOf (s .args .starts .now) in
+    let m : ℕ = wordsPerNode * sizeOf (s .args .starts .now) in
     let Y : List ℕ = on .ends-from .last .1 .1 .1 .0 in (
       on .ends-from .ensures .0 ∙ ap foundOf (same-ends (s .args .starts .now) (s .args .neighbours .now) (s .pre .0) (node s) (at .first-of-part .ensures .0)),
       c .before .before .clear2 .ensures
