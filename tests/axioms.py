@@ -16,16 +16,16 @@ from staticlib import TOP, build_library
 # The C functions that a program rests on; they are stated in the toolchain's libc.
 STATED = ('read', 'write')
 # Programs that have less.
-LESS = {'graph_test': ('write',)}
+LESS = {'test_graph': ('write',)}
 # The library that the others are linked into for C, and the one that the programs of the gate share, which reads and writes.
-STATIC, SHARED = 'capi', 'vectors'
+STATIC, SHARED = 'capi', 'test_vectors'
 TARGET = 'x86_64-unknown-linux-gnu'
 
 
 def crates():
     """{crate: what it may see}"""
     with open(os.path.join(TOP, 'crates.txt'), encoding='utf-8') as lines:
-        return {name: below.split() for name, _, below in (line.partition(':') for line in lines if line.strip())}
+        return {name: below.split() for name, _, below in (line.partition(':') for line in lines if line.strip() and not line.startswith('#'))}
 
 
 def graph_of(name, below):

@@ -22,7 +22,7 @@ from program import text_for
 
 MESHES = ('bracket', 'two_parts')
 
-# `renumber` is run on every so many-th of the files that reading_test is run on.
+# `renumber` is run on every so many-th of the files that test_reading is run on.
 STEP = 3
 
 # example: its compiler, and the words behind it; {out} is the folder for what is made

@@ -343,7 +343,7 @@ def main():
         return c.report()
     with tempfile.TemporaryDirectory() as folder:
         listings(c, folder)
-        # every file that reading_test is run on, and random ones
+        # every file that test_reading is run on, and random ones
         generated(c, [file for _, file in all_files()] + random_files(asked.seed, 1500))
         pieces(c)
         explained(c, folder)

@@ -1,6 +1,6 @@
-"""Cases for the program `calls_test`: a call, what it is given and how much it is lent, and what it must answer and leave.
+"""Cases for the program `test_calls`: a call, what it is given and how much it is lent, and what it must answer and leave.
 
-To add a call: a function in crates/calls_test/src/calls.rt, an arm in `run` there in main.rt, a row in CALLS, and its cases in at_node, numbered
+To add a call: a function in crates/test_calls/src/calls.rt, an arm in `run` there in main.rt, a row in CALLS, and its cases in at_node, numbered
 or whole.
 """
 

@@ -1,10 +1,10 @@
 #!/usr/bin/env python3
-"""Cases for the program `calls_test`, and what each call must answer and leave.
+"""Cases for the program `test_calls`, and what each call must answer and leave.
 
-  entry_points.py                     write crates/calls_test/stdin and crates/calls_test/stdout: the selection that the gate runs
+  entry_points.py                     write crates/test_calls/stdin and crates/test_calls/stdout: the selection that the gate runs
   entry_points.py --check             say whether the two stand as this script makes them
   entry_points.py --show K            print case K (line K of stdout) and its line
-  entry_points.py --run N --seed S    run target/bin/calls_test on all graphs of up to 5 nodes at every node and under every numbering, N random
+  entry_points.py --run N --seed S    run target/bin/test_calls on all graphs of up to 5 nodes at every node and under every numbering, N random
                                       graphs of up to 40 nodes at every node, N of up to 60 nodes, N graphs with several passes or
                                       pieces, N / 10 of up to 1,000 nodes, graphs of full size, N illegal adjacencies and N meshes,
                                       and compare
@@ -22,8 +22,8 @@ sys.path[:0] = [os.path.join(TOP, 'tests', part) for part in ('reference', 'defi
 import cases
 from vectors import Draw, differences, keep, options, tally
 
-CRATE = os.path.join(TOP, 'crates', 'calls_test')
-PROGRAM = os.path.join(TOP, 'target', 'bin', 'calls_test')
+CRATE = os.path.join(TOP, 'crates', 'test_calls')
+PROGRAM = os.path.join(TOP, 'target', 'bin', 'test_calls')
 
 
 def selection():

@@ -1,10 +1,10 @@
 #!/usr/bin/env python3
-"""Files for the program `reading_test`, valid and damaged, and what the reading of each must answer and leave.
+"""Files for the program `test_reading`, valid and damaged, and what the reading of each must answer and leave.
 
-  files.py            write crates/reading_test/stdin and crates/reading_test/stdout
+  files.py            write crates/test_reading/stdin and crates/test_reading/stdout
   files.py --check    say whether the two stand as this script makes them
   files.py --show K   print file K (line K of stdout), its kind and its line
-  files.py --run N --seed S    run target/bin/reading_test on N random files and N damaged ones, and compare
+  files.py --run N --seed S    run target/bin/test_reading on N random files and N damaged ones, and compare
 
 The input has for each file its length, four bytes low byte first, and its bytes. A line has 'accepted' and the entry count or 'refused' and the
 number, then for each of the four lent lists (words, starts, neighbours, scratch) its words up to the last that isn't as it was lent. All
@@ -22,8 +22,8 @@ from listing import element_refusal, header_refusal, nodes_of_file, words_after_
 from mesh import NODE_COUNT
 from vectors import Draw, answer_text, changed, differences, keep, number, of_words, options, pattern, shown, tally
 
-CRATE = os.path.join(TOP, 'crates', 'reading_test')
-PROGRAM = os.path.join(TOP, 'target', 'bin', 'reading_test')
+CRATE = os.path.join(TOP, 'crates', 'test_reading')
+PROGRAM = os.path.join(TOP, 'target', 'bin', 'test_reading')
 
 # How many words the program lends: some more than any file needs.
 LENT = (35000, 4100, 32780, 4100)

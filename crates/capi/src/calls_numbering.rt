@@ -27,7 +27,7 @@ pub extern "C" fn wagonepoch_measures(
         return or_five(lists_refusal(starts, neighbours));
     }
     put_measures(
-        measures::measures(starts, neighbours, numbering, scratch),
+        numbering_measures::measures(starts, neighbours, numbering, scratch),
         figures,
     )
 }
@@ -49,7 +49,7 @@ pub extern "C" fn wagonepoch_part_report(
         return or_five(lists_refusal(starts, neighbours));
     }
     put_report(
-        report::part_report(starts, neighbours, node, scratch),
+        numbering_report::part_report(starts, neighbours, node, scratch),
         figures,
     )
 }

@@ -5,10 +5,10 @@ ghost use Prim.Native.Nat.{_≤_};
 ghost use lib.ListN.{length};
 ghost use Rattle.basis.specs.Moments.{was, left};
 ghost use Rattle.levels.specs.Answers.{rootedMeaning, endsMeaning, combinedMeaning};
-ghost use Rattle.measures.specs.Answer.{meaning as measuresMeaning};
+ghost use Rattle.numbering_measures.specs.Answer.{meaning as measuresMeaning};
 ghost use Rattle.mesh.specs.Answer.{meaning as meshMeaning};
 ghost use Rattle.numbering.specs.Answer.{meaning as runMeaning};
-ghost use Rattle.report.specs.Answers.{directionMeaning, answerMeaning};
+ghost use Rattle.numbering_report.specs.Answers.{directionMeaning, answerMeaning};
 ghost use Rattle.store.specs.Answer.{meaning as eliminationMeaning};
 ghost use Rattle.capi_figures.specs.Figures.{number, written, rootedList, endsList, combinedList, measuresList, directionNumber, reportList, runList, eliminationList, meshList};
 use crate::list::count;
@@ -17,11 +17,11 @@ use crate::list::word;
 use levels::answer::CombinedAnswer;
 use levels::answer::EndsAnswer;
 use levels::answer::RootedAnswer;
-use measures::MeasuresAnswer;
 use mesh::Entries;
 use numbering::answer::RunAnswer;
-use report::answer::Direction;
-use report::answer::ReportAnswer;
+use numbering_measures::MeasuresAnswer;
+use numbering_report::answer::Direction;
+use numbering_report::answer::ReportAnswer;
 use store::Elimination;
 
 // Rooted levels: depth, width, count reached.

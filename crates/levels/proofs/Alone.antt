@@ -22,12 +22,12 @@ use Rattle.laws.proofs.Lent.{zeroed-behind, zeroed-at}
 use Rattle.laws.proofs.Levels.{part-node, part-self, part-same}
 use Rattle.laws.proofs.Parts.{part-most}
 use Rattle.laws.proofs.Refused.{not-refused}
-use Rattle.search.proofs.Stores.{take-sets}
-use Rattle.combining.specs.Areas.{wordsOf}
-use Rattle.piecing.specs.Given.{firstOf, endsOf, merged}
-use Rattle.piecing.specs.Starts.{membersOf}
-use Rattle.piecing.proofs.Clearing.{zeroed-length}
-use Rattle.piecing.proofs.Finish.{merged-alone}
+use Rattle.levels_search.proofs.Stores.{take-sets}
+use Rattle.levels_laws.specs.Areas.{wordsOf}
+use Rattle.levels_laws.specs.Given.{firstOf, endsOf, merged}
+use Rattle.levels_laws.specs.Starts.{membersOf}
+use Rattle.levels_laws.proofs.Clearing.{zeroed-length}
+use Rattle.levels_laws.proofs.Finish.{merged-alone}
 use Rattle.levels.specs.Part.{PartGiven, partLevelsOf}
 use Rattle.levels.specs.declared.shape.PartLevels.{PartLevels}
 use Rattle.levels.proofs.Scratch.{zero-front, behind-front, behind-sets, zeroed-again}

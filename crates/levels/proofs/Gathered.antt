@@ -17,10 +17,10 @@ use Rattle.laws.proofs.Legal.{node-in, ofNode-at}
 use Rattle.laws.proofs.Levels.{levelList-at}
 use Rattle.laws.proofs.Parts.{part-most}
 use Rattle.laws.proofs.Refused.{passed, starts-of}
-use Rattle.search.specs.Answer.{Searched}
-use Rattle.search.specs.Queue.{Queued}
-use Rattle.search.proofs.Stores.{take-sets}
-use Rattle.ends.proofs.Areas.{front-lent, front-back}
+use Rattle.levels_search.specs.Answer.{Searched}
+use Rattle.levels_search.specs.Queue.{Queued}
+use Rattle.levels_search.proofs.Stores.{take-sets}
+use Rattle.levels_ends.proofs.Areas.{front-lent, front-back}
 use Rattle.levels.specs.Part.{placed}
 
 -- ---- a search in the first 2n words, and its nodes collected

@@ -24,16 +24,16 @@ use Rattle.laws.proofs.Lent.{zeroed-is}
 use Rattle.laws.proofs.Levels.{part-node, part-same}
 use Rattle.laws.proofs.Parts.{part-inside}
 use Rattle.laws.proofs.Refused.{passed, starts-of, not-refused}
-use Rattle.search.specs.Queue.{Queued}
-use Rattle.sorting.specs.Nodes.{Nodes}
-use Rattle.ends.specs.Answer.{foundOf, Ended}
-use Rattle.ends.specs.Passes.{half}
-use Rattle.ends.specs.declared.shape.Found.{Found}
-use Rattle.ends.proofs.Areas.{front-lent, front-back, slice-shift}
-use Rattle.combining.specs.Areas.{wordsOf}
-use Rattle.piecing.specs.Given.{Given, firstOf, endsOf, merged}
-use Rattle.piecing.specs.Starts.{membersOf}
-use Rattle.piecing.proofs.Storing.{member-in}
+use Rattle.levels_search.specs.Queue.{Queued}
+use Rattle.levels_sort.specs.Nodes.{Nodes}
+use Rattle.levels_ends.specs.Answer.{foundOf, Ended}
+use Rattle.levels_ends.specs.Passes.{half}
+use Rattle.levels_ends.specs.declared.shape.Found.{Found}
+use Rattle.levels_ends.proofs.Areas.{front-lent, front-back, slice-shift}
+use Rattle.levels_laws.specs.Areas.{wordsOf}
+use Rattle.levels_laws.specs.Given.{Given, firstOf, endsOf, merged}
+use Rattle.levels_laws.specs.Starts.{membersOf}
+use Rattle.levels_laws.proofs.Storing.{member-in}
 use Rattle.levels.specs.Part.{PartGiven, partLevelsOf}
 use Rattle.levels.specs.declared.shape.PartLevels.{PartLevels}
 use Rattle.levels.proofs.Firsts.{first-range, first-own, same-ends}

@@ -24,7 +24,7 @@ use Rattle.laws.proofs.Figures.{length-levelList}
 use Rattle.laws.proofs.Lent.{answer-refused, filled-refused, answer-accepted, filled-accepted, scratch-refused, scratch-accepted}
 use Rattle.graph.specs.Facts.{LegalLists, RefusedLists}
 use Rattle.graph.proofs.Answers.{refused-first, legal-next}
-use Rattle.ends.proofs.Areas.{front-back}
+use Rattle.levels_ends.proofs.Areas.{front-back}
 use Rattle.levels.specs.Part.{partLevelsOf}
 use Rattle.levels.specs.declared.shape.PartLevels.{PartLevels}
 

@@ -8,7 +8,7 @@ use lib.Seq.{sets, length-sets, ext-getD, getD-drop, take-append-le, drop-append
 use Rattle.basis.proofs.Next.{sets-behind}
 use Rattle.spec.specs.Lent.{zeroed}
 use Rattle.laws.proofs.Lent.{zeroed-is}
-use Rattle.search.proofs.Stores.{take-replicate}
+use Rattle.levels_search.proofs.Stores.{take-replicate}
 
 -- the front of words that were set to 0
 pub zero-front : (k m : ℕ) (W : List ℕ) → k ≤ m → take k (zeroed m W) ≡ replicate k 0

@@ -9,8 +9,8 @@ use Rattle.spec.specs.Combined.{combined, widthOf}
 use Rattle.spec.specs.Ends.{Ends}
 use Rattle.spec.specs.Graph.{Graph, ofNode}
 use Rattle.spec.specs.Levels.{part}
-use Rattle.piecing.specs.Given.{firstOf}
-use Rattle.piecing.specs.Starts.{membersOf}
+use Rattle.levels_laws.specs.Given.{firstOf}
+use Rattle.levels_laws.specs.Starts.{membersOf}
 use Rattle.levels.specs.declared.shape.PartLevels.{PartLevels}
 
 -- the nodes that have a level in the first n of the words W, rising

@@ -9,16 +9,16 @@ ghost use lib.Seq.{sets, slice};
 ghost use Rattle.basis.specs.Moments.{was, left};
 ghost use Rattle.spec.specs.Graph.{graphOf, sizeOf, graphRefusal, outside};
 ghost use Rattle.spec.specs.Levels.{part};
-ghost use Rattle.combining.specs.Areas.{wordsOf};
-ghost use Rattle.piecing.specs.Given.{firstOf, endsOf, merged};
+ghost use Rattle.levels_laws.specs.Areas.{wordsOf};
+ghost use Rattle.levels_laws.specs.Given.{firstOf, endsOf, merged};
 ghost use Rattle.levels.specs.Part.{placed, PartGiven, partLevelsOf};
 use crate::shape::PartLevels;
-use combine::legal::combine;
-use ends::legal::ends_from;
-use ends::legal::first_in_e;
-use search::legal::search;
-use search::legal::wipe;
-use words::wide;
+use graph_words::wide;
+use levels_combine::legal::combine;
+use levels_ends::legal::ends_from;
+use levels_ends::legal::first_in_e;
+use levels_search::legal::search;
+use levels_search::legal::wipe;
 
 // "scratch 8n words"
 pub const WORDS_PER_NODE: usize = 8;

@@ -36,7 +36,7 @@ pub fn rooted_levels(
             if no_node(n, root) {
                 return RootedAnswer::Refused(6);
             }
-            let f = scan::legal::scan(starts, neighbours, root, &mut levels[0..n]);
+            let f = levels_scan::legal::scan(starts, neighbours, root, &mut levels[0..n]);
             RootedAnswer::Levels {
                 depth: f.depth,
                 width: f.width,

@@ -7,16 +7,16 @@ ghost use Rattle.spec.specs.Combined.{combined};
 ghost use Rattle.spec.specs.Ends.{ends};
 ghost use Rattle.spec.specs.Graph.{graphOf, sizeOf, graphRefusal};
 ghost use Rattle.spec.specs.Lent.{zeroed, wordsPerNode};
-ghost use Rattle.ends.specs.Answer.{foundOf};
+ghost use Rattle.levels_ends.specs.Answer.{foundOf};
 ghost use Rattle.levels.specs.Part.{partLevelsOf};
 use crate::legal::WORDS_PER_NODE;
 use crate::legal::combine_part;
 use crate::legal::gather_part;
 use crate::shape::PartLevels;
-use ends::legal::ends_from;
-use ends::legal::first_of_part;
-use ends::shape::Found;
-use words::legal::clear;
+use graph_words::legal::clear;
+use levels_ends::legal::ends_from;
+use levels_ends::legal::first_of_part;
+use levels_ends::shape::Found;
 
 // The ends of the part of `node`, in scratch that is set to 0 before and after.
 pub(crate) fn find_ends(starts: &[u16], neighbours: &[u16], node: u16, scratch: &mut [u16]) -> Found

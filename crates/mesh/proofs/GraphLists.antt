@@ -20,9 +20,9 @@ use Rattle.spec.specs.Graph.{Graph, nodes, adjoins, degree, rowOf, graphOf, max
 use Rattle.spec.specs.Mesh.{entryCount, startList, neighbourList}
 use Rattle.laws.specs.Legal.{Node, LegalGraph}
 use Rattle.laws.proofs.Legal.{of-row}
-use Rattle.rows.specs.Rows.{entriesTo}
+use Rattle.mesh_rows.specs.Rows.{entriesTo}
 use Rattle.basis.proofs.Next.{sum-next, join-length}
-use Rattle.rows.proofs.Laying.{to-none, to-upto}
+use Rattle.mesh_rows.proofs.Laying.{to-none, to-upto}
 
 module _ (g : Graph) where
   -- ---- the two lists

@@ -21,7 +21,7 @@ use Rattle.laws.specs.Legal.{LegalGraph}
 use Rattle.laws.proofs.ByTest.{by-split, by-make, by-legal}
 use Rattle.laws.proofs.Lent.{filled-front}
 use Rattle.laws.proofs.Refused.{or-else-zero, refuse-zero}
-use Rattle.rows.proofs.Laying.{mesh-size}
+use Rattle.mesh_rows.proofs.Laying.{mesh-size}
 use Rattle.mesh.proofs.GraphLists.{starts-length, neighbours-length, graph-back, not-refused}
 
 -- ---- which nodes adjoin

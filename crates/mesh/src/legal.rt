@@ -26,9 +26,9 @@ pub fn adjacency(
     ensures { λ _. ⌜ left scratch ≡ zeroed n (was scratch) ⌝ }
 {
     let lists = &mut scratch[..n];
-    if rows::legal::over(lists, elements, starts, neighbours) {
+    if mesh_rows::legal::over(lists, elements, starts, neighbours) {
         return Entries::Refused(11);
     }
-    let entries = rows::legal::fill(lists, elements, starts, neighbours);
+    let entries = mesh_rows::legal::fill(lists, elements, starts, neighbours);
     Entries::Accepted(entries as u32)
 }

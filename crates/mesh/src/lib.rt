@@ -37,7 +37,7 @@ pub fn mesh_lists(
     if scratch.len() < n {
         return Entries::Refused(5);
     }
-    let refusal = elements::elements_refusal(n, elements);
+    let refusal = mesh_elements::elements_refusal(n, elements);
     if refusal != 0 {
         return Entries::Refused(refusal);
     }

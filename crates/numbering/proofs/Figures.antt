@@ -8,7 +8,7 @@ use lib.ListN.{length, take, drop, replicate, length-append, length-drop, length
 use lib.Seq.{slice, length-take-le, drop-at}
 use Rattle.basis.specs.Lists.{joinAll}
 use Rattle.basis.proofs.Walk.{part-slice}
-use Rattle.search.proofs.Stores.{drop-replicate}
+use Rattle.levels_search.proofs.Stores.{drop-replicate}
 use Rattle.spec.specs.CallsNumbering.{MeasureFigures, measureFigures}
 use Rattle.spec.specs.Graph.{graphOf, sizeOf, graphRefusal}
 use Rattle.spec.specs.Lent.{zeroed, wordsPerNode}
@@ -19,9 +19,9 @@ use Rattle.laws.proofs.Lent.{zeroed-behind}
 use Rattle.laws.proofs.Whole.{run-numbering, run-measured-bandwidth, run-measured-profile, run-measured-front}
 use Rattle.graph.specs.Facts.{LegalLists}
 use Rattle.levels.proofs.Scratch.{zero-front, behind-front, zeroed-again}
-use Rattle.piecing.proofs.Clearing.{zeroed-length}
-use Rattle.measures.specs.Answer.{three}
-use Rattle.measures.specs.declared.answer.Measures.{Measures}
+use Rattle.levels_laws.proofs.Clearing.{zeroed-length}
+use Rattle.numbering_measures.specs.Answer.{three}
+use Rattle.numbering_measures.specs.declared.answer.Measures.{Measures}
 use Rattle.numbering.specs.Ran.{Summed}
 use Rattle.numbering.proofs.Ran.{graph, starts, areas, areas-size, areas-front}
 

@@ -28,9 +28,9 @@ use Rattle.laws.proofs.Named.{part-levels}
 use Rattle.laws.proofs.Parts.{leaders-in}
 use Rattle.laws.proofs.RunLevels.{depth-of}
 use Rattle.laws.proofs.Whole.{orders, part-perm, whole-once}
-use Rattle.parts.specs.Walked.{Walked, leaderAt}
-use Rattle.parts.proofs.Walk.{next-node}
-use Rattle.renumbering.specs.Part.{numberFrom, renewed}
+use Rattle.numbering_parts.specs.Walked.{Walked, leaderAt}
+use Rattle.numbering_parts.proofs.Walk.{next-node}
+use Rattle.numbering_part.specs.Part.{numberFrom, renewed}
 use Rattle.numbering.specs.Ran.{foundTo}
 
 -- ---- lists

@@ -24,18 +24,18 @@ use Rattle.laws.proofs.Parts.{leaders-in, leaders-rise, parts-apart}
 use Rattle.laws.proofs.Numberings.{number-of, numbers-length, order-memb}
 use Rattle.laws.proofs.Refused.{passed, starts-of, not-refused}
 use Rattle.laws.proofs.Whole.{whole-perm}
-use Rattle.combining.specs.Areas.{wordsOf}
-use Rattle.piecing.specs.Given.{firstOf}
-use Rattle.piecing.specs.Starts.{membersOf}
+use Rattle.levels_laws.specs.Areas.{wordsOf}
+use Rattle.levels_laws.specs.Given.{firstOf}
+use Rattle.levels_laws.specs.Starts.{membersOf}
 use Rattle.levels.specs.Part.{PartGiven}
 use Rattle.levels.proofs.OnePart.{members-lent}
-use Rattle.parts.specs.Found.{Sized}
-use Rattle.parts.specs.Walked.{Walked, leaderAt}
-use Rattle.parts.proofs.Leads.{parts-length}
-use Rattle.parts.proofs.Walk.{walk-begin, walk-end, walk-next, next-leads, next-node, next-some, next-fits, scratch-first, scratch-part}
-use Rattle.renumbering.specs.Part.{numberFrom, renewed, partFiguresOf}
-use Rattle.renumbering.specs.declared.shape.PartFigures.{PartFigures}
-use Rattle.renumbering.proofs.Single.{figures-one, numbers-one, levels-one}
+use Rattle.numbering_parts.specs.Found.{Sized}
+use Rattle.numbering_parts.specs.Walked.{Walked, leaderAt}
+use Rattle.numbering_parts.proofs.Leads.{parts-length}
+use Rattle.numbering_parts.proofs.Walk.{walk-begin, walk-end, walk-next, next-leads, next-node, next-some, next-fits, scratch-first, scratch-part}
+use Rattle.numbering_part.specs.Part.{numberFrom, renewed, partFiguresOf}
+use Rattle.numbering_part.specs.declared.shape.PartFigures.{PartFigures}
+use Rattle.numbering_part.proofs.Single.{figures-one, numbers-one, levels-one}
 use Rattle.numbering.specs.Ran.{foundTo, added, Ran, Summed}
 use Rattle.numbering.specs.declared.legal.Tally.{Tally}
 use Rattle.numbering.proofs.Found.{parts-most, sum-next, greatest-next, depth-few, passes-few, numbers-next, levels-next, found-all, found-count}

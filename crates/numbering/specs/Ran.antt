@@ -10,8 +10,8 @@ use Rattle.spec.specs.Graph.{Graph, graphOf, sizeOf, graphRefusal, ofNode}
 use Rattle.spec.specs.Levels.{part, leaders, parts}
 use Rattle.spec.specs.Numbering.{PartResult, Figures, partResult, wholeOrder, wholeLevels}
 use Rattle.laws.specs.Legal.{Node}
-use Rattle.parts.specs.Walked.{Walked}
-use Rattle.renumbering.specs.declared.shape.PartFigures.{PartFigures}
+use Rattle.numbering_parts.specs.Walked.{Walked}
+use Rattle.numbering_part.specs.declared.shape.PartFigures.{PartFigures}
 use Rattle.numbering.specs.declared.legal.Tally.{Tally}
 
 -- what is found of the first j parts

@@ -10,14 +10,14 @@ ghost use Rattle.spec.specs.Numbering.{run};
 ghost use Rattle.numbering.specs.Answer.{eight};
 ghost use Rattle.numbering.specs.Ran.{added, Ran, Summed};
 use crate::answer::RunFigures;
+use graph_words::legal::clear;
+use graph_words::wide;
 use levels::legal::WORDS_PER_NODE;
-use measures::legal::figures;
-use parts::legal::members;
-use renumbering::legal::number_lone;
-use renumbering::legal::number_part;
-use renumbering::shape::PartFigures;
-use words::legal::clear;
-use words::wide;
+use numbering_measures::legal::figures;
+use numbering_part::legal::number_lone;
+use numbering_part::legal::number_part;
+use numbering_part::shape::PartFigures;
+use numbering_parts::legal::members;
 
 // What is summed up over the parts that have their numbers.
 struct Tally {

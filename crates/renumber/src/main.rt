@@ -21,7 +21,7 @@ fn text(
     ensures { λ r. ⌜ Counts r (left output) ⌝ }
     ensures { λ r. ⌜ take r (left output) ≡ programOutput (was file) ⌝ }
 {
-    let bytes = listing::legal::list_file(
+    let bytes = file_listing::legal::list_file(
         file,
         words,
         starts,

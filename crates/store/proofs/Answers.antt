@@ -21,8 +21,8 @@ use Rattle.laws.proofs.Numberings.{numbering-length}
 use Rattle.laws.proofs.Refused.{or-else-first, graph-refusal-most}
 use Rattle.graph.specs.Facts.{LegalLists, RefusedLists}
 use Rattle.graph.proofs.Answers.{refused-first, legal-next}
-use Rattle.envelope.proofs.Lent.{length-orderOf}
-use Rattle.eliminate.specs.Walk.{newGraph}
+use Rattle.graph_envelope.proofs.Lent.{length-orderOf}
+use Rattle.store_eliminate.specs.Walk.{newGraph}
 
 -- ---- what a refusal by c leaves
 

@@ -13,9 +13,9 @@ use Rattle.spec.specs.Store.{marks, markCount, newCount, markBytes, markAt}
 use Rattle.laws.proofs.ByTest.{renumbered-legal}
 use Rattle.laws.proofs.Marks.{marks-length, bytes-length, bytes-mark, profile-fits, mark-new}
 use Rattle.laws.proofs.Renumber.{renumbered-size}
-use Rattle.marks.specs.Marks.{ones}
-use Rattle.eliminate.specs.Walk.{Given, newGraph}
-use Rattle.eliminate.proofs.Walk.{profile-small}
+use Rattle.store_marks.specs.Marks.{ones}
+use Rattle.store_eliminate.specs.Walk.{Given, newGraph}
+use Rattle.store_eliminate.proofs.Walk.{profile-small}
 use Rattle.store.proofs.Degrees.{edges-listed}
 
 -- ---- a list added up by index, past its end too

@@ -9,7 +9,7 @@ ghost use Rattle.spec.specs.Lent.{outcome, filled, zeroed, short};
 ghost use Rattle.spec.specs.Measures.{orderOf};
 ghost use Rattle.spec.specs.Refusal.{refuse};
 ghost use Rattle.spec.specs.Store.{markByteCount, markBytes};
-ghost use Rattle.eliminate.specs.Walk.{Given, newGraph};
+ghost use Rattle.store_eliminate.specs.Walk.{Given, newGraph};
 ghost use Rattle.store.specs.Answer.{meaning, figuresOf};
 use crate::answer::Counts;
 use crate::answer::Elimination;
@@ -19,7 +19,7 @@ fn byte_count(starts: &[u16], neighbours: &[u16], numbering: &[u16]) -> usize
     requires { ⌜ Given (now starts) (now neighbours) (now numbering) ⌝ }
     ensures { λ r. ⌜ r ≡ markByteCount (newGraph (was starts) (was neighbours) (was numbering)) ⌝ }
 {
-    let profile = envelope::legal::profile(starts, neighbours, numbering);
+    let profile = graph_envelope::legal::profile(starts, neighbours, numbering);
     ((profile + 7) / 8) as usize
 }
 
@@ -38,7 +38,7 @@ fn mark(
         × (left scratch ≡ replicate (sizeOf (was starts)) 0)
         × (left bytes ≡ markBytes (newGraph (was starts) (was neighbours) (was numbering))) ⌝ }
 {
-    let marked = eliminate::legal::mark(starts, neighbours, numbering, scratch, bytes);
+    let marked = store_eliminate::legal::mark(starts, neighbours, numbering, scratch, bytes);
     let edges = (neighbours.len() / 2) as u32;
     Counts {
         marked: marked,
@@ -65,7 +65,7 @@ pub fn eliminate(
 {
     let m = byte_count(starts, neighbours, numbering);
     if bytes.len() < m {
-        words::legal::clear(scratch, n);
+        graph_words::legal::clear(scratch, n);
         return Elimination::Refused(8);
     }
     Elimination::Accepted(mark(

@@ -39,7 +39,7 @@ pub fn eliminate(
     if scratch.len() < n {
         return Elimination::Refused(5);
     }
-    if envelope::legal::numbered(numbering, n, scratch) {
+    if graph_envelope::legal::numbered(numbering, n, scratch) {
         legal::eliminate(starts, neighbours, numbering, scratch, bytes, n)
     } else {
         Elimination::Refused(7)

@@ -13,7 +13,7 @@ use Rattle.spec.specs.Lent.{accepted}
 use Rattle.spec.specs.Levels.{levels}
 use Rattle.graph.specs.Facts.{LegalLists}
 use Rattle.graph.proofs.Answers.{legal-lists, refused-lists}
-use Rattle.ends.proofs.Areas.{front-back}
+use Rattle.levels_ends.proofs.Areas.{front-back}
 use Rattle.levels.proofs.Refusals.{rooted-lists, rooted-short, rooted-outside, rooted-answer, rooted-levels, node-inside}
 use Rattle.levels.proofs.rooted_levels.Statement.{statement}
 use Rattle.levels.proofs.rooted_levels.Tie as tie

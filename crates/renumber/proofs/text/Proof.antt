@@ -3,7 +3,7 @@ use native.Mathlib.Omega.{arith}
 use denote.Ref.{now}
 use borrow.Author.Needs.{needs}
 use Rattle.io.proofs.Counting.{counts}
-use Rattle.listing.proofs.Output.{printed}
+use Rattle.file_listing.proofs.Output.{printed}
 use Rattle.renumber.proofs.text.Statement.{statement}
 use Rattle.renumber.proofs.text.Tie as tie
 

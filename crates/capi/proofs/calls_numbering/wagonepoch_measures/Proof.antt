@@ -1,4 +1,4 @@
--- `capi::calls_numbering::wagonepoch_measures` meets its contract: the call is `measures::measures`. Assumes nothing.
+-- `capi::calls_numbering::wagonepoch_measures` meets its contract: the call is `numbering_measures::measures`. Assumes nothing.
 use mathlib.Core.Path.{ap, _∙_}
 use mathlib.Core.List.{List}
 use Prim.Native.Nat.{ℕ}

@@ -1,4 +1,4 @@
--- `capi::calls_numbering::wagonepoch_part_report` meets its contract: the call is `report::part_report`. Assumes nothing.
+-- `capi::calls_numbering::wagonepoch_part_report` meets its contract: the call is `numbering_report::part_report`. Assumes nothing.
 use mathlib.Core.Path.{ap, _∙_}
 use mathlib.Core.List.{List}
 use Prim.Native.Nat.{ℕ}

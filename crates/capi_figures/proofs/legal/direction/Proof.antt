@@ -1,7 +1,7 @@
 -- `capi_figures::legal::direction` meets its contract: 0 or 1, by its name. Assumes nothing.
 use mathlib.Core.Path.{sym, ap}
 use borrow.Author.Needs.{needs}
-use Rattle.report.specs.Answers.{directionMeaning}
+use Rattle.numbering_report.specs.Answers.{directionMeaning}
 use Rattle.capi_figures.specs.Figures.{directionNumber}
 use Rattle.capi_figures.proofs.legal.direction.Statement.{statement}
 use Rattle.capi_figures.proofs.legal.direction.Tie as tie

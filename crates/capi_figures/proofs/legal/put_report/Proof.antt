@@ -2,7 +2,7 @@
 use mathlib.Core.Path.{ap}
 use denote.Ref.{now}
 use borrow.Author.Needs.{needs}
-use Rattle.report.specs.Answers.{answerMeaning}
+use Rattle.numbering_report.specs.Answers.{answerMeaning}
 use Rattle.capi_figures.specs.Figures.{reportList}
 use Rattle.capi_figures.proofs.Told.{told-refused, told-accepted, next, end}
 use Rattle.capi_figures.proofs.legal.put_report.Statement.{statement}

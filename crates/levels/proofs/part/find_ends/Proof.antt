@@ -10,9 +10,9 @@ use Rattle.spec.specs.Graph.{graphOf, sizeOf}
 use Rattle.spec.specs.Lent.{zeroed, wordsPerNode}
 use Rattle.laws.specs.Legal.{Node}
 use Rattle.laws.proofs.Lent.{zeroed-behind}
-use Rattle.ends.specs.Answer.{foundOf}
-use Rattle.ends.specs.Passes.{half}
-use Rattle.ends.proofs.Areas.{front-lent, front-back}
+use Rattle.levels_ends.specs.Answer.{foundOf}
+use Rattle.levels_ends.specs.Passes.{half}
+use Rattle.levels_ends.proofs.Areas.{front-lent, front-back}
 use Rattle.levels.proofs.Firsts.{first-range, first-own, same-ends}
 use Rattle.levels.proofs.Scratch.{zero-front, behind-front, zeroed-again}
 use Rattle.levels.proofs.part.find_ends.Statement.{statement}

@@ -10,7 +10,7 @@ use lib.Seq.{length-take-le}
 use Rattle.basis.specs.Lists.{overwrite}
 use Rattle.spec.specs.Mesh.{elementsRefusal, entryCount, startList, neighbourList, refuses11}
 use Rattle.spec.specs.CallsMesh.{graphOfElements}
-use Rattle.rows.specs.Rows.{Room}
+use Rattle.mesh_rows.specs.Rows.{Room}
 use Rattle.mesh.proofs.Answers.{few-entries, outcome-over, outcome-within, filled-over, filled-within, front-zero}
 use Rattle.mesh.proofs.legal.adjacency.Statement.{statement}
 use Rattle.mesh.proofs.legal.adjacency.Tie as tie

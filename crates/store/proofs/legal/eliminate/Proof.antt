@@ -6,7 +6,7 @@ use denote.Ref.{now}
 use lib.Seq.{length-take-le}
 use Rattle.spec.specs.CallsStore.{eliminationFigures}
 use Rattle.spec.specs.Graph.{sizeOf}
-use Rattle.eliminate.specs.Walk.{newGraph}
+use Rattle.store_eliminate.specs.Walk.{newGraph}
 use Rattle.store.specs.Answer.{figuresOf}
 use Rattle.store.proofs.Lent.{short-bytes, long-bytes, front-zeroed}
 use Rattle.store.proofs.legal.eliminate.Statement.{statement}

@@ -1,4 +1,0 @@
-pub mod Tally
-pub mod Counting
-pub mod Areas
-pub mod Loops

@@ -1,3 +1,0 @@
-pub mod Tally
-pub mod Model
-pub mod Areas

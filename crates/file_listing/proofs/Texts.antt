@@ -1,0 +1,43 @@
+-- The text of a run over two lists that are not refused: it is what `write_listing` writes, and has room. Assumes nothing.
+use mathlib.Core.Path.{_≡_, sym, ap, _∙_}
+use mathlib.Core.List.{List}
+use Prim.Native.Nat.{ℕ, _≤_}
+use native.Mathlib.Omega.{arith}
+use lib.ListN.{length, take}
+use lib.Seq.{length-take-le}
+use Rattle.spec.specs.Graph.{graphOf, sizeOf, graphRefusal}
+use Rattle.spec.specs.Numbering.{Figures, run}
+use Rattle.spec.specs.File.{listing}
+use Rattle.laws.specs.Legal.{LegalGraph, Starts}
+use Rattle.laws.proofs.Refused.{passed, starts-of, not-refused}
+use Rattle.laws.proofs.Numberings.{numbering-length}
+use Rattle.laws.proofs.RunLevels.{levels-length}
+use Rattle.laws.proofs.Whole.{run-numbering}
+use Rattle.file_writing.specs.Listed.{listed, outputRoom}
+use Rattle.file_writing.proofs.Fits.{run-listing, listing-fits}
+
+module _ (S N : List ℕ) (legal : graphRefusal S N ≡ 0) where
+  pub starts : Starts S N
+  starts = starts-of (passed S N legal)
+
+  graph : LegalGraph (graphOf S N)
+  graph = not-refused S N legal
+
+  numbers-length : length (run (graphOf S N) .numbers) ≡ sizeOf S
+  numbers-length = numbering-length (sizeOf S) (run (graphOf S N) .numbers) (run-numbering graph)
+
+  -- the part of a list that is lent for the nodes
+  pub front : (l : List ℕ) → 4096 ≤ length l → length (take (sizeOf S) l) ≡ sizeOf S
+  front l h = length-take-le (sizeOf S) l (omega (arith, starts .few))
+
+  module _ {F : Figures} {X L : List ℕ} (f : F ≡ run (graphOf S N) .figures) (x : X ≡ run (graphOf S N) .numbers) (l : L ≡ run (graphOf S N) .levels) where
+    pub sizes : (length X ≡ length L) × (length X ≤ 4096)
+    sizes =
+        let a : length X ≡ sizeOf S = ap length x ∙ numbers-length in
+        (a ∙ sym (ap length l ∙ levels-length graph), omega (arith, a, starts .few))
+
+    pub text-is : listed F X L ≡ listing (graphOf S N) (run (graphOf S N))
+    text-is = rw (f, x, l) (sym (run-listing graph (starts .few)))
+
+    pub text-fits : length (listed F X L) ≤ outputRoom (sizeOf S)
+    text-fits = omega (arith, ap length text-is, listing-fits graph (starts .few))

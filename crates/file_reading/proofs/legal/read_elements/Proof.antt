@@ -1,0 +1,126 @@
+-- `file_reading::legal::read_elements` meets its contract. Assumes nothing.
+use Prim.Native.Nat.{ℕ, _≤_}
+use mathlib.Core.Path.{_≡_, refl, sym, ap, ap₂, _∙_}
+use native.Mathlib.Omega.{arith}
+use denote.Ref.{now}
+use borrow.Author.Needs.{needs}
+use lib.ListN.{length, take, drop}
+use lib.Seq.{length-take-le, take-at}
+use Rattle.spec.specs.Lent.{accepted, outcome}
+use Rattle.spec.specs.File.{fileNodes, fileElements, body, countedRefusal, wordsTaken}
+use Rattle.file_reading.specs.Answer.{tested}
+use Rattle.file_reading.proofs.Bytes.{elements-is, body-length}
+use Rattle.file_reading.proofs.Files.{header-good, by-element, taken-small, by-left, by-none}
+use Rattle.file_reading.proofs.legal.read_elements.Statement.{statement}
+use Rattle.file_reading.proofs.legal.read_elements.Tie as tie
+
+-- the header is whole
+whole : (s : tie.Start) → 9 ≤ length (now (s .args .file))
+whole s = header-good (now (s .args .file)) (s .pre .0) .0
+
+nodes-requires : tie.Need-nodes-requires
+nodes-requires c κs = c .before .before .pre .0
+
+word-at-requires : tie.Need-word-at-requires
+word-at-requires c κs = omega (arith, whole (c .before .before .before))
+
+decode-requires : tie.Need-decode-requires
+decode-requires c κs = let s = c .before .before .before .before .before .before in (whole s, s .pre .1)
+
+-- as many words as the body are in the list
+room : (c : tie.After-decode) → c .decode .result ≤ length (c .decode .last .1 .0)
+room c =
+    let s = c .before .before .before .before .before .before .before in
+    omega (arith, c .decode .ensures .0, c .decode .kept .1 .0, s .pre .1)
+
+slice-reshare-prefix-test-elements : tie.Need-slice-reshare-prefix-test-elements
+slice-reshare-prefix-test-elements c = room (c .before .before)
+
+slice-aggregate-test-elements : tie.Need-slice-aggregate-test-elements
+slice-aggregate-test-elements c = sym (length-take-le _ _ (room (c .before .before .before)))
+
+-- what the test of the elements answers, of the file
+told : (c : tie.After-test-elements)
+    → let W = now (c .before .before .before .before .before .before .before .before .before .before .before .args .file) in
+    tested (c .test-elements .result) ≡ outcome (countedRefusal (fileElements W) (fileNodes W) (body W)) (wordsTaken (fileElements W) (body W))
+told c =
+    let d = c .before .before .before .before in
+    let s = d .before .before .before .before .before .before .before in
+    let W = now (s .args .file) in
+    let n = d .before .before .before .before .nodes .ensures in
+    let k = d .before .before .wide .ensures ∙ d .before .before .before .word-at .ensures ∙ sym (elements-is W (whole s)) in
+    let l = ap₂ take (d .decode .ensures .0) (d .decode .ensures .1) ∙ take-at (body W) (drop (length (body W)) (now (s .args .list))) (length (body W)) refl in
+    c .test-elements .ensures
+    ∙ ap₂ outcome (ap₂ (λ (x y : ℕ). countedRefusal x y (take (d .decode .result) (d .decode .last .1 .0))) k n ∙ ap (countedRefusal (fileElements W) (fileNodes W)) l)
+    (ap₂ wordsTaken k l)
+
+enum-known-answer : tie.Need-enum-known-answer
+enum-known-answer c = search needs
+
+enum-known-answer-2 : tie.Need-enum-known-answer-2
+enum-known-answer-2 c = search needs
+
+-- what the elements take
+took : (c : tie.After-known-told2)
+    → let W = now (c .before .before .before .before .before .before .before .before .before .before .before .before .before .before .args .file) in
+    accepted (c .before .answer2 .given .0 .0) ≡ outcome (countedRefusal (fileElements W) (fileNodes W) (body W)) (wordsTaken (fileElements W) (body W))
+took c = sym (ap tested (c .before .answer2 .given .1)) ∙ told (c .before .before .before)
+
+small : (c : tie.After-known-told2)
+    → c .before .answer2 .given .0 .0 ≤ length (body (now (c .before .before .before .before .before .before .before .before .before .before .before .before .before .before .args .file)))
+small c =
+    let W = now (c .before .before .before .before .before .before .before .before .before .before .before .before .before .before .args .file) in
+    taken-small W (c .before .answer2 .given .0 .0) (took c)
+
+mul-if1 : tie.Need-mul-if1
+mul-if1 c =
+    let W = now (c .before .before .before .before .before .before .before .before .before .before .before .before .before .before .args .file) in
+    omega (arith, small c, body-length W)
+
+add-if1 : tie.Need-add-if1
+add-if1 c =
+    let W = now (c .before .before .before .before .before .before .before .before .before .before .before .before .before .before .args .file) in
+    omega (arith, small c, body-length W)
+
+returns : tie.Need-returns
+returns c =
+    let t = c .before .before .before in
+    let d = t .before .before .before .before in
+    let W = now (d .before .before .before .before .before .before .before .args .file) in
+    (by-element W (c .before .answer .given .0 .0) (sym (ap tested (c .before .answer .given .1)) ∙ told t), d .decode .ensures .1)
+
+returns-2 : tie.Need-returns-2
+returns-2 c =
+    let m = c .before in
+    let d = m .before .before .before .before .before .before .before in
+    let W = now (d .before .before .before .before .before .before .before .args .file) in
+    (by-left W (m .before .answer2 .given .0 .0) (took m) (c .if1 .taken), d .decode .ensures .1)
+
+returns-3 : tie.Need-returns-3
+returns-3 c =
+    let m = c .before in
+    let d = m .before .before .before .before .before .before .before in
+    let W = now (d .before .before .before .before .before .before .before .args .file) in
+    (ap accepted (d .decode .ensures .0) ∙ by-none W (m .before .answer2 .given .0 .0) (took m) (c .if1 .left), d .decode .ensures .1)
+
+pub read-elements-spec : {M : Type 1} → statement M
+read-elements-spec =
+    tie.close
+    (tie.spec
+    nodes-requires
+    word-at-requires
+    (λ c κs. search needs)
+    decode-requires
+    slice-reshare-prefix-test-elements
+    slice-aggregate-test-elements
+    (λ c κs. search needs)
+    enum-known-answer
+    enum-known-answer-2
+    mul-if1
+    add-if1
+    (λ c. search needs)
+    returns
+    (λ c. search needs)
+    returns-2
+    (λ c. search needs)
+    returns-3)

@@ -1,0 +1,154 @@
+-- The listing of a run is `listed` of its figures, numbers and levels, and 99 bytes and 15 for each row hold it. Assumes nothing.
+use mathlib.Core.Path.{_≡_, refl, sym, ap, ap₂, _∙_}
+use mathlib.Core.List.{List, [], _∷_, _++_, map, append-assoc, append-nil}
+use Prim.Native.String.{String}
+use Prim.Native.Nat.{ℕ, zero, suc, _+_, _*_, _≤_, _<_}
+use native.Mathlib.Numerals.{add-one}
+use native.Mathlib.Omega.{arith}
+use lib.ListN.{length, getD, length-append}
+use Rattle.basis.specs.Lists.{joinAll, upFrom}
+use Rattle.basis.proofs.Lists.{join-append}
+use Rattle.spec.specs.Text.{ascii, decimal, newline}
+use Rattle.spec.specs.Graph.{Graph, nodes, ofNode}
+use Rattle.spec.specs.Numbering.{Figures, Run, run}
+use Rattle.spec.specs.File.{item, figuresLine, nodeLine, listing}
+use Rattle.laws.specs.Legal.{Node, LegalGraph}
+use Rattle.laws.proofs.Numberings.{numbering-length}
+use Rattle.laws.proofs.Whole.{run-numbering}
+use Rattle.file_writing.specs.Listed.{firstItems, lastItems, rowItems, rows, listed, outputRoom}
+use Rattle.file_writing.proofs.Bounds.{nodes-is, parts-most, levels-most, passes-most, width-most, bandwidth-most, front-most, profile-few, number-most, level-most}
+use Rattle.file_writing.proofs.Decimals.{four-digits, seven-digits}
+use Rattle.file_writing.proofs.Rows.{rows-suc}
+
+-- ---- the same text
+
+node-line : (r : Run) (z : ℕ) → nodeLine r z ≡ joinAll (rowItems z (ofNode (r .numbers) z) (ofNode (r .levels) z))
+unfolding nodeLine newline
+node-line r z =
+    let d = decimal z in
+    let a = item " " (ofNode (r .numbers) z) in
+    let b = item " " (ofNode (r .levels) z) in
+    append-assoc (d ++ a) b (10 ∷ []) ∙ append-assoc d a (b ++ (10 ∷ []))
+
+node-lines : (r : Run) (zs : List ℕ) → joinAll (map (nodeLine r) zs) ≡ joinAll (map (λ z. joinAll (rowItems z (ofNode (r .numbers) z) (ofNode (r .levels) z))) zs)
+node-lines r [] = refl
+node-lines r (z ∷ zs) = ap₂ _++_ (node-line r z) (node-lines r zs)
+
+first-line : (f : Figures) → figuresLine f ≡ joinAll (firstItems f) ++ joinAll (lastItems f)
+unfolding figuresLine
+first-line f = join-append (firstItems f) (lastItems f)
+
+-- the first line and the rows
+listing-split : (g : Graph) (r : Run) → listing g r ≡ figuresLine (r .figures) ++ rows (r .numbers) (r .levels) (g .size)
+unfolding listing rows nodes
+listing-split g r = ap (λ (l : List ℕ). figuresLine (r .figures) ++ l) (node-lines r (upFrom 1 (g .size)))
+
+-- what `write_listing` writes is the listing
+pub listing-is : (g : Graph) (r : Run) → length (r .numbers) ≡ g .size → listing g r ≡ listed (r .figures) (r .numbers) (r .levels)
+unfolding listed
+listing-is g r e =
+    let a = joinAll (firstItems (r .figures)) in
+    let b = joinAll (lastItems (r .figures)) in
+    let t = rows (r .numbers) (r .levels) (length (r .numbers)) in
+    listing-split g r
+    ∙ ap₂ _++_ (first-line (r .figures)) (ap (rows (r .numbers) (r .levels)) (sym e))
+    ∙ append-assoc a b t
+    ∙ ap (λ (l : List ℕ). a ++ (b ++ l)) (sym (append-nil t))
+
+-- ---- its length
+
+-- at most k bytes
+record Within (s : List ℕ) (k : ℕ) : Type 0 where
+  within : length s ≤ k
+
+joined : {s t : List ℕ} {a b : ℕ} → Within s a → Within t b → Within (s ++ t) (a + b)
+joined {s} {t} p q = record { within = omega (arith, length-append s t) }
+
+item-within : (label : String) (x k : ℕ) → length (decimal x) ≤ k → Within (item label x) (length (ascii label) + k)
+unfolding item
+item-within label x k h = record { within = omega (arith, length-append (ascii label) (decimal x)) }
+
+line-end : Within (newline ++ []) 1
+unfolding newline
+line-end = record { within = omega arith }
+
+number-within : (x : ℕ) → x < 10000 → Within (decimal x) 4
+number-within x h = record { within = four-digits x h }
+
+four : (label : String) (x : ℕ) → x < 10000 → Within (item label x) (length (ascii label) + 4)
+four label x h = item-within label x 4 (four-digits x h)
+
+-- figures of four digits, and a profile of seven
+record Short (f : Figures) : Type 0 where
+  nodes : f .nodes < 10000
+  parts : f .parts < 10000
+  bandwidth : f .bandwidth < 10000
+  profile : f .profile < 10000000
+  front : f .front < 10000
+  levels : f .levels < 10000
+  width : f .width < 10000
+  passes : f .passes < 10000
+
+line-within : (f : Figures) → Short f → Within (figuresLine f) 99
+unfolding figuresLine ascii
+line-within f h =
+    joined (four "nodes " (f .nodes) (h .nodes))
+    (joined (four " parts " (f .parts) (h .parts))
+    (joined (four " bandwidth " (f .bandwidth) (h .bandwidth))
+    (joined (item-within " profile " (f .profile) 7 (seven-digits (f .profile) (h .profile)))
+    (joined (four " front " (f .front) (h .front))
+    (joined (four " levels " (f .levels) (h .levels))
+    (joined (four " width " (f .width) (h .width))
+    (joined (four " passes " (f .passes) (h .passes)) line-end)))))))
+
+row-within : (z a b : ℕ) → z < 10000 → a < 10000 → b < 10000 → Within (joinAll (rowItems z a b)) 15
+unfolding ascii
+row-within z a b p q r = joined (number-within z p) (joined (four " " a q) (joined (four " " b r) line-end))
+
+rows-fit : (xs ls : List ℕ) (k : ℕ) → k < 10000 → ((i : ℕ) → i < k → (getD xs i 0 < 10000) × (getD ls i 0 < 10000)) → length (rows xs ls k) ≤ 15 * k
+unfolding rows
+rows-fit xs ls zero s h = omega arith
+rows-fit xs ls (suc k) s h =
+    let w = h k (omega arith) in
+    omega (
+      arith,
+      ap (λ (j : ℕ). length (rows xs ls j)) (add-one k),
+      ap length (rows-suc xs ls k),
+      length-append (rows xs ls k) (joinAll (rowItems (k + 1) (getD xs k 0) (getD ls k 0))),
+      row-within (k + 1) (getD xs k 0) (getD ls k 0) (omega arith) (w .0) (w .1) .within,
+      rows-fit xs ls k (omega arith) (λ i l. h i (omega arith)),
+    )
+
+module _ {g : Graph} (G : LegalGraph g) (few : g .size ≤ 4096) where
+  short : Short (run g .figures)
+  short = record {
+    nodes = omega (arith, nodes-is g);
+    parts = omega (arith, parts-most G);
+    bandwidth = omega (arith, bandwidth-most G);
+    profile = omega (arith, profile-few G few);
+    front = omega (arith, front-most G);
+    levels = omega (arith, levels-most G);
+    width = omega (arith, width-most G);
+    passes = omega (arith, passes-most G);
+  }
+
+  entries : (i : ℕ) → i < g .size → (getD (run g .numbers) i 0 < 10000) × (getD (run g .levels) i 0 < 10000)
+  unfolding ofNode
+  entries i l =
+      let N : Node g (suc i) = record { low = omega arith; high = omega arith } in
+      (omega (arith, number-most G (suc i) N), omega (arith, level-most G (suc i) N))
+
+  -- what `write_listing` writes of a run
+  pub run-listing : listing g (run g) ≡ listed (run g .figures) (run g .numbers) (run g .levels)
+  run-listing = listing-is g (run g) (numbering-length (g .size) (run g .numbers) (run-numbering G))
+
+  -- and has room
+  pub listing-fits : length (listing g (run g)) ≤ outputRoom (g .size)
+  listing-fits =
+      omega (
+        arith,
+        ap length (listing-split g (run g)),
+        length-append (figuresLine (run g .figures)) (rows (run g .numbers) (run g .levels) (g .size)),
+        line-within (run g .figures) short .within,
+        rows-fit (run g .numbers) (run g .levels) (g .size) (omega arith) entries,
+      )

@@ -1,0 +1,24 @@
+-- `levels_combine::legal::move_levels` meets its contract. Assumes nothing.
+use native.Mathlib.Omega.{arith}
+use borrow.Author.Needs.{needs}
+use Rattle.levels_laws.proofs.Moving.{erase-in, moved}
+use Rattle.levels_combine.proofs.legal.move_levels.Statement.{statement}
+use Rattle.levels_combine.proofs.legal.move_levels.Tie as tie
+
+copy-levels-requires : tie.Need-copy-levels-requires
+copy-levels-requires c κs = let s = c .before .before in (s .pre .room, s .pre .members)
+
+mul-erase : tie.Need-mul-erase
+mul-erase c = omega (arith, c .before .before .before .before .before .before .pre .members .few)
+
+erase-requires : tie.Need-erase-requires
+erase-requires c κs = (erase-in (c .before .before .before .before .before .before .pre) (c .before .before .before .copy-levels .ensures), omega arith)
+
+same-length : tie.Need-same-length
+same-length c = search needs
+
+returns : tie.Need-returns
+returns c = moved (c .before .before .before .before .before .before .before .before .before .pre) (c .before .before .before .before .before .before .copy-levels .ensures) (c .before .before .erase .ensures)
+
+pub move-levels-spec : {M : Type 1} → statement M
+move-levels-spec = tie.close (tie.spec copy-levels-requires mul-erase erase-requires same-length returns)

@@ -1,0 +1,30 @@
+-- `levels_combine::pieces::find` meets its contract. Assumes nothing.
+use native.Mathlib.Omega.{arith}
+use borrow.Author.Needs.{needs}
+use Rattle.spec.specs.Graph.{sizeOf}
+use Rattle.laws.proofs.Refused.{passed, starts-of}
+use Rattle.levels_laws.specs.Areas.{heldOf}
+use Rattle.levels_laws.proofs.Done.{sortable, found-with}
+use Rattle.levels_combine.proofs.pieces.find.Statement.{statement}
+use Rattle.levels_combine.proofs.pieces.find.Tie as tie
+
+sub-n : tie.Need-sub-n
+sub-n c = let s = c .before .before .before in omega (arith, starts-of (passed (s .args .starts .now) (s .args .neighbours .now) (s .pre .0)) .count)
+
+discover-requires : tie.Need-discover-requires
+discover-requires c κs = search needs
+
+sort-requires : tie.Need-sort-requires
+sort-requires c κs = let D = c .before .before .before .discover .ensures in (sortable D (c .before .before .before .before .before .before .before .before .pre .1 .free), D .end)
+
+same-length : tie.Need-same-length
+same-length c = search needs
+
+returns : tie.Need-returns
+returns c =
+    let s = c .before .before .before .before .before .before .before .before .before .before .before .args in
+    let a = c .before .before .sort in
+    found-with (c .before .before .before .before .before .before .discover .ensures) (a .ensures .0) (heldOf (sizeOf (s .starts .now)) (a .last .0)) (a .ensures .1)
+
+pub find-spec : {M : Type 1} → statement M
+find-spec = tie.close (tie.spec sub-n discover-requires sort-requires same-length returns)

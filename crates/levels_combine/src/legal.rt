@@ -1,0 +1,197 @@
+// The combined levels of one part, for callers that have found the adjacency legal, the ends of the part and the levels rooted at both.
+// The words of a part, n each: levels rooted at v, a queue, levels rooted at u, levels by old number, members of the parts, starts of the
+// pieces and from the end down the counts of the levels. These do not meet: the starts and their sort have a word for each loose node, and
+// each level has a settled one. The end search uses the first four areas, and the sixth, 0 until then, has the levels in the end.
+ghost use mathlib.Core.Path.{_≡_};
+ghost use mathlib.Core.List.{_++_};
+ghost use Prim.Native.Nat.{_+_, _-_, _*_, _≤_, _<_};
+ghost use lib.ListN.{length, drop, replicate};
+ghost use lib.Seq.{sets, slice};
+ghost use lib.Dec.{ltb};
+ghost use Rattle.basis.specs.Lists.{filterb};
+ghost use Rattle.basis.specs.Moments.{was, left};
+ghost use Rattle.spec.specs.Combined.{combined, widthOf};
+ghost use Rattle.spec.specs.Graph.{graphOf, sizeOf, graphRefusal};
+ghost use Rattle.spec.specs.Lent.{zeroed};
+ghost use Rattle.levels_laws.specs.Areas.{wordsOf, swapped, workOf, heldOf};
+ghost use Rattle.levels_laws.specs.Model.{numberAt};
+ghost use Rattle.levels_laws.specs.Starts.{startsOf, membersOf};
+ghost use Rattle.levels_laws.specs.Placed.{wordsAfter, levelsAfter, PlaceableAll};
+ghost use Rattle.levels_laws.specs.Given.{firstOf, endsOf, Given, merged, Entry, Levelled};
+ghost use Rattle.levels_laws.specs.Members.{Members, Turnable, Clearable, Movable, settledAt, stored, turnedAt, nought};
+use crate::pieces::find;
+use graph_words::wide;
+use levels_pieces::legal::size_at;
+use levels_place::legal::place;
+use levels_place::legal::settle;
+use levels_place::legal::widest;
+
+// Counts the second numbers of the members from the other end: k + 1 - b.
+fn turn(scratch: &mut [u16], n: usize, from: usize, to: usize, k: u16)
+    requires { ⌜ Turnable n from to k (now scratch) ⌝ }
+    ensures { λ _. ⌜ left scratch ≡ stored (2 * n) (turnedAt n k (was scratch)) (was scratch) (membersOf n from to (was scratch)) ⌝ }
+{
+    let mut i = from;
+    while i < to {
+        let at = 2 * n + wide(scratch[4 * n + i]) - 1;
+        scratch[at] = k + 1 - scratch[at];
+        i += 1;
+    }
+}
+
+// Puts the settled members into the queue. Returns how many there are.
+fn gather(scratch: &mut [u16], n: usize, from: usize, to: usize) -> usize
+    requires { ⌜ Members n from to (now scratch) ⌝ }
+    ensures { λ r. ⌜ r ≡ length (filterb (settledAt n (was scratch)) (membersOf n from to (was scratch))) ⌝ }
+    ensures { λ _. ⌜ left scratch ≡ sets (was scratch) n (filterb (settledAt n (was scratch)) (membersOf n from to (was scratch))) ⌝ }
+{
+    let mut t = 0;
+    let mut i = from;
+    while i < to {
+        let z = scratch[4 * n + i];
+        let at = wide(z);
+        if scratch[at - 1] == scratch[2 * n + at - 1] {
+            scratch[n + t] = z;
+            t += 1;
+        }
+        i += 1;
+    }
+    t
+}
+
+// Places the m pieces in the order of their starts, each against the counts as they then are.
+fn place_all(scratch: &mut [u16], n: usize, m: usize, narrow: bool)
+    requires { ⌜ (n ≤ 4096) × (m ≤ n) × (6 * n ≤ length (now scratch)) ⌝ }
+    requires { ⌜ PlaceableAll n (n - m) narrow (startsOf n m (workOf n (now scratch))) (workOf n (now scratch)) (heldOf n (now scratch)) ⌝ }
+    ensures { λ _. ⌜ workOf n (left scratch) ≡ wordsAfter n narrow (startsOf n m (workOf n (was scratch))) (workOf n (was scratch)) (heldOf n (was scratch)) ⌝ }
+    ensures { λ _. ⌜ heldOf n (left scratch) ≡ levelsAfter n narrow (startsOf n m (workOf n (was scratch))) (workOf n (was scratch)) (heldOf n (was scratch)) ⌝ }
+{
+    let mut i = 0;
+    while i < m {
+        let s = wide(scratch[5 * n + i]);
+        let t = s + size_at(scratch, n, s);
+        place(scratch, n, s, t, narrow);
+        i += 1;
+    }
+}
+
+// Sets the words of the members from base on to 0.
+fn erase(scratch: &mut [u16], n: usize, base: usize, from: usize, to: usize)
+    requires { ⌜ Members n from to (now scratch) ⌝ }
+    requires { ⌜ base + n ≤ 4 * n ⌝ }
+    ensures { λ _. ⌜ left scratch ≡ stored base nought (was scratch) (membersOf n from to (was scratch)) ⌝ }
+{
+    let mut i = from;
+    while i < to {
+        let at = base + wide(scratch[4 * n + i]) - 1;
+        scratch[at] = 0;
+        i += 1;
+    }
+}
+
+// Gives the members of a part their combined levels, and leaves their counts.
+fn level(
+    starts: &[u16],
+    neighbours: &[u16],
+    scratch: &mut [u16],
+    from: usize,
+    to: usize,
+    k: u16,
+    narrow: bool,
+)
+    requires { ⌜ graphRefusal (now starts) (now neighbours) ≡ 0 ⌝ }
+    requires { ⌜ Entry (graphOf (now starts) (now neighbours)) (firstOf (sizeOf (now starts)) from (workOf (sizeOf (now starts)) (now scratch))) (endsOf (graphOf (now starts) (now neighbours)) from (workOf (sizeOf (now starts)) (now scratch))) (sizeOf (now starts)) from to (workOf (sizeOf (now starts)) (now scratch)) (heldOf (sizeOf (now starts)) (now scratch)) ⌝ }
+    requires { ⌜ k ≡ endsOf (graphOf (now starts) (now neighbours)) from (workOf (sizeOf (now starts)) (now scratch)) .k ⌝ }
+    requires { ⌜ narrow ≡ ltb (endsOf (graphOf (now starts) (now neighbours)) from (workOf (sizeOf (now starts)) (now scratch)) .widthU) (endsOf (graphOf (now starts) (now neighbours)) from (workOf (sizeOf (now starts)) (now scratch)) .widthV) ⌝ }
+    ensures { λ _. ⌜ Levelled (graphOf (was starts) (was neighbours)) (firstOf (sizeOf (was starts)) from (workOf (sizeOf (was starts)) (was scratch))) (endsOf (graphOf (was starts) (was neighbours)) from (workOf (sizeOf (was starts)) (was scratch))) (sizeOf (was starts)) from to (workOf (sizeOf (was starts)) (was scratch)) (heldOf (sizeOf (was starts)) (was scratch)) (workOf (sizeOf (was starts)) (left scratch)) (heldOf (sizeOf (was starts)) (left scratch)) ⌝ }
+{
+    let n = starts.len() - 1;
+    turn(scratch, n, from, to, k);
+    let t = gather(scratch, n, from, to);
+    settle(scratch, n, 0, 0, t);
+    let m = find(starts, neighbours, scratch, from, to);
+    place_all(scratch, n, m, narrow);
+}
+
+// Sets count words from a on to 0.
+fn blank(scratch: &mut [u16], a: usize, count: usize)
+    requires { ⌜ a + count ≤ length (now scratch) ⌝ }
+    ensures { λ _. ⌜ left scratch ≡ sets (was scratch) a (replicate count 0) ⌝ }
+{
+    let mut i = 0;
+    while i < count {
+        scratch[a + i] = 0;
+        i += 1;
+    }
+}
+
+// Sets the words of a part to 0 but for its levels, in the time of the part.
+fn tidy(scratch: &mut [u16], n: usize, from: usize, to: usize, k: usize)
+    requires { ⌜ 6 * n ≤ length (now scratch) ⌝ }
+    requires { ⌜ Clearable n from to k (workOf n (now scratch)) ⌝ }
+    ensures { λ _. ⌜ workOf n (left scratch) ≡ zeroed (4 * n) (workOf n (was scratch)) ⌝ }
+    ensures { λ _. ⌜ heldOf n (left scratch) ≡ heldOf n (was scratch) ⌝ }
+{
+    erase(scratch, n, 0, from, to);
+    erase(scratch, n, 2 * n, from, to);
+    blank(scratch, n, to - from);
+    blank(scratch, 5 * n, to - from);
+    blank(scratch, 6 * n - k, k);
+}
+
+// Copies the words of the members from the fourth area to the sixth.
+fn copy_levels(scratch: &mut [u16], n: usize, from: usize, to: usize)
+    requires { ⌜ 6 * n ≤ length (now scratch) ⌝ }
+    requires { ⌜ Members n from to (now scratch) ⌝ }
+    ensures { λ _. ⌜ left scratch ≡ stored (5 * n) (numberAt (3 * n) (was scratch)) (was scratch) (membersOf n from to (was scratch)) ⌝ }
+{
+    let mut i = from;
+    while i < to {
+        let z = wide(scratch[4 * n + i]);
+        scratch[5 * n + z - 1] = scratch[3 * n + z - 1];
+        i += 1;
+    }
+}
+
+// Moves the levels of a part to the sixth area, which is 0.
+fn move_levels(scratch: &mut [u16], n: usize, from: usize, to: usize)
+    requires { ⌜ Movable n from to (now scratch) ⌝ }
+    ensures { λ _. ⌜ left scratch ≡ swapped n (was scratch) ⌝ }
+{
+    copy_levels(scratch, n, from, to);
+    erase(scratch, n, 3 * n, from, to);
+}
+
+// The combined levels of the part whose members stand from..to: in the sixth area, n words by old number, and the greatest level count. The
+// first four areas are 0 afterwards. Meanwhile the levels stand where the queue of the search from u was, which is cleared for them.
+pub fn combine(
+    starts: &[u16],
+    neighbours: &[u16],
+    scratch: &mut [u16],
+    from: usize,
+    to: usize,
+    k: u16,
+    width_v: u16,
+    width_u: u16,
+) -> u16
+    requires { ⌜ graphRefusal (now starts) (now neighbours) ≡ 0 ⌝ }
+    requires { ⌜ Given (graphOf (now starts) (now neighbours)) from to k «width_v» «width_u» (wordsOf (sizeOf (now starts)) (now scratch)) (slice (5 * sizeOf (now starts)) (6 * sizeOf (now starts)) (now scratch)) ⌝ }
+    ensures { λ r. ⌜ r ≡ widthOf k (combined (graphOf (was starts) (was neighbours)) (endsOf (graphOf (was starts) (was neighbours)) from (wordsOf (sizeOf (was starts)) (was scratch)))) ⌝ }
+    ensures { λ _. ⌜ left scratch ≡ zeroed (4 * sizeOf (was starts)) (wordsOf (sizeOf (was starts)) (was scratch)) ++ (merged (graphOf (was starts) (was neighbours)) (firstOf (sizeOf (was starts)) from (wordsOf (sizeOf (was starts)) (was scratch))) (endsOf (graphOf (was starts) (was neighbours)) from (wordsOf (sizeOf (was starts)) (was scratch))) (slice (5 * sizeOf (was starts)) (6 * sizeOf (was starts)) (was scratch)) ++ drop (6 * sizeOf (was starts)) (was scratch)) ⌝ }
+{
+    let n = starts.len() - 1;
+    blank(scratch, 3 * n, to - from);
+    level(
+        starts,
+        neighbours,
+        &mut scratch[..6 * n],
+        from,
+        to,
+        k,
+        width_u < width_v,
+    );
+    let w = widest(scratch, n, wide(k));
+    tidy(scratch, n, from, to, wide(k));
+    move_levels(scratch, n, from, to);
+    w as u16
+}

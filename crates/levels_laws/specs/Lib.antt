@@ -1,0 +1,9 @@
+pub mod Tally
+pub mod Model
+pub mod Areas
+pub mod Seek
+pub mod Starts
+pub mod Sizes
+pub mod Placed
+pub mod Members
+pub mod Given

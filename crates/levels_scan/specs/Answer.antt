@@ -1,0 +1,12 @@
+-- Rooted levels as the code returns them: the list by old number, and its figures. Assumes nothing.
+use mathlib.Core.List.{List}
+use Prim.Native.Nat.{ℕ}
+use Rattle.spec.specs.Graph.{Graph}
+use Rattle.spec.specs.Levels.{levels, levelList, depth, width, reached}
+use Rattle.levels_scan.specs.declared.shape.Figures.{Figures}
+
+abbrev pub listOf : Graph → ℕ → List ℕ
+listOf g root = levelList g (levels g root)
+
+abbrev pub figuresOf : Graph → ℕ → Figures
+figuresOf g root = record { depth = depth (levels g root); width = width (levels g root); reached = reached (levels g root) }

@@ -1,0 +1,35 @@
+-- `mesh_rows::legal::batch::list_some` meets its contract. Assumes nothing.
+use Prim.Native.Nat.{_+_, _/_, _≤_}
+use native.Mathlib.Nat.{div-le-self}
+use native.Mathlib.Omega.{arith}
+use denote.Ref.{now}
+use borrow.Author.Needs.{needs}
+use lib.ListN.{length}
+use Rattle.mesh_rows.proofs.legal.batch.list_some.Statement.{statement}
+use Rattle.mesh_rows.proofs.legal.batch.list_some.Tie as tie
+
+-- the mean is small
+mean : (c : tie.Else2) → length (now (c .before .before .before .before .args .elements)) / length (now (c .before .before .before .before .args .lists)) ≤ 65536
+mean c = omega (arith, div-le-self (length (now (c .before .before .before .before .args .elements))) (length (now (c .before .before .before .before .args .lists))))
+
+-- as many rows as there are words for
+most : (c : tie.After-smaller2) → (c .smaller2 .result + 2 ≤ length (now (c .before .before .before .before .before .before .before .args .lists))) × (c .before .before .before .before .before .before .before .args .base + c .smaller2 .result ≤ length (now (c .before .before .before .before .before .before .before .args .lists)))
+most c = (omega (arith, c .smaller2 .ensures), omega (arith, c .smaller2 .ensures, c .before .smaller .ensures, c .before .before .before .before .before .before .before .pre .0 .1))
+
+pub list-some-spec : {M : Type 1} → statement M
+list-some-spec =
+    tie.close
+    (tie.spec
+    (λ c. (omega (arith, c .before .before .before .pre .0 .1), λ h. absurd (omega arith)))
+    (λ c. (omega (arith, c .before .before .before .before .pre .0 .1), λ h. absurd (omega arith)))
+    (λ c. omega arith)
+    (λ c. omega (arith, mean c))
+    (λ c. omega (arith, mean c))
+    (λ c. omega arith)
+    (λ c κs. c .before .before .before .before .pre .0 .2)
+    (λ c. omega (arith, c .before .before .before .before .before .pre .0 .1))
+    (λ c κs. search needs)
+    (λ c κs. search needs)
+    (λ c κs. ((c .before .before .before .before .before .before .before .before .pre .0 .0, most (c .before) .0, omega arith), c .before .before .before .before .before .before .before .before .pre .1))
+    (λ c. c .before .before .list-rows .kept .0)
+    (λ c. (omega (arith, c .before .before .list-rows .ensures .0, most (c .before .before .before .before) .1), c .before .before .list-rows .ensures .1)))

@@ -1,0 +1,84 @@
+-- `numbering_measures::fronts::sweep` meets its contract: the words passed are summed, and are 0. Assumes nothing.
+use Prim.Native.Nat.{ℕ, _+_, _-_, _≤_, max}
+use mathlib.Core.Path.{_≡_, refl, sym, ap, ap₂, _∙_}
+use mathlib.Core.List.{List, _++_, map}
+use native.Mathlib.Omega.{arith}
+use borrow.Author.Needs.{needs}
+use borrow.Author.Fill.{fill-more}
+use denote.Ref.{now}
+use lib.ListN.{length, set, take, drop, replicate, length-set}
+use Rattle.basis.specs.Lists.{greatest, sum, upFrom}
+use Rattle.numbering_measures.proofs.Swept.{take-more, word-ahead, words-passed, sweep-more}
+use Rattle.numbering_measures.proofs.fronts.sweep.Statement.{statement}
+use Rattle.numbering_measures.proofs.fronts.sweep.Tie as tie
+
+abbrev Inv-loop : tie.InvT-loop
+Inv-loop counts₀ n live₀ most₀ i₀ counts live most i =
+    (i ≤ length counts₀)
+    × (length counts ≡ length counts₀)
+    × (counts ≡ replicate i 0 ++ drop i counts₀)
+    × (live ≡ sum (take i counts₀))
+    × (most ≡ greatest (map (λ i. sum (take i counts₀) - (i - 1)) (upFrom 1 i)))
+
+abbrev μ-loop : tie.MeasureT-loop
+μ-loop counts₀ n live₀ most₀ i₀ counts live most i = length counts₀ - i
+
+-- what is opened up to here
+up : (c : tie.After-wide Inv-loop μ-loop) → c .before .before .before .loop .live + c .wide .result ≡ sum (take (c .before .before .before .loop .i + 1) (now (c .before .before .before .before .before .args .counts)))
+up c =
+    let l = c .before .before .before in
+    let C = now (l .before .before .args .counts) in
+    ap₂ _+_ (l .loop .inv .3) (c .wide .ensures ∙ word-ahead C (l .loop .counts) (l .loop .i) (l .loop .inv .2))
+    ∙ sym (take-more C (l .loop .i) (omega arith))
+
+add-live : tie.Need-add-live Inv-loop μ-loop
+add-live c =
+    let l = c .before .before .before in
+    let s = l .before .before in
+    omega (arith, up c, s .pre .few, s .pre .most (l .loop .i + 1) (omega arith))
+
+sub-larger : tie.Need-sub-larger Inv-loop μ-loop
+sub-larger c =
+    let l = c .before .before .before in
+    omega (arith, up c, l .before .before .pre .enough (l .loop .i) (omega arith))
+
+loop-again : tie.Need-loop-again Inv-loop μ-loop
+loop-again c =
+    let l = c .before .before .before .before in
+    let C = now (l .before .before .args .counts) in (
+      omega arith,
+      length-set (l .loop .counts) _ _ ∙ l .loop .inv .1,
+      ap (λ (w : List ℕ). set w (l .loop .i) 0) (l .loop .inv .2) ∙ fill-more (l .loop .i) 0 C (omega arith),
+      up (c .before),
+      c .larger .ensures
+          ∙ ap₂ max (l .loop .inv .4) (ap (λ (k : ℕ). k - l .loop .i) (up (c .before)))
+          ∙ sym (sweep-more C (l .loop .i)),
+    )
+
+returns : tie.Need-returns Inv-loop μ-loop
+returns c =
+    let l = c .before in
+    let C = now (l .before .before .args .counts) in
+    let e : l .loop .i ≡ length C = omega arith in
+    (l .loop .inv .4 ∙ ap (λ (k : ℕ). greatest (map (λ i. sum (take i C) - (i - 1)) (upFrom 1 k))) e, words-passed C (l .loop .counts) (l .loop .i) e (l .loop .inv .2))
+
+pub sweep-spec : {M : Type 1} → statement M
+sweep-spec =
+    tie.close
+    (tie.spec
+    Inv-loop
+    μ-loop
+    (λ c. (omega arith, refl, refl, refl, refl))
+    (λ c. omega arith)
+    (λ c. omega arith)
+    (λ c κs. search needs)
+    add-live
+    sub-larger
+    (λ c κs. search needs)
+    (λ c. omega arith)
+    (λ c. omega arith)
+    (λ c. omega arith)
+    (λ c. omega arith)
+    loop-again
+    (λ c. omega arith)
+    returns)

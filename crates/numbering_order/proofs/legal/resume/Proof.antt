@@ -1,0 +1,30 @@
+-- `numbering_order::legal::resume` meets its contract. Assumes nothing.
+use Rattle.numbering_order.proofs.Walk.{walk-open, walk-far}
+use Rattle.numbering_order.proofs.Level.{push-walk, resume-done}
+use borrow.Author.Needs.{needs}
+use Rattle.numbering_order.proofs.legal.resume.Statement.{statement}
+use Rattle.numbering_order.proofs.legal.resume.Tie as tie
+
+push-requires : tie.Need-push-requires
+push-requires c κs = search needs
+
+add-spread : tie.Need-add-spread
+add-spread c = search needs
+
+spread-requires : tie.Need-spread-requires
+spread-requires c κs =
+    let P = c .before .before .before .before .before .before .before .before .pre in
+    let K = push-walk (P .0) (P .1 .0) (P .1 .1 .0) (P .1 .1 .1 .0) (c .before .before .before .before .before .before .before .before .args .z) (P .1 .1 .1 .1 .0) (P .1 .1 .1 .1 .1) (c .before .before .before .push .kept .0) (c .before .before .before .push .ensures) in
+    (P .0, (P .1 .0, (walk-open K, walk-far K)))
+
+same-length : tie.Need-same-length
+same-length c = search needs
+
+returns : tie.Need-returns
+returns c =
+    let P = c .before .before .before .before .before .before .before .before .before .before .before .pre in
+    let K = push-walk (P .0) (P .1 .0) (P .1 .1 .0) (P .1 .1 .1 .0) (c .before .before .before .before .before .before .before .before .before .before .before .args .z) (P .1 .1 .1 .1 .0) (P .1 .1 .1 .1 .1) (c .before .before .before .before .before .before .push .kept .0) (c .before .before .before .before .before .before .push .ensures) in
+    resume-done K (c .before .before .before .before .before .before .before .before .before .before .before .args .i) (c .before .before .spread .kept .1 .1 .0) (c .before .before .spread .ensures)
+
+pub resume-spec : {M : Type 1} → statement M
+resume-spec = tie.close (tie.spec push-requires add-spread spread-requires same-length returns)

@@ -1,0 +1,41 @@
+-- One part of the whole run: what it is given, and what it leaves in the caller's lists. Assumes nothing.
+use mathlib.Core.Path.{_≡_}
+use mathlib.Core.Bool.{true, cond}
+use mathlib.Core.List.{List, map}
+use Prim.Native.Nat.{ℕ, suc, _+_, _≤_}
+use lib.ListN.{length, take, drop}
+use Rattle.basis.specs.Lists.{memb, upFrom, position}
+use Rattle.basis.specs.Perm.{Once}
+use Rattle.spec.specs.Graph.{Graph, nodes, ofNode}
+use Rattle.spec.specs.Levels.{part}
+use Rattle.spec.specs.Numbering.{PartReport}
+use Rattle.numbering_part.specs.declared.shape.PartFigures.{PartFigures}
+
+-- the order of m nodes that stands behind the first n words
+abbrev pub orderAt : ℕ → ℕ → List ℕ → List ℕ
+orderAt n m W = take m (drop n W)
+
+-- the next free number of q, where a numbers are taken and q stands in the order o
+abbrev pub numberFrom : ℕ → List ℕ → ℕ → ℕ
+numberFrom a o q = a + suc (position q o)
+
+-- the numbers X, by old number, after the nodes of o got the numbers after a
+unfoldable pub numbered : ℕ → List ℕ → List ℕ → List ℕ
+numbered a o X = map (λ q. cond (memb q o) (numberFrom a o q) (ofNode X q)) (upFrom 1 (length X))
+
+-- the list L, by old number, after the nodes of z's part got the words that f gives
+unfoldable pub renewed : Graph → ℕ → (ℕ → ℕ) → List ℕ → List ℕ
+renewed g z f L = map (λ q. cond (memb q (part g z)) (f q) (ofNode L q)) (nodes g)
+
+-- what the run sums up of a part's report
+abbrev pub partFiguresOf : PartReport → PartFigures
+partFiguresOf r = record { k = r .k; width = r .width; passes = r .passes }
+
+-- the order's m nodes are nodes, each once, and there are as many free numbers after a
+pub record Numberable (n m a : ℕ) (W X : List ℕ) : Type 0 where
+  pub few : n ≤ 4096
+  pub words : n + m ≤ length W
+  pub room : length X ≡ n
+  pub free : a + m ≤ n
+  pub once : Once (orderAt n m W)
+  pub inside : (z : ℕ) → memb z (orderAt n m W) ≡ true → (1 ≤ z) × (z ≤ n)

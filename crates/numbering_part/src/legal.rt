@@ -1,0 +1,108 @@
+// One part of a legal graph, for a caller that has its members. The scratch has areas of n words: four to work in, the second of them for
+// the part's order, the members of the parts, and one for the part's levels by old number. Linear in the part's nodes and entries: nothing here is n.
+ghost use mathlib.Core.Path.{_≡_};
+ghost use Prim.Native.Nat.{_+_, _-_, _*_, _≤_, _<_};
+ghost use lib.ListN.{length, replicate, set};
+ghost use lib.Seq.{sets, slice};
+ghost use Rattle.basis.specs.Moments.{was, left};
+ghost use Rattle.spec.specs.Graph.{graphOf, sizeOf, graphRefusal, ofNode};
+ghost use Rattle.spec.specs.Numbering.{partResult};
+ghost use Rattle.levels_laws.specs.Areas.{wordsOf};
+ghost use Rattle.levels_laws.specs.Model.{numberAt, written};
+ghost use Rattle.levels_laws.specs.Given.{firstOf};
+ghost use Rattle.levels_laws.specs.Members.{Members, stored, nought};
+ghost use Rattle.levels_laws.specs.Starts.{membersOf};
+ghost use Rattle.levels.specs.Part.{PartGiven};
+ghost use Rattle.numbering_part.specs.Part.{orderAt, renewed, numbered, numberFrom, partFiguresOf, Numberable};
+use crate::shape::PartFigures;
+use graph_words::wide;
+use levels::legal::combine_part;
+use numbering_sequence::legal::sequence;
+
+// "take the next free numbers": those after a, in the part's order, whose words it clears.
+fn give_numbers(scratch: &mut [u16], numbers: &mut [u16], n: usize, m: usize, a: usize)
+    requires { ⌜ Numberable n m a (now scratch) (now numbers) ⌝ }
+    ensures { λ _. ⌜ left scratch ≡ sets (was scratch) n (replicate m 0) ⌝ }
+    ensures { λ _. ⌜ left numbers ≡ numbered a (orderAt n m (was scratch)) (was numbers) ⌝ }
+{
+    let mut i = 0;
+    while i < m {
+        let z = wide(scratch[n + i]);
+        scratch[n + i] = 0;
+        i += 1;
+        let number = a + i;
+        numbers[z - 1] = number as u16;
+    }
+}
+
+// Hands the members' levels over, and clears the area for levels.
+fn give_levels(scratch: &mut [u16], levels: &mut [u16], n: usize, from: usize, to: usize)
+    requires { ⌜ Members n from to (now scratch) ⌝ }
+    requires { ⌜ 6 * n ≤ length (now scratch) ⌝ }
+    requires { ⌜ length (now levels) ≡ n ⌝ }
+    ensures { λ _. ⌜ left scratch ≡ stored (5 * n) nought (was scratch) (membersOf n from to (was scratch)) ⌝ }
+    ensures { λ _. ⌜ left levels ≡ written (numberAt (5 * n) (was scratch)) (was levels) (membersOf n from to (was scratch)) ⌝ }
+{
+    let mut i = from;
+    while i < to {
+        let z = wide(scratch[4 * n + i]);
+        levels[z - 1] = scratch[5 * n + z - 1];
+        scratch[5 * n + z - 1] = 0;
+        i += 1;
+    }
+}
+
+// A part of one node, q: it gets the number after `from` and has one level, by the laws of every part (proofs, Single).
+pub fn number_lone(numbers: &mut [u16], levels: &mut [u16], q: usize, from: usize)
+    requires { ⌜ (1 ≤ q) × (q ≤ length (now numbers)) ⌝ }
+    requires { ⌜ length (now levels) ≡ length (now numbers) ⌝ }
+    requires { ⌜ (length (now numbers) ≤ 4096) × (from < 4096) ⌝ }
+    ensures { λ _. ⌜ left numbers ≡ set (was numbers) (q - 1) (from + 1) ⌝ }
+    ensures { λ _. ⌜ left levels ≡ set (was levels) (q - 1) 1 ⌝ }
+{
+    let number = from + 1;
+    numbers[q - 1] = number as u16;
+    levels[q - 1] = 1;
+}
+
+// The part whose members stand from..to: its nodes get the numbers after `from` in `numbers`, and their levels in `levels`, n words each by
+// old number. The scratch is as before.
+pub fn number_part(
+    starts: &[u16],
+    neighbours: &[u16],
+    scratch: &mut [u16],
+    numbers: &mut [u16],
+    levels: &mut [u16],
+    from: usize,
+    to: usize,
+) -> PartFigures
+    requires { ⌜ graphRefusal (now starts) (now neighbours) ≡ 0 ⌝ }
+    requires { ⌜ PartGiven (graphOf (now starts) (now neighbours)) from to (wordsOf (sizeOf (now starts)) (now scratch)) (slice (5 * sizeOf (now starts)) (6 * sizeOf (now starts)) (now scratch)) ⌝ }
+    requires { ⌜ (length (now numbers) ≡ sizeOf (now starts)) × (length (now levels) ≡ sizeOf (now starts)) ⌝ }
+    ensures { λ r. ⌜ r ≡ partFiguresOf (partResult (graphOf (was starts) (was neighbours)) (firstOf (sizeOf (was starts)) from (wordsOf (sizeOf (was starts)) (was scratch))) .report) ⌝ }
+    ensures { λ _. ⌜ left scratch ≡ was scratch ⌝ }
+    ensures { λ _. ⌜ left numbers ≡ renewed (graphOf (was starts) (was neighbours)) (firstOf (sizeOf (was starts)) from (wordsOf (sizeOf (was starts)) (was scratch))) (numberFrom from (partResult (graphOf (was starts) (was neighbours)) (firstOf (sizeOf (was starts)) from (wordsOf (sizeOf (was starts)) (was scratch))) .order)) (was numbers) ⌝ }
+    ensures { λ _. ⌜ left levels ≡ renewed (graphOf (was starts) (was neighbours)) (firstOf (sizeOf (was starts)) from (wordsOf (sizeOf (was starts)) (was scratch))) (ofNode (partResult (graphOf (was starts) (was neighbours)) (firstOf (sizeOf (was starts)) from (wordsOf (sizeOf (was starts)) (was scratch))) .levels)) (was levels) ⌝ }
+{
+    let n = starts.len() - 1;
+    let m = to - from;
+    let f = combine_part(starts, neighbours, scratch, from, to);
+    sequence(
+        starts,
+        neighbours,
+        scratch,
+        5 * n,
+        4 * n + from,
+        m,
+        f.k,
+        f.v,
+        f.u,
+    );
+    give_numbers(scratch, numbers, n, m, from);
+    give_levels(scratch, levels, n, from, to);
+    PartFigures {
+        k: f.k,
+        width: f.width,
+        passes: f.passes,
+    }
+}

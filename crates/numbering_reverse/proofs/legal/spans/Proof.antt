@@ -1,0 +1,91 @@
+-- `numbering_reverse::legal::spans` meets its contract: the spans of the places passed are summed, from the front and from the back. Assumes nothing.
+use Prim.Native.Nat.{ℕ, suc, _-_, _*_, _≤_}
+use mathlib.Core.Path.{_≡_, refl, ap, _∙_}
+use mathlib.Core.List.{List, reverse}
+use native.Mathlib.Omega.{arith}
+use denote.Ref.{now}
+use lib.ListN.{length, length-reverse}
+use Rattle.spec.specs.Graph.{Graph, graphOf}
+use Rattle.spec.specs.Measures.{inOrder}
+use Rattle.numbering_reverse.specs.Places.{segment}
+use Rattle.numbering_reverse.proofs.Placing.{segment-length}
+use Rattle.numbering_reverse.proofs.Spans.{spansTo, spansBack, spans-more, spans-back, spans-back-all, spans-all, span-most, part-small}
+use Rattle.numbering_reverse.proofs.legal.spans.Statement.{statement}
+use Rattle.numbering_reverse.proofs.legal.spans.Tie as tie
+
+abbrev Inv-loop : tie.InvT-loop
+Inv-loop starts neighbours work n m forward₀ backward₀ a₀ forward backward a =
+    (a ≤ m)
+    × (forward ≤ 4096 * a)
+    × (backward ≤ 4096 * a)
+    × (forward ≡ spansTo (inOrder (graphOf starts neighbours) (segment n m work)) a)
+    × (backward ≡ spansBack (inOrder (graphOf starts neighbours) (reverse (segment n m work))) m a)
+
+abbrev μ-loop : tie.MeasureT-loop
+μ-loop starts neighbours work n m forward₀ backward₀ a₀ forward backward a = m - a
+
+abbrev entry : tie.At-loop Inv-loop μ-loop → tie.Start Inv-loop μ-loop
+entry l = l .before .before .before .before
+
+abbrev order : tie.Start Inv-loop μ-loop → List ℕ
+order s = segment (s .args .n) (s .args .m) (now (s .args .work))
+
+abbrev graph : tie.Start Inv-loop μ-loop → Graph
+graph s = graphOf (now (s .args .starts)) (now (s .args .neighbours))
+
+long : (s : tie.Start Inv-loop μ-loop) → length (order s) ≡ s .args .m
+long s = segment-length (s .args .n) (s .args .m) (now (s .args .work)) (s .pre .0 .1)
+
+-- no more places than nodes
+small : (s : tie.Start Inv-loop μ-loop) → s .args .m ≤ 4096
+small s = omega (arith, part-small (s .pre .1 .0), long s, s .pre .1 .0 .starts .few)
+
+-- both spans are short
+short : (c : tie.After-span Inv-loop μ-loop) → (c .span .result .forward ≤ 4096) × (c .span .result .backward ≤ 4096)
+short c =
+    let l = c .before .before in
+    let s = entry l in (
+      omega (arith, c .span .ensures .0, span-most (inOrder (graph s) (order s)) (suc (l .loop .a)), small s),
+      omega (arith, c .span .ensures .1, span-most (inOrder (graph s) (reverse (order s))) (s .args .m - l .loop .a), small s),
+    )
+
+loop-again : tie.Need-loop-again Inv-loop μ-loop
+loop-again c =
+    let r = c .before .before in
+    let l = r .before .before in
+    let s = entry l in (
+      omega arith,
+      omega (arith, short r),
+      omega (arith, short r),
+      spans-more (inOrder (graph s) (order s)) (l .loop .a) (l .loop .inv .3) (r .span .ensures .0),
+      spans-back (inOrder (graph s) (reverse (order s))) (s .args .m) (l .loop .a) (omega arith) (l .loop .inv .4) (r .span .ensures .1),
+    )
+
+returns : tie.Need-returns Inv-loop μ-loop
+returns c =
+    let l = c .before in
+    let s = entry l in
+    let a : l .loop .a ≡ s .args .m = omega arith in
+    let e : l .loop .a ≡ length (order s) = omega (arith, long s) in
+    let b : s .args .m ≡ length (reverse (order s)) = omega (arith, long s, length-reverse (order s)) in (
+      l .loop .inv .3 ∙ ap (spansTo (inOrder (graph s) (order s))) e ∙ spans-all (graph s) (order s),
+      l .loop .inv .4
+          ∙ spans-back-all (inOrder (graph s) (reverse (order s))) (s .args .m) (l .loop .a) a
+          ∙ ap (spansTo (inOrder (graph s) (reverse (order s)))) b
+          ∙ spans-all (graph s) (reverse (order s)),
+    )
+
+pub spans-spec : {M : Type 1} → statement M
+spans-spec =
+    tie.close
+    (tie.spec
+    Inv-loop
+    μ-loop
+    (λ c. (omega arith, omega arith, omega arith, refl, refl))
+    (λ c κs. let s = entry (c .before) in ((s .pre .0 .0, s .pre .0 .1, c .loop-test .taken), s .pre .1))
+    (λ c. omega (arith, short (c .before), small (entry (c .before .before .before))))
+    (λ c. omega (arith, short (c .before .before), small (entry (c .before .before .before .before))))
+    (λ c. omega arith)
+    (λ c. omega arith)
+    loop-again
+    returns)

@@ -1,0 +1,63 @@
+-- `numbering_reverse::legal::turn` meets its contract: the profile of the order, of the order reversed, and the lesser stays. Assumes nothing.
+use Prim.Native.Nat.{ℕ, _+_}
+use mathlib.Core.Path.{_≡_}
+use mathlib.Core.List.{List}
+use borrow.Author.Needs.{needs}
+use denote.Ref.{now}
+use lib.ListN.{length, drop}
+use Rattle.spec.specs.Graph.{Graph, graphOf}
+use Rattle.numbering_reverse.specs.Places.{segment}
+use Rattle.numbering_reverse.proofs.Placing.{segment-length}
+use Rattle.numbering_reverse.proofs.Laid.{laid, laid-from, laid-turned, turns-yes, turns-no}
+use Rattle.numbering_reverse.proofs.legal.turn.Statement.{statement}
+use Rattle.numbering_reverse.proofs.legal.turn.Tie as tie
+
+-- the order, and what lies behind it
+abbrev order : tie.Start → List ℕ
+order s = segment (s .args .n) (s .args .m) (now (s .args .work))
+
+abbrev rest : tie.Start → List ℕ
+rest s = drop (s .args .n + s .args .m) (now (s .args .work))
+
+abbrev graph : tie.Start → Graph
+graph s = graphOf (now (s .args .starts)) (now (s .args .neighbours))
+
+long : (s : tie.Start) → length (order s) ≡ s .args .m
+long s = segment-length (s .args .n) (s .args .m) (now (s .args .work)) (s .pre .0 .1)
+
+-- the words after the profiles
+after : (c : tie.After-profiles) → c .profiles .last .1 .1 .0 ≡ laid (c .before .before .before .before .before .args .n) (order (c .before .before .before .before .before)) (rest (c .before .before .before .before .before))
+after c =
+    let s = c .before .before .before .before .before in
+    laid-from (s .args .n) (s .args .m) (now (s .args .work)) (c .profiles .last .1 .1 .0) (c .profiles .ensures .1 .1)
+
+returns : tie.Need-returns
+returns c =
+    let p = c .before .before .before .before .before .before .before .before in
+    let s = p .before .before .before .before .before in
+    let r = c .before .before .turn-round in (
+      turns-yes (graph s) (order s) (p .profiles .ensures .1 .0) (p .profiles .ensures .0) (c .before .before .before .before .if1 .taken),
+      laid-turned (s .args .n) (s .args .m) (order s) (rest s) (p .profiles .last .1 .1 .0) (long s) (after p) (r .last .0) (r .ensures),
+    )
+
+returns-2 : tie.Need-returns-2
+returns-2 c =
+    let p = c .before .before .before .before in
+    let s = p .before .before .before .before .before in
+    (turns-no (graph s) (order s) (p .profiles .ensures .1 .0) (p .profiles .ensures .0) (c .if1 .left), after p)
+
+pub turn-spec : {M : Type 1} → statement M
+turn-spec =
+    tie.close
+    (tie.spec
+    (λ c κs. search needs)
+    (λ c. search needs)
+    (λ c. search needs)
+    (λ c. search needs)
+    (λ c. search needs)
+    (λ c. search needs)
+    (λ c κs. search needs)
+    (λ c. search needs)
+    returns
+    (λ c. search needs)
+    returns-2)

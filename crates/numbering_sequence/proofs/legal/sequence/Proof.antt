@@ -1,0 +1,78 @@
+-- `numbering_sequence::legal::sequence` meets its contract: the names stay or change, and then the order is had. Assumes nothing.
+use native.Mathlib.Omega.{arith}
+use borrow.Author.Needs.{needs}
+use denote.Ref.{now}
+use Rattle.spec.specs.Graph.{graphOf}
+use Rattle.laws.proofs.Refused.{passed, starts-of}
+use Rattle.numbering_sequence.proofs.Sequenced.{Renamed, ends-inside, names-tested, sequence-mirrorable, names-kept, names-changed, renamed-named, sequenced}
+use Rattle.numbering_sequence.proofs.legal.sequence.Statement.{statement}
+use Rattle.numbering_sequence.proofs.legal.sequence.Tie as tie
+
+renames-requires : tie.Need-renames-requires
+renames-requires c κs =
+    let s = c .before .before .before in
+    let S = s .args .starts .now in
+    let N = s .args .neighbours .now in
+    ((N, starts-of (passed S N (s .pre .0))), ends-inside S N (s .pre .0) (s .pre .1))
+
+sub-n : tie.Need-sub-n
+sub-n c =
+    let s = c .before .before .before .before .before in
+    omega (arith, starts-of (passed (s .args .starts .now) (s .args .neighbours .now) (s .pre .0)) .count)
+
+mirror-requires : tie.Need-mirror-requires
+mirror-requires c κs =
+    let s = c .before .before .before .before .before .before in
+    sequence-mirrorable (s .args .starts .now) (s .args .neighbours .now) (s .pre .0) (s .pre .1)
+
+-- the names have changed
+changed : (c : tie.After-mirror)
+    → Renamed (graphOf (now (c .before .before .before .before .before .before .before .args .starts)) (now (c .before .before .before .before .before .before .before .args .neighbours))) (c .before .before .before .before .before .before .before .args .at) (c .before .before .before .before .before .before .before .args .from) (now (c .before .before .before .before .before .before .before .args .work)) (c .before .before .before .before .before .before .before .args .u) (c .before .before .before .before .before .before .before .args .v) (c .mirror .last .0)
+changed c =
+    let s = c .before .before .before .before .before .before .before in
+    let S = s .args .starts .now in
+    let N = s .args .neighbours .now in
+    names-changed S N (s .pre .0) (s .pre .1) (names-tested S N (s .pre .0) (s .pre .1) (c .before .before .before .renames .ensures) (c .before .before .if1 .taken)) (c .mirror .ensures)
+
+arrange-requires : tie.Need-arrange-requires
+arrange-requires c κs =
+    let s = c .before .before .before .before .before .before .before .before .before .before in
+    (s .pre .0, renamed-named (s .args .starts .now) (s .args .neighbours .now) (s .pre .0) (s .pre .1) (changed (c .before .before .before)))
+
+returns : tie.Need-returns
+returns c =
+    let s = c .before .before .before .before .before .before .before .before .before .before .before .before .before in
+    sequenced (s .args .starts .now) (s .args .neighbours .now) (s .pre .0) (s .pre .1) (changed (c .before .before .before .before .before .before)) (c .before .before .arrange .ensures)
+
+-- the names stay
+kept : (c : tie.Else1)
+    → Renamed (graphOf (now (c .before .before .before .before .before .args .starts)) (now (c .before .before .before .before .before .args .neighbours))) (c .before .before .before .before .before .args .at) (c .before .before .before .before .before .args .from) (now (c .before .before .before .before .before .args .work)) (c .before .before .before .before .before .args .v) (c .before .before .before .before .before .args .u) (now (c .before .before .before .before .before .args .work))
+kept c =
+    let s = c .before .before .before .before .before in
+    let S = s .args .starts .now in
+    let N = s .args .neighbours .now in
+    names-kept S N (s .pre .0) (s .pre .1) (names-tested S N (s .pre .0) (s .pre .1) (c .before .renames .ensures) (c .if1 .left))
+
+arrange-requires-2 : tie.Need-arrange-requires-2
+arrange-requires-2 c κs =
+    let s = c .before .before .before .before .before .before in
+    (s .pre .0, renamed-named (s .args .starts .now) (s .args .neighbours .now) (s .pre .0) (s .pre .1) (kept (c .before)))
+
+returns-2 : tie.Need-returns-2
+returns-2 c =
+    let s = c .before .before .before .before .before .before .before .before .before in
+    sequenced (s .args .starts .now) (s .args .neighbours .now) (s .pre .0) (s .pre .1) (kept (c .before .before .before .before)) (c .before .before .arrange2 .ensures)
+
+pub sequence-spec : {M : Type 1} → statement M
+sequence-spec =
+    tie.close
+    (tie.spec
+    renames-requires
+    sub-n
+    mirror-requires
+    arrange-requires
+    (λ c. search needs)
+    returns
+    arrange-requires-2
+    (λ c. search needs)
+    returns-2)
