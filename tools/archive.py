@@ -69,11 +69,17 @@ def sources():
     return total.hexdigest()
 
 
+def version():
+    """The file VERSION's line."""
+    path = os.path.join(TOP, 'VERSION')
+    return read_bytes(path).decode('utf-8').strip() if os.path.exists(path) else 'not known'
+
+
 def program_facts():
     commit = said('git', 'rev-parse', 'HEAD') or 'not known'
     if said('git', 'status', '--porcelain', '--', 'crates', 'crates.txt'):
         commit += ' with changes'
-    return [('commit', commit), ('sources', 'sha256 ' + sources()), ('toolchain', said('rt', 'version') or 'not known')]
+    return [('version', version()), ('commit', commit), ('sources', 'sha256 ' + sources()), ('toolchain', said('rt', 'version') or 'not known')]
 
 
 # Numbering.

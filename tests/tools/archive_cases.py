@@ -65,7 +65,7 @@ def made(c):
     c.equal('archive: the numbers', kept['nodes.txt'], b''.join(b'%d %d\n' % (p, 10 * p) for p in range(1, 10)))
     about = kept['ABOUT.txt'].decode('ascii')
     facts = dict(line.split(': ', 1) for line in about.split('\n\n')[1].split('\n'))
-    c.equal('archive: facts', sorted(facts), ['before', 'commit', 'elimination', 'figures', 'made', 'mesh', 'read', 'sources', 'store', 'toolchain'])
+    c.equal('archive: facts', sorted(facts), ['before', 'commit', 'elimination', 'figures', 'made', 'mesh', 'read', 'sources', 'store', 'toolchain', 'version'])
     c.equal('archive: figures', (facts['figures'], facts['store'], facts['mesh']),
             (kept['listing.txt'].decode('ascii').split('\n')[0], 'a.store, 3 bytes', 'a.bdf'))
     c.holds('archive: a day', re.fullmatch('20[0-9]{2}-[01][0-9]-[0-3][0-9]', facts['made']))
