@@ -23,4 +23,5 @@ pub fn smaller(x: usize, y: usize) -> usize
     if x < y { x } else { y }
 }
 
+pub mod areas;
 pub mod legal;
