@@ -1,2 +1,3 @@
-// The starts of the pieces of a part, put in order of size by a counting sort.
+// The pieces of a part (document 01, "Combined levels"): found by a search of its loose nodes, and their starts put in order of size.
 pub mod legal;
+mod order;

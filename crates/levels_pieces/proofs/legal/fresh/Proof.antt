@@ -1,4 +1,4 @@
--- `levels_combine::pieces::fresh` meets its contract. Assumes nothing.
+-- `levels_pieces::legal::fresh` meets its contract. Assumes nothing.
 use mathlib.Core.Path.{sym, ap, _∙_}
 use mathlib.Core.Bool.{Bool, not, _&&_}
 use Prim.Native.Nat.{_+_, _-_, _*_}
@@ -7,8 +7,8 @@ use lib.Dec.{eqb}
 use borrow.Author.Tests.{eq-eqb, ne-eqb}
 use borrow.Author.Needs.{needs}
 use Rattle.levels_laws.proofs.Slices.{fresh-is}
-use Rattle.levels_combine.proofs.pieces.fresh.Statement.{statement}
-use Rattle.levels_combine.proofs.pieces.fresh.Tie as tie
+use Rattle.levels_pieces.proofs.legal.fresh.Statement.{statement}
+use Rattle.levels_pieces.proofs.legal.fresh.Tie as tie
 
 sub-if1 : tie.Need-sub-if1
 sub-if1 c = search needs

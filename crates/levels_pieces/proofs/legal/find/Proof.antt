@@ -1,12 +1,12 @@
--- `levels_combine::pieces::find` meets its contract. Assumes nothing.
+-- `levels_pieces::legal::find` meets its contract. Assumes nothing.
 use native.Mathlib.Omega.{arith}
 use borrow.Author.Needs.{needs}
 use Rattle.spec.specs.Graph.{sizeOf}
 use Rattle.laws.proofs.Refused.{passed, starts-of}
 use Rattle.levels_laws.specs.Areas.{heldOf}
 use Rattle.levels_laws.proofs.Done.{sortable, found-with}
-use Rattle.levels_combine.proofs.pieces.find.Statement.{statement}
-use Rattle.levels_combine.proofs.pieces.find.Tie as tie
+use Rattle.levels_pieces.proofs.legal.find.Statement.{statement}
+use Rattle.levels_pieces.proofs.legal.find.Tie as tie
 
 sub-n : tie.Need-sub-n
 sub-n c = let s = c .before .before .before in omega (arith, starts-of (passed (s .args .starts .now) (s .args .neighbours .now) (s .pre .0)) .count)

@@ -1,4 +1,4 @@
--- `levels_combine::pieces::grow` meets its contract. Assumes nothing.
+-- `levels_pieces::legal::grow` meets its contract. Assumes nothing.
 use mathlib.Core.Path.{_≡_, refl, sym, ap, _∙_, subst}
 use mathlib.Core.List.{List}
 use Prim.Native.Nat.{ℕ, _+_, _-_, _*_, _≤_}
@@ -13,8 +13,8 @@ use Rattle.levels_laws.proofs.Areas.{view-room}
 use Rattle.levels_laws.specs.Seek.{Nodes}
 use Rattle.levels_laws.proofs.Growing.{Growable, Spreading, row-nodes, seed-fits, t-most, next-node, spread-step}
 use Rattle.levels_laws.proofs.Slices.{spread-begin-in, spread-same, spread-room, spread-read, spread-done-in}
-use Rattle.levels_combine.proofs.pieces.grow.Statement.{statement}
-use Rattle.levels_combine.proofs.pieces.grow.Tie as tie
+use Rattle.levels_pieces.proofs.legal.grow.Statement.{statement}
+use Rattle.levels_pieces.proofs.legal.grow.Tie as tie
 
 abbrev Inv-loop : tie.InvT-loop
 Inv-loop starts neighbours scratch₀ s z n first h₀ t₀ scratch h t =

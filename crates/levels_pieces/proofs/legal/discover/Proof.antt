@@ -1,4 +1,4 @@
--- `levels_combine::pieces::discover` meets its contract. Assumes nothing.
+-- `levels_pieces::legal::discover` meets its contract. Assumes nothing.
 use mathlib.Core.Path.{_≡_, sym, ap, _∙_}
 use mathlib.Core.Logic.{⊎-elim}
 use mathlib.Core.List.{List}
@@ -13,8 +13,8 @@ use Rattle.levels_laws.proofs.Areas.{member-read, view-room, view-size}
 use Rattle.levels_laws.specs.Seek.{freshAt}
 use Rattle.levels_laws.proofs.Taking.{Finding, finding-begin, z-node, shut-now, finding-skip, finding-take}
 use Rattle.levels_laws.proofs.Done.{finding-done}
-use Rattle.levels_combine.proofs.pieces.discover.Statement.{statement}
-use Rattle.levels_combine.proofs.pieces.discover.Tie as tie
+use Rattle.levels_pieces.proofs.legal.discover.Statement.{statement}
+use Rattle.levels_pieces.proofs.legal.discover.Tie as tie
 
 -- what holds at the loop's head, with the bounds that the words need
 record Loop (S N X₀ : List ℕ) (from to n : ℕ) (X : List ℕ) (tail m i : ℕ) : Type 0 where

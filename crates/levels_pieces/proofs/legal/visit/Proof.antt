@@ -1,4 +1,4 @@
--- `levels_combine::pieces::visit` meets its contract. Assumes nothing.
+-- `levels_pieces::legal::visit` meets its contract. Assumes nothing.
 use mathlib.Core.Path.{_≡_, sym, ap, _∙_}
 use mathlib.Core.Logic.{⊎-elim}
 use mathlib.Core.Bool.{true}
@@ -11,8 +11,8 @@ use Rattle.levels_laws.specs.Areas.{workOf, heldOf}
 use Rattle.levels_laws.specs.Seek.{freshAt}
 use Rattle.levels_laws.proofs.Seeking.{Visiting, visit-begin, v-low, v-high, visit-old, t-in, visit-done}
 use Rattle.levels_laws.proofs.Slices.{visit-room, visit-same, visit-new-in}
-use Rattle.levels_combine.proofs.pieces.visit.Statement.{statement}
-use Rattle.levels_combine.proofs.pieces.visit.Tie as tie
+use Rattle.levels_pieces.proofs.legal.visit.Statement.{statement}
+use Rattle.levels_pieces.proofs.legal.visit.Tie as tie
 
 abbrev Inv-loop : tie.InvT-loop
 Inv-loop row scratch₀ n tail t₀ k₀ scratch t k = Visiting n row (workOf n scratch₀) (heldOf n scratch₀) tail (workOf n scratch) (heldOf n scratch) t k
