@@ -76,14 +76,14 @@ module _ {S N : List ℕ} (R : Rows S N) where
       ∙ count-swap (λ q p. adjoins g p q && (adjoins g q p && ltb q p)) (nodes g) (nodes g)
       ∙ sum-cong (λ q. countb (λ p. adjoins g p q && (adjoins g q p && ltb q p)) (nodes g)) upperPairs (nodes g)
       (λ q m. count-cong (λ p. adjoins g p q && (adjoins g q p && ltb q p)) (λ p. adjoins g q p && (adjoins g p q && ltb q p)) (nodes g)
-      (λ p k. turned (adjoins g p q) (adjoins g q p) (ltb q p))
+      (λ p k. swapped (adjoins g p q) (adjoins g q p) (ltb q p))
       ∙ sym (row-nodes (λ p. adjoins g p q && ltb q p) q (node-in g q m)))
     where
-      turned : (a b c : Bool) → a && (b && c) ≡ b && (a && c)
-      turned true true c = refl
-      turned true false c = refl
-      turned false true c = refl
-      turned false false c = refl
+      swapped : (a b c : Bool) → a && (b && c) ≡ b && (a && c)
+      swapped true true c = refl
+      swapped true false c = refl
+      swapped false true c = refl
+      swapped false false c = refl
 
   -- so the pairs, each at its upper number, are half of the entries that have their partner
   pairs-half : 2 * sum (map (lowerPairs (graphOf S N)) (nodes (graphOf S N))) ≡ sum (map paired (nodes (graphOf S N)))

@@ -18,7 +18,7 @@ ghost use Rattle.levels_laws.specs.Model.{numberAt};
 ghost use Rattle.levels_laws.specs.Starts.{startsOf, membersOf};
 ghost use Rattle.levels_laws.specs.Placed.{wordsAfter, levelsAfter, PlaceableAll};
 ghost use Rattle.levels_laws.specs.Given.{firstOf, endsOf, Given, merged, Entry, Levelled};
-ghost use Rattle.levels_laws.specs.Members.{Members, Turnable, Clearable, Movable, settledAt, stored, turnedAt, nought};
+ghost use Rattle.levels_laws.specs.Members.{Members, Mirrorable, Clearable, Movable, settledAt, stored, mirroredAt, nought};
 use graph_words::wide;
 use levels_pieces::legal::find;
 use levels_pieces::legal::size_at;
@@ -27,9 +27,9 @@ use levels_place::legal::settle;
 use levels_place::legal::widest;
 
 // Counts the second numbers of the members from the other end: k + 1 - b.
-fn turn(scratch: &mut [u16], n: usize, from: usize, to: usize, k: u16)
-    requires { ⌜ Turnable n from to k (now scratch) ⌝ }
-    ensures { λ _. ⌜ left scratch ≡ stored (2 * n) (turnedAt n k (was scratch)) (was scratch) (membersOf n from to (was scratch)) ⌝ }
+fn mirror(scratch: &mut [u16], n: usize, from: usize, to: usize, k: u16)
+    requires { ⌜ Mirrorable n from to k (now scratch) ⌝ }
+    ensures { λ _. ⌜ left scratch ≡ stored (2 * n) (mirroredAt n k (was scratch)) (was scratch) (membersOf n from to (was scratch)) ⌝ }
 {
     let mut i = from;
     while i < to {
@@ -106,7 +106,7 @@ fn level(
     ensures { λ _. ⌜ Levelled (graphOf (was starts) (was neighbours)) (firstOf (sizeOf (was starts)) from (workOf (sizeOf (was starts)) (was scratch))) (endsOf (graphOf (was starts) (was neighbours)) from (workOf (sizeOf (was starts)) (was scratch))) (sizeOf (was starts)) from to (workOf (sizeOf (was starts)) (was scratch)) (heldOf (sizeOf (was starts)) (was scratch)) (workOf (sizeOf (was starts)) (left scratch)) (heldOf (sizeOf (was starts)) (left scratch)) ⌝ }
 {
     let n = starts.len() - 1;
-    turn(scratch, n, from, to, k);
+    mirror(scratch, n, from, to, k);
     let t = gather(scratch, n, from, to);
     settle(scratch, n, 0, 0, t);
     let m = find(starts, neighbours, scratch, from, to);

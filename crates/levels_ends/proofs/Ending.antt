@@ -87,7 +87,7 @@ module _ (S N : List ℕ) {z : ℕ} {W : List ℕ} (legal : graphRefusal S N ≡
     few = depth-some (not-refused S N legal) M;
   }
 
--- ---- a turn
+-- ---- a round
 
 module _ {S N : List ℕ} {z v : ℕ} {r : Rooted} {t : Tried} {passes : ℕ} {deep : Bool} {W : List ℕ} (I : Going S N z v r t passes deep W) where
   G : LegalGraph (graphOf S N)

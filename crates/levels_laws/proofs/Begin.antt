@@ -31,7 +31,7 @@ use Rattle.levels_laws.specs.Model.{nodeAt, queued, numberAt, countOf, s
 use Rattle.levels_laws.proofs.Counting.{slot-low, slot-high, slots-inside, tally-front, tally-behind}
 use Rattle.levels_laws.proofs.Tally.{getD-tally, length-tally}
 use Rattle.levels_laws.specs.Given.{Entry}
-use Rattle.levels_laws.specs.Members.{Members, Turnable, settledAt, stored, turnedAt}
+use Rattle.levels_laws.specs.Members.{Members, Mirrorable, settledAt, stored, mirroredAt}
 use Rattle.levels_laws.specs.Seek.{at}
 use Rattle.levels_laws.specs.Starts.{membersOf}
 use Rattle.levels_laws.proofs.Laying.{named-by}
@@ -132,8 +132,8 @@ module _ {g : Graph} {z : ℕ} {e : Ends} {n from to : ℕ} {W L : List ℕ} (A 
     high = λ i l h. omega (arith, part-is-node (getD W (4 * n + i) 0) (member-word i l h) .high, A .is);
   }
 
-  pub turnable : Turnable n from to k W
-  turnable = record {
+  pub mirrorable : Mirrorable n from to k W
+  mirrorable = record {
     members = members-at;
     few = omega (arith, A .deep, A .few);
     most = λ q m. let p = sym (m-part q) ∙ m in omega (arith, A .seconds q (part-is-node q p), b-range q p .1);
@@ -145,13 +145,13 @@ module _ {g : Graph} {z : ℕ} {e : Ends} {n from to : ℕ} {W L : List ℕ} (A 
   -- ---- the second numbers
 
   abbrev pub W₁ : List ℕ
-  W₁ = stored (2 * n) (turnedAt n k W) W M
+  W₁ = stored (2 * n) (mirroredAt n k W) W M
 
   pub one-size : length W₁ ≡ length W
-  one-size = length-stored (2 * n) (turnedAt n k W) W M
+  one-size = length-stored (2 * n) (mirroredAt n k W) W M
 
   one-other : (i : ℕ) → ((q : ℕ) → 1 ≤ q → q ≤ n → i ≡ 2 * n + q - 1 → ⊥) → getD W₁ i 0 ≡ getD W i 0
-  one-other i h = stored-other (2 * n) n (turnedAt n k W) W M m-range i h
+  one-other i h = stored-other (2 * n) n (mirroredAt n k W) W M m-range i h
 
   pub one-low : (i : ℕ) → i < 2 * n → getD W₁ i 0 ≡ getD W i 0
   one-low i h = one-other i (λ q l r x. omega arith)
@@ -165,7 +165,7 @@ module _ {g : Graph} {z : ℕ} {e : Ends} {n from to : ℕ} {W L : List ℕ} (A 
   one-second : (q : ℕ) → Node g q → getD W₁ (2 * n + q - 1) 0 ≡ Y q
   unfolding mirrored
   one-second q N =
-      stored-at (2 * n) (turnedAt n k W) W M (λ y m. m-range y m .0) q (N .low) (omega (arith, N .high, A .is, A .words))
+      stored-at (2 * n) (mirroredAt n k W) W M (λ y m. m-range y m .0) q (N .low) (omega (arith, N .high, A .is, A .words))
       ∙ by-test (memb q M)
       (λ m.
       let p = sym (m-part q) ∙ m in

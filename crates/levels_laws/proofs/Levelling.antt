@@ -17,35 +17,35 @@ use Rattle.levels_laws.specs.Model.{queued, slots, numberAt, written, Co
 use Rattle.levels_laws.specs.Tally.{tally}
 use Rattle.levels_laws.proofs.Areas.{front-read, front-sets, view-room}
 use Rattle.levels_laws.specs.Given.{Entry, Levelled}
-use Rattle.levels_laws.specs.Members.{Members, Turnable, settledAt, stored, turnedAt}
+use Rattle.levels_laws.specs.Members.{Members, Mirrorable, settledAt, stored, mirroredAt}
 use Rattle.levels_laws.specs.Placed.{wordsAfter, levelsAfter, PlaceableAll}
 use Rattle.levels_laws.specs.Seek.{looseAt}
 use Rattle.levels_laws.specs.Starts.{startsOf, membersOf, Findable, Found}
-use Rattle.levels_laws.proofs.Steps.{turn-ok, gather-ok, settle-ok, find-ok, place-ok, level-done}
+use Rattle.levels_laws.proofs.Steps.{mirror-ok, gather-ok, settle-ok, find-ok, place-ok, level-done}
 use Rattle.levels_laws.proofs.Storing.{length-stored}
-use Rattle.levels_laws.proofs.Views.{members-in, members-stored, settled-seen, turnable-in}
+use Rattle.levels_laws.proofs.Views.{members-in, members-stored, settled-seen, mirrorable-in}
 
 module _ {g : Graph} {z : ℕ} {e : Ends} {n from to : ℕ} (X : List ℕ) (A : Entry g z e n from to (workOf n X) (heldOf n X)) {k : ℕ} (p : k ≡ e .k) where
   room : 6 * n ≤ length X
   room = view-room n X (A .words) (A .room)
 
-  pub turn-in : Turnable n from to k X
-  turn-in = turnable-in n X room (turn-ok A p)
+  pub mirror-in : Mirrorable n from to k X
+  mirror-in = mirrorable-in n X room (mirror-ok A p)
 
-  -- the members turned
-  module _ (Y : List ℕ) (q : Y ≡ stored (2 * n) (turnedAt n k X) X (membersOf n from to X)) where
-    turned-room : 6 * n ≤ length Y
-    turned-room = omega (arith, room, ap length q, length-stored (2 * n) (turnedAt n k X) X (membersOf n from to X))
+  -- the members mirrored
+  module _ (Y : List ℕ) (q : Y ≡ stored (2 * n) (mirroredAt n k X) X (membersOf n from to X)) where
+    mirrored-room : 6 * n ≤ length Y
+    mirrored-room = omega (arith, room, ap length q, length-stored (2 * n) (mirroredAt n k X) X (membersOf n from to X))
 
-    turned : (workOf n Y ≡ stored (2 * n) (turnedAt n k (workOf n X)) (workOf n X) (membersOf n from to (workOf n X))) × (heldOf n Y ≡ heldOf n X)
-    turned = members-stored n X room (turn-ok A p .members) (2 * n) (turnedAt n k X) (turnedAt n k (workOf n X)) (omega arith)
+    mirrored-seen : (workOf n Y ≡ stored (2 * n) (mirroredAt n k (workOf n X)) (workOf n X) (membersOf n from to (workOf n X))) × (heldOf n Y ≡ heldOf n X)
+    mirrored-seen = members-stored n X room (mirror-ok A p .members) (2 * n) (mirroredAt n k X) (mirroredAt n k (workOf n X)) (omega arith)
         (λ y l h. ap (λ (x : ℕ). k + 1 - x) (front-read n X room (2 * n + y - 1) (omega arith))) q
 
     still : Members n from to (workOf n Y)
-    still = gather-ok A p (turned .0)
+    still = gather-ok A p (mirrored-seen .0)
 
     pub gather-in : Members n from to Y
-    gather-in = members-in n Y turned-room still
+    gather-in = members-in n Y mirrored-room still
 
     abbrev Z : List ℕ
     Z = filterb (settledAt n Y) (membersOf n from to Y)
@@ -63,19 +63,19 @@ module _ {g : Graph} {z : ℕ} {e : Ends} {n from to : ℕ} (X : List ℕ) (A : 
     -- and the settled ones in the queue
     module _ {t : ℕ} (S : List ℕ) (c : t ≡ length Z) (r : S ≡ sets Y n Z) where
       count : t ≡ length (filterb (settledAt n (workOf n Y)) (membersOf n from to (workOf n Y)))
-      count = c ∙ ap length (settled-seen n Y turned-room still)
+      count = c ∙ ap length (settled-seen n Y mirrored-room still)
 
       queued-seen : (workOf n S ≡ sets (workOf n Y) n Z) × (heldOf n S ≡ heldOf n Y)
-      queued-seen = let b = front-sets n Y turned-room n Z (omega (arith, Z-less)) in (ap (workOf n) r ∙ b .0, ap (heldOf n) r ∙ b .1)
+      queued-seen = let b = front-sets n Y mirrored-room n Z (omega (arith, Z-less)) in (ap (workOf n) r ∙ b .0, ap (heldOf n) r ∙ b .1)
 
       gathered : workOf n S ≡ sets (workOf n Y) n (filterb (settledAt n (workOf n Y)) (membersOf n from to (workOf n Y)))
-      gathered = queued-seen .0 ∙ ap (sets (workOf n Y) n) (settled-seen n Y turned-room still)
+      gathered = queued-seen .0 ∙ ap (sets (workOf n Y) n) (settled-seen n Y mirrored-room still)
 
       same-levels : heldOf n S ≡ heldOf n X
-      same-levels = queued-seen .1 ∙ turned .1
+      same-levels = queued-seen .1 ∙ mirrored-seen .1
 
       pub settle-in : Countable n 0 0 t (workOf n S) × (n ≤ length (heldOf n S))
-      settle-in = (settle-ok A p (turned .0) count gathered, omega (arith, ap length same-levels, A .room))
+      settle-in = (settle-ok A p (mirrored-seen .0) count gathered, omega (arith, ap length same-levels, A .room))
 
       module _ (T : List ℕ) (w : workOf n T ≡ tally (workOf n S) (slots n 0 0 t (workOf n S)))
           (l : heldOf n T ≡ written (numberAt 0 (workOf n S)) (heldOf n S) (queued n 0 t (workOf n S))) where
@@ -83,7 +83,7 @@ module _ {g : Graph} {z : ℕ} {e : Ends} {n from to : ℕ} (X : List ℕ) (A : 
         placed = l ∙ ap (λ (L : List ℕ). written (numberAt 0 (workOf n S)) L (queued n 0 t (workOf n S))) same-levels
 
         pub find-in : Findable g n from to (workOf n T) (heldOf n T)
-        find-in = find-ok A p (turned .0) count gathered w placed
+        find-in = find-ok A p (mirrored-seen .0) count gathered w placed
 
         module _ (P : List ℕ) {m : ℕ} (F : Found g n (to - from) (looseAt n (workOf n T)) (workOf n T) (heldOf n T) (workOf n P) (heldOf n P) m)
             {narrow : Bool} (v : narrow ≡ ltb (e .widthU) (e .widthV)) where
@@ -92,9 +92,9 @@ module _ {g : Graph} {z : ℕ} {e : Ends} {n from to : ℕ} (X : List ℕ) (A : 
           place-in =
               let f = find-in in
               let r = view-room n P (omega (arith, F .beside .size, f .words)) (omega (arith, F .levels, f .levels)) in
-              ((A .few, omega (arith, F .most, F .less, A .most), r), place-ok A p (turned .0) count gathered w placed F v)
+              ((A .few, omega (arith, F .most, F .less, A .most), r), place-ok A p (mirrored-seen .0) count gathered w placed F v)
 
           pub level-in : (R : List ℕ) → workOf n R ≡ wordsAfter n narrow (startsOf n m (workOf n P)) (workOf n P) (heldOf n P)
               → heldOf n R ≡ levelsAfter n narrow (startsOf n m (workOf n P)) (workOf n P) (heldOf n P)
               → Levelled g z e n from to (workOf n X) (heldOf n X) (workOf n R) (heldOf n R)
-          level-in R a b = level-done A p (turned .0) count gathered w placed F v a b
+          level-in R a b = level-done A p (mirrored-seen .0) count gathered w placed F v a b

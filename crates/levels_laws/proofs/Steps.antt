@@ -22,11 +22,11 @@ use Rattle.laws.proofs.Lent.{zeroed-at}
 use Rattle.levels_laws.specs.Tally.{tally}
 use Rattle.levels_laws.specs.Model.{queued, slots, numberAt, written, Countable}
 use Rattle.levels_laws.specs.Given.{Entry, Levelled}
-use Rattle.levels_laws.specs.Members.{Members, Turnable, Clearable, settledAt, stored, turnedAt, nought}
+use Rattle.levels_laws.specs.Members.{Members, Mirrorable, Clearable, settledAt, stored, mirroredAt, nought}
 use Rattle.levels_laws.specs.Placed.{wordsAfter, levelsAfter, PlaceableAll}
 use Rattle.levels_laws.specs.Seek.{looseAt}
 use Rattle.levels_laws.specs.Starts.{startsOf, membersOf, Findable, Found}
-use Rattle.levels_laws.proofs.Begin.{W₁, W₂, W₃, L₃, Z, turnable, members-one, countable-two}
+use Rattle.levels_laws.proofs.Begin.{W₁, W₂, W₃, L₃, Z, mirrorable, members-one, countable-two}
 use Rattle.levels_laws.proofs.Clearing.{tidied, zeroed-length, zeroed-high}
 use Rattle.levels_laws.proofs.Clearing as clearing
 use Rattle.levels_laws.proofs.Finish.{levelled}
@@ -35,12 +35,12 @@ use Rattle.levels_laws.proofs.Start.{findable, after}
 -- ---- the levels of a part
 
 module _ {g : Graph} {z : ℕ} {e : Ends} {n from to : ℕ} {W L : List ℕ} (A : Entry g z e n from to W L) {k : ℕ} (p : k ≡ e .k) where
-  pub turn-ok : Turnable n from to k W
-  turn-ok = subst (λ (x : ℕ). Turnable n from to x W) (sym p) (turnable A)
+  pub mirror-ok : Mirrorable n from to k W
+  mirror-ok = subst (λ (x : ℕ). Mirrorable n from to x W) (sym p) (mirrorable A)
 
-  module _ {U₁ : List ℕ} (q₁ : U₁ ≡ stored (2 * n) (turnedAt n k W) W (membersOf n from to W)) where
+  module _ {U₁ : List ℕ} (q₁ : U₁ ≡ stored (2 * n) (mirroredAt n k W) W (membersOf n from to W)) where
     one-is : U₁ ≡ W₁ A
-    one-is = q₁ ∙ ap (λ (x : ℕ). stored (2 * n) (turnedAt n x W) W (membersOf n from to W)) p
+    one-is = q₁ ∙ ap (λ (x : ℕ). stored (2 * n) (mirroredAt n x W) W (membersOf n from to W)) p
 
     pub gather-ok : Members n from to U₁
     gather-ok = subst (Members n from to) (sym one-is) (members-one A)

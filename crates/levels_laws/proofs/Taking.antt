@@ -1,4 +1,4 @@
--- The loop over the members that finds the pieces: what holds before each member, and one turn. Assumes nothing.
+-- The loop over the members that finds the pieces: what holds before each member, and one round. Assumes nothing.
 use mathlib.Core.Path.{_≡_, refl, sym, ap, ap₂, _∙_, subst}
 use mathlib.Core.Logic.{⊎-elim}
 use mathlib.Core.Bool.{Bool, true, false, not, _&&_, _||_, cond}

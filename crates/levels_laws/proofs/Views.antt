@@ -11,7 +11,7 @@ use Rattle.basis.proofs.Lists.{filter-cong, memb-here}
 use Rattle.basis.proofs.Logic.{or-right}
 use Rattle.levels_laws.specs.Areas.{workOf, heldOf}
 use Rattle.levels_laws.proofs.Areas.{front-read, front-set, member-read}
-use Rattle.levels_laws.specs.Members.{Members, Turnable, settledAt, stored}
+use Rattle.levels_laws.specs.Members.{Members, Mirrorable, settledAt, stored}
 use Rattle.levels_laws.specs.Starts.{membersOf}
 use Rattle.levels_laws.proofs.Storing.{member-range, members-same, members-on}
 
@@ -58,8 +58,8 @@ module _ (n : ℕ) (X : List ℕ) (r : 6 * n ≤ length X) where
         λ i. eqb (a i) (b i))
         ∙ ap (filterb (settledAt n (workOf n X))) members-seen
 
-  pub turnable-in : {from to k : ℕ} → Turnable n from to k (workOf n X) → Turnable n from to k X
-  turnable-in {from} {to} T = record {
+  pub mirrorable-in : {from to k : ℕ} → Mirrorable n from to k (workOf n X) → Mirrorable n from to k X
+  mirrorable-in {from} {to} T = record {
     members = members-in (T .members);
     few = T .few;
     most = λ q m.

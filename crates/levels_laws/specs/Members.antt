@@ -29,15 +29,15 @@ stored base f W [] = W
 stored base f W (z ∷ zs) = stored base f (set W (base + z - 1) (f z)) zs
 
 -- the level of z counted from the other end of k
-abbrev pub turnedAt : ℕ → ℕ → List ℕ → ℕ → ℕ
-turnedAt n k W z = k + 1 - getD W (2 * n + z - 1) 0
+abbrev pub mirroredAt : ℕ → ℕ → List ℕ → ℕ → ℕ
+mirroredAt n k W z = k + 1 - getD W (2 * n + z - 1) 0
 
 -- 0 for every node
 abbrev pub nought : ℕ → ℕ
 nought z = 0
 
 -- and have levels up to k in the second list
-pub record Turnable (n from to k : ℕ) (W : List ℕ) : Type 0 where
+pub record Mirrorable (n from to k : ℕ) (W : List ℕ) : Type 0 where
   pub members : Members n from to W
   pub few : k ≤ 4096
   pub most : (q : ℕ) → memb q (membersOf n from to W) ≡ true → getD W (2 * n + q - 1) 0 ≤ k

@@ -5,5 +5,5 @@ pub mod Moves
 pub mod Visits
 pub mod Round
 pub mod Level
-pub mod Turns
+pub mod Rounds
 pub mod Tail

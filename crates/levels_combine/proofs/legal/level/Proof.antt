@@ -2,33 +2,33 @@
 use native.Mathlib.Omega.{arith}
 use borrow.Author.Needs.{needs}
 use Rattle.laws.proofs.Refused.{passed, starts-of}
-use Rattle.levels_laws.proofs.Levelling.{turn-in, gather-in, settle-in, find-in, place-in, level-in}
+use Rattle.levels_laws.proofs.Levelling.{mirror-in, gather-in, settle-in, find-in, place-in, level-in}
 use Rattle.levels_combine.proofs.legal.level.Statement.{statement}
 use Rattle.levels_combine.proofs.legal.level.Tie as tie
 
 sub-n : tie.Need-sub-n
 sub-n c = let s = c .before .before .before in omega (arith, starts-of (passed (s .args .starts .now) (s .args .neighbours .now) (s .pre .0)) .count)
 
-turn-requires : tie.Need-turn-requires
-turn-requires c κs = let s = c .before .before .before .before in turn-in (s .args .scratch .now) (s .pre .1 .0) (s .pre .1 .1 .0)
+mirror-requires : tie.Need-mirror-requires
+mirror-requires c κs = let s = c .before .before .before .before in mirror-in (s .args .scratch .now) (s .pre .1 .0) (s .pre .1 .1 .0)
 
 gather-requires : tie.Need-gather-requires
 gather-requires c κs =
     let s = c .before .before .before .before .before .before .before .before in
-    let r = c .before .before .before .turn in
+    let r = c .before .before .before .mirror in
     gather-in (s .args .scratch .now) (s .pre .1 .0) (s .pre .1 .1 .0) (r .last .0) (r .ensures)
 
 settle-requires : tie.Need-settle-requires
 settle-requires c κs =
     let s = c .before .before .before .before .before .before .before .before .before .before .before .before in
-    let r = c .before .before .before .before .before .before .before .turn in
+    let r = c .before .before .before .before .before .before .before .mirror in
     let g = c .before .before .before .gather in
     settle-in (s .args .scratch .now) (s .pre .1 .0) (s .pre .1 .1 .0) (r .last .0) (r .ensures) (g .last .0) (g .ensures .0) (g .ensures .1)
 
 find-requires : tie.Need-find-requires
 find-requires c κs =
     let s = c .before .before .before .before .before .before .before .before .before .before .before .before .before .before .before .before in
-    let r = c .before .before .before .before .before .before .before .before .before .before .before .turn in
+    let r = c .before .before .before .before .before .before .before .before .before .before .before .mirror in
     let g = c .before .before .before .before .before .before .before .gather in
     let t = c .before .before .before .settle in
     (s .pre .0, find-in (s .args .scratch .now) (s .pre .1 .0) (s .pre .1 .1 .0) (r .last .0) (r .ensures) (g .last .0) (g .ensures .0) (g .ensures .1) (t .last .0) (t .ensures .0) (t .ensures .1))
@@ -36,7 +36,7 @@ find-requires c κs =
 place-all-requires : tie.Need-place-all-requires
 place-all-requires c κs =
     let s = c .before .before .before .before .before .before .before .before .before .before .before .before .before .before .before .before .before .before .before .before in
-    let r = c .before .before .before .before .before .before .before .before .before .before .before .before .before .before .before .turn in
+    let r = c .before .before .before .before .before .before .before .before .before .before .before .before .before .before .before .mirror in
     let g = c .before .before .before .before .before .before .before .before .before .before .before .gather in
     let t = c .before .before .before .before .before .before .before .settle in
     let f = c .before .before .before .find in
@@ -49,7 +49,7 @@ same-length c = search needs
 returns : tie.Need-returns
 returns c =
     let s = c .before .before .before .before .before .before .before .before .before .before .before .before .before .before .before .before .before .before .before .before .before .before .before in
-    let r = c .before .before .before .before .before .before .before .before .before .before .before .before .before .before .before .before .before .before .turn in
+    let r = c .before .before .before .before .before .before .before .before .before .before .before .before .before .before .before .before .before .before .mirror in
     let g = c .before .before .before .before .before .before .before .before .before .before .before .before .before .before .gather in
     let t = c .before .before .before .before .before .before .before .before .before .before .settle in
     let f = c .before .before .before .before .before .before .find in
@@ -58,4 +58,4 @@ returns c =
     (f .last .1 .1 .0) (f .ensures) (s .pre .1 .1 .1) (a .last .0) (a .ensures .0) (a .ensures .1)
 
 pub level-spec : {M : Type 1} → statement M
-level-spec = tie.close (tie.spec sub-n turn-requires gather-requires settle-requires find-requires place-all-requires same-length returns)
+level-spec = tie.close (tie.spec sub-n mirror-requires gather-requires settle-requires find-requires place-all-requires same-length returns)

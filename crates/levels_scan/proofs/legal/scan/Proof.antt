@@ -1,4 +1,4 @@
--- `levels_scan::legal::scan` meets its contract: the loop is `Turns.antt`'s. Assumes nothing.
+-- `levels_scan::legal::scan` meets its contract: the loop is `Rounds.antt`'s. Assumes nothing.
 use mathlib.Core.Path.{refl, sym, _∙_}
 use Prim.Native.Nat.{_-_, _<_}
 use native.Mathlib.Omega.{arith}
@@ -6,7 +6,7 @@ use lib.ListN.{length}
 use borrow.Author.Needs.{needs}
 use Rattle.spec.specs.Graph.{sizeOf}
 use Rattle.levels_search.proofs.Level.{Level, size, w-most, all}
-use Rattle.levels_scan.proofs.Turns.{begin, lists, turn, few, figures}
+use Rattle.levels_scan.proofs.Rounds.{begin, lists, round, few, figures}
 use Rattle.levels_scan.proofs.legal.scan.Statement.{statement}
 use Rattle.levels_scan.proofs.legal.scan.Tie as tie
 
@@ -63,7 +63,7 @@ loop-less c =
 
 loop-again : tie.Need-loop-again Inv-loop μ-loop
 loop-again c =
-    turn (c .before .before .before .before .before .before .loop .inv) (c .before .before .before .before .before .loop-test .taken)
+    round (c .before .before .before .before .before .before .loop .inv) (c .before .before .before .before .before .loop-test .taken)
     (c .before .before .next-level .ensures) (c .before .before .before .before .larger .ensures)
 
 cast-t19 : tie.Need-cast-t19 Inv-loop μ-loop

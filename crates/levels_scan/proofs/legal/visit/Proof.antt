@@ -32,7 +32,7 @@ begin {row} {L} {j} l w = record { pos = l; fine = w; most = omega arith; same =
     zero-add : (c : ℕ) → 0 + c ≡ c
     zero-add c = omega arith
 
--- a turn; a is the node at k
+-- a round; a is the node at k
 module _ {row : List ℕ} {j : ℕ} {L₀ L : List ℕ} {count k a : ℕ} (I : Visiting row j L₀ L count k) (h : k < length row) (q : a ≡ getD row k 0) where
   low : 1 ≤ a
   low = rw q (within-at (length L₀) row k (I .fine) h .0)

@@ -29,7 +29,7 @@ record Expanding (S N L₀ Q₀ : List ℕ) (bound a b j : ℕ) (L Q : List ℕ)
   few : tail + length (found j L (rows S N (slice h b Q₀))) ≤ bound
   goes : {L′ Q′ : List ℕ} {t′ : ℕ} → Pushed (rows S N (slice h b Q₀)) j L Q tail L′ Q′ t′ → Pushed (rows S N (slice a b Q₀)) j L₀ Q₀ b L′ Q′ t′
 
--- a turn
+-- a round
 module _ {S N L₀ Q₀ : List ℕ} {bound a b j : ℕ} {L Q : List ℕ} {tail h : ℕ} (I : Expanding S N L₀ Q₀ bound a b j L Q tail h) (l : h < b) where
   -- the node at h
   abbrev q : ℕ

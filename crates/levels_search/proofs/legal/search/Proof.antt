@@ -1,4 +1,4 @@
--- `levels_search::legal::search` meets its contract: the loop is `Turns.antt`'s, in the two halves of one list. Assumes nothing.
+-- `levels_search::legal::search` meets its contract: the loop is `Rounds.antt`'s, in the two halves of one list. Assumes nothing.
 use mathlib.Core.Path.{_≡_, refl, sym, ap, _∙_, subst}
 use mathlib.Core.List.{List}
 use Prim.Native.Nat.{ℕ, _+_, _-_, _≤_, _<_, max}
@@ -15,7 +15,7 @@ use Rattle.levels_search.specs.Answer.{Searched}
 use Rattle.levels_search.proofs.Round.{readable}
 use Rattle.levels_search.proofs.Stores.{write-front, write-behind, take-replicate, drop-replicate}
 use Rattle.levels_search.proofs.Level.{w-most}
-use Rattle.levels_search.proofs.Turns.{Rounds, begin, step, nodes-in, b-most, room, bound, numbers, searched}
+use Rattle.levels_search.proofs.Rounds.{Rounds, begin, step, nodes-in, b-most, room, bound, numbers, searched}
 use Rattle.levels_search.proofs.legal.search.Statement.{statement}
 use Rattle.levels_search.proofs.legal.search.Tie as tie
 

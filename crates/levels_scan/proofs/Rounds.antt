@@ -1,4 +1,4 @@
--- The loop of `scan` over lists: where it begins, a turn, and the figures at its end. Assumes nothing.
+-- The loop of `scan` over lists: where it begins, a round, and the figures at its end. Assumes nothing.
 use mathlib.Core.Path.{_≡_, refl, sym, ap, _∙_}
 use mathlib.Core.List.{List}
 use Prim.Native.Nat.{ℕ, _+_, _-_, _≤_, _<_, max}
@@ -29,9 +29,9 @@ module _ {S N : List ℕ} {root : ℕ} {L : List ℕ} {before count d w : ℕ} (
   pub lists : Readable (length L) S N
   lists = rw (size I) (readable S N (I .legal))
 
-  pub turn : {L′ : List ℕ} {c w′ : ℕ} → 0 < count → Visited (rows S N (filterb (λ q. eqb (ofNode L q) (d + 1)) (upFrom 1 (length L)))) (d + 1 + 1) L L′ c
+  pub round : {L′ : List ℕ} {c w′ : ℕ} → 0 < count → Visited (rows S N (filterb (λ q. eqb (ofNode L q) (d + 1)) (upFrom 1 (length L)))) (d + 1 + 1) L L′ c
       → w′ ≡ max w count → Level S N root L′ (before + count) c (d + 1) w′
-  turn h P e =
+  round h P e =
       rw (P .levels, P .new, e)
       (next I (filterb (λ q. eqb (ofNode L q) (d + 1)) (upFrom 1 (length L))) (λ q. level-memb L (d + 1) q (omega arith)) h)
 

@@ -1,17 +1,17 @@
--- `levels_combine::legal::turn` meets its contract. Assumes nothing.
+-- `levels_combine::legal::mirror` meets its contract. Assumes nothing.
 use mathlib.Core.Path.{ap}
 use mathlib.Core.List.{List}
 use Prim.Native.Nat.{ℕ, _+_, _-_, _*_, _≤_, _<_}
 use native.Mathlib.Omega.{arith}
 use lib.ListN.{length, getD}
 use borrow.Author.Needs.{needs}
-use Rattle.levels_laws.specs.Members.{turnedAt, Turnable}
+use Rattle.levels_laws.specs.Members.{mirroredAt, Mirrorable}
 use Rattle.levels_laws.proofs.Storing.{Storing, store-begin, store-size, z-low, z-high, z-fits, z-word, z-member, store-step, store-done}
-use Rattle.levels_combine.proofs.legal.turn.Statement.{statement}
-use Rattle.levels_combine.proofs.legal.turn.Tie as tie
+use Rattle.levels_combine.proofs.legal.mirror.Statement.{statement}
+use Rattle.levels_combine.proofs.legal.mirror.Tie as tie
 
 abbrev Inv-loop : tie.InvT-loop
-Inv-loop scratch₀ n from to k i₀ scratch i = Turnable n from to k scratch₀ × Storing (2 * n) (turnedAt n k scratch₀) n from to scratch₀ scratch i
+Inv-loop scratch₀ n from to k i₀ scratch i = Mirrorable n from to k scratch₀ × Storing (2 * n) (mirroredAt n k scratch₀) n from to scratch₀ scratch i
 
 abbrev μ-loop : tie.MeasureT-loop
 μ-loop scratch₀ n from to k i₀ scratch i = to - i
@@ -41,7 +41,7 @@ read c =
     }
 
 loop-holds : tie.Need-loop-holds Inv-loop μ-loop
-loop-holds c = let s = c .before in (s .pre, store-begin (2 * s .args .n) (turnedAt (s .args .n) (s .args .k) (s .args .scratch .now)) (s .pre .members) (omega arith))
+loop-holds c = let s = c .before in (s .pre, store-begin (2 * s .args .n) (mirroredAt (s .args .n) (s .args .k) (s .args .scratch .now)) (s .pre .members) (omega arith))
 
 mul-at : tie.Need-mul-at Inv-loop μ-loop
 mul-at c = let I = c .before .loop .inv .1 in omega (arith, I .ask .few)
@@ -105,8 +105,8 @@ same-length c = store-size (c .before .loop .inv .1)
 returns : tie.Need-returns Inv-loop μ-loop
 returns c = store-done (c .before .loop .inv .1) (c .loop-test .left)
 
-pub turn-spec : {M : Type 1} → statement M
-turn-spec =
+pub mirror-spec : {M : Type 1} → statement M
+mirror-spec =
     tie.close
     (tie.spec
     Inv-loop

@@ -1,4 +1,4 @@
--- The loop of `search` over lists, the queue round by round beside the levels: where it begins, a turn, and what is had at its end.
+-- The loop of `search` over lists, the queue round by round beside the levels: where it begins, a round, and what is had at its end.
 -- Assumes nothing.
 use mathlib.Core.Path.{_≡_, sym, ap, _∙_, subst}
 use mathlib.Core.Bool.{cond, _&&_}
@@ -47,7 +47,7 @@ pub record Rounds (S N : List ℕ) (root : ℕ) (L Q : List ℕ) (last a b depth
   pub tail-count : 1 ≤ depth → last + times depth L ≡ a
   pub tail : 1 ≤ depth → (q : ℕ) → times q (slice last a Q) ≡ bit (eqb (ofNode L q) depth)
 
--- ---- a turn
+-- ---- a round
 
 module _ {S N : List ℕ} {root : ℕ} {L Q : List ℕ} {last a b d w : ℕ} (I : Rounds S N root L Q last a b d w) where
   abbrev j : ℕ
