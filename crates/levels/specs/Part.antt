@@ -9,6 +9,7 @@ use Rattle.spec.specs.Combined.{combined, widthOf}
 use Rattle.spec.specs.Ends.{Ends}
 use Rattle.spec.specs.Graph.{Graph, ofNode}
 use Rattle.spec.specs.Levels.{part}
+use Rattle.laws.specs.Scratch.{membersArea, tallyArea}
 use Rattle.levels_laws.specs.Given.{firstOf}
 use Rattle.levels_laws.specs.Starts.{membersOf}
 use Rattle.levels.specs.declared.shape.PartLevels.{PartLevels}
@@ -17,13 +18,13 @@ use Rattle.levels.specs.declared.shape.PartLevels.{PartLevels}
 abbrev pub placed : ℕ → List ℕ → List ℕ
 placed n W = filterb (λ q. ltb 0 (ofNode W q)) (upFrom 1 n)
 
--- the members of one part stand from..to in the fifth area of n words, the four in front are 0, and so is the sixth
+-- the members of one part stand from..to in MEMBERS, the four areas in front are 0, and so is TALLY
 pub record PartGiven (g : Graph) (from to : ℕ) (W L : List ℕ) : Type 0 where
-  pub words : 5 * g .size ≤ length W
+  pub words : tallyArea (g .size) ≤ length W
   pub order : from < to
   pub most : to ≤ g .size
   pub members : membersOf (g .size) from to W ≡ part g (firstOf (g .size) from W)
-  pub blank : take (4 * g .size) W ≡ replicate (4 * g .size) 0
+  pub blank : take (membersArea (g .size)) W ≡ replicate (membersArea (g .size)) 0
   pub clean : L ≡ replicate (g .size) 0
 
 -- the ends, k, the greatest level count and the passes

@@ -13,6 +13,8 @@ use crate::legal::WORDS_PER_NODE;
 use crate::legal::combine_part;
 use crate::legal::gather_part;
 use crate::shape::PartLevels;
+use graph_words::areas::AREAS;
+use graph_words::areas::TALLY;
 use graph_words::legal::clear;
 use levels_ends::legal::ends_from;
 use levels_ends::legal::first_of_part;
@@ -67,7 +69,7 @@ pub(crate) fn find_levels(
     clear(scratch, WORDS_PER_NODE * n);
     let count = gather_part(starts, neighbours, node, scratch);
     let f = combine_part(starts, neighbours, scratch, 0, count);
-    copy(levels, &scratch[5 * n..6 * n]);
+    copy(levels, &scratch[TALLY * n..AREAS * n]);
     clear(scratch, WORDS_PER_NODE * n);
     f
 }

@@ -1,10 +1,10 @@
 // The combined levels of one part, for callers that have found the adjacency legal, the ends of the part and the levels rooted at both.
-// The words of a part, n each: levels rooted at v, a queue, levels rooted at u, levels by old number, members of the parts, starts of the
-// pieces and from the end down the counts of the levels. These do not meet: the starts and their sort have a word for each loose node, and
-// each level has a settled one. The end search uses the first four areas, and the sixth, 0 until then, has the levels in the end.
+// The scratch has the areas of `graph_words::areas`. In TALLY the starts of the pieces and the counts of the levels do not meet: the starts
+// and their sort have a word for each loose node, and each level has a settled one. The end search uses the four areas in front of MEMBERS,
+// and TALLY, 0 until then, has the levels in the end.
 ghost use mathlib.Core.Path.{_≡_};
 ghost use mathlib.Core.List.{_++_};
-ghost use Prim.Native.Nat.{_+_, _-_, _*_, _≤_, _<_};
+ghost use Prim.Native.Nat.{_+_, _-_, _≤_, _<_};
 ghost use lib.ListN.{length, drop, replicate};
 ghost use lib.Seq.{sets, slice};
 ghost use lib.Dec.{ltb};
@@ -13,12 +13,18 @@ ghost use Rattle.basis.specs.Moments.{was, left};
 ghost use Rattle.spec.specs.Combined.{combined, widthOf};
 ghost use Rattle.spec.specs.Graph.{graphOf, sizeOf, graphRefusal};
 ghost use Rattle.spec.specs.Lent.{zeroed};
+ghost use Rattle.laws.specs.Scratch.{secondArea, mergedArea, membersArea, tallyArea, areasEnd};
 ghost use Rattle.levels_laws.specs.Areas.{wordsOf, swapped, workOf, heldOf};
 ghost use Rattle.levels_laws.specs.Model.{numberAt};
 ghost use Rattle.levels_laws.specs.Starts.{startsOf, membersOf};
 ghost use Rattle.levels_laws.specs.Placed.{wordsAfter, levelsAfter, PlaceableAll};
 ghost use Rattle.levels_laws.specs.Given.{firstOf, endsOf, Given, merged, Entry, Levelled};
 ghost use Rattle.levels_laws.specs.Members.{Members, Mirrorable, Clearable, Movable, settledAt, stored, mirroredAt, nought};
+use graph_words::areas::AREAS;
+use graph_words::areas::MEMBERS;
+use graph_words::areas::MERGED;
+use graph_words::areas::SECOND;
+use graph_words::areas::TALLY;
 use graph_words::wide;
 use levels_pieces::legal::find;
 use levels_pieces::legal::size_at;
@@ -29,11 +35,11 @@ use levels_place::legal::widest;
 // Counts the second numbers of the members from the other end: k + 1 - b.
 fn mirror(scratch: &mut [u16], n: usize, from: usize, to: usize, k: u16)
     requires { ⌜ Mirrorable n from to k (now scratch) ⌝ }
-    ensures { λ _. ⌜ left scratch ≡ stored (2 * n) (mirroredAt n k (was scratch)) (was scratch) (membersOf n from to (was scratch)) ⌝ }
+    ensures { λ _. ⌜ left scratch ≡ stored (secondArea n) (mirroredAt n k (was scratch)) (was scratch) (membersOf n from to (was scratch)) ⌝ }
 {
     let mut i = from;
     while i < to {
-        let at = 2 * n + wide(scratch[4 * n + i]) - 1;
+        let at = SECOND * n + wide(scratch[MEMBERS * n + i]) - 1;
         scratch[at] = k + 1 - scratch[at];
         i += 1;
     }
@@ -48,9 +54,9 @@ fn gather(scratch: &mut [u16], n: usize, from: usize, to: usize) -> usize
     let mut t = 0;
     let mut i = from;
     while i < to {
-        let z = scratch[4 * n + i];
+        let z = scratch[MEMBERS * n + i];
         let at = wide(z);
-        if scratch[at - 1] == scratch[2 * n + at - 1] {
+        if scratch[at - 1] == scratch[SECOND * n + at - 1] {
             scratch[n + t] = z;
             t += 1;
         }
@@ -61,14 +67,14 @@ fn gather(scratch: &mut [u16], n: usize, from: usize, to: usize) -> usize
 
 // Places the m pieces in the order of their starts, each against the counts as they then are.
 fn place_all(scratch: &mut [u16], n: usize, m: usize, narrow: bool)
-    requires { ⌜ (n ≤ 4096) × (m ≤ n) × (6 * n ≤ length (now scratch)) ⌝ }
+    requires { ⌜ (n ≤ 4096) × (m ≤ n) × (areasEnd n ≤ length (now scratch)) ⌝ }
     requires { ⌜ PlaceableAll n (n - m) narrow (startsOf n m (workOf n (now scratch))) (workOf n (now scratch)) (heldOf n (now scratch)) ⌝ }
     ensures { λ _. ⌜ workOf n (left scratch) ≡ wordsAfter n narrow (startsOf n m (workOf n (was scratch))) (workOf n (was scratch)) (heldOf n (was scratch)) ⌝ }
     ensures { λ _. ⌜ heldOf n (left scratch) ≡ levelsAfter n narrow (startsOf n m (workOf n (was scratch))) (workOf n (was scratch)) (heldOf n (was scratch)) ⌝ }
 {
     let mut i = 0;
     while i < m {
-        let s = wide(scratch[5 * n + i]);
+        let s = wide(scratch[TALLY * n + i]);
         let t = s + size_at(scratch, n, s);
         place(scratch, n, s, t, narrow);
         i += 1;
@@ -78,12 +84,12 @@ fn place_all(scratch: &mut [u16], n: usize, m: usize, narrow: bool)
 // Sets the words of the members from base on to 0.
 fn erase(scratch: &mut [u16], n: usize, base: usize, from: usize, to: usize)
     requires { ⌜ Members n from to (now scratch) ⌝ }
-    requires { ⌜ base + n ≤ 4 * n ⌝ }
+    requires { ⌜ base + n ≤ membersArea n ⌝ }
     ensures { λ _. ⌜ left scratch ≡ stored base nought (was scratch) (membersOf n from to (was scratch)) ⌝ }
 {
     let mut i = from;
     while i < to {
-        let at = base + wide(scratch[4 * n + i]) - 1;
+        let at = base + wide(scratch[MEMBERS * n + i]) - 1;
         scratch[at] = 0;
         i += 1;
     }
@@ -127,43 +133,44 @@ fn blank(scratch: &mut [u16], a: usize, count: usize)
 
 // Sets the words of a part to 0 but for its levels, in the time of the part.
 fn tidy(scratch: &mut [u16], n: usize, from: usize, to: usize, k: usize)
-    requires { ⌜ 6 * n ≤ length (now scratch) ⌝ }
+    requires { ⌜ areasEnd n ≤ length (now scratch) ⌝ }
     requires { ⌜ Clearable n from to k (workOf n (now scratch)) ⌝ }
-    ensures { λ _. ⌜ workOf n (left scratch) ≡ zeroed (4 * n) (workOf n (was scratch)) ⌝ }
+    ensures { λ _. ⌜ workOf n (left scratch) ≡ zeroed (membersArea n) (workOf n (was scratch)) ⌝ }
     ensures { λ _. ⌜ heldOf n (left scratch) ≡ heldOf n (was scratch) ⌝ }
 {
     erase(scratch, n, 0, from, to);
-    erase(scratch, n, 2 * n, from, to);
+    erase(scratch, n, SECOND * n, from, to);
     blank(scratch, n, to - from);
-    blank(scratch, 5 * n, to - from);
-    blank(scratch, 6 * n - k, k);
+    blank(scratch, TALLY * n, to - from);
+    blank(scratch, AREAS * n - k, k);
 }
 
-// Copies the words of the members from the fourth area to the sixth.
+// Copies the words of the members from MERGED to TALLY.
 fn copy_levels(scratch: &mut [u16], n: usize, from: usize, to: usize)
-    requires { ⌜ 6 * n ≤ length (now scratch) ⌝ }
+    requires { ⌜ areasEnd n ≤ length (now scratch) ⌝ }
     requires { ⌜ Members n from to (now scratch) ⌝ }
-    ensures { λ _. ⌜ left scratch ≡ stored (5 * n) (numberAt (3 * n) (was scratch)) (was scratch) (membersOf n from to (was scratch)) ⌝ }
+    ensures { λ _. ⌜ left scratch ≡ stored (tallyArea n) (numberAt (mergedArea n) (was scratch)) (was scratch) (membersOf n from to (was scratch)) ⌝ }
 {
     let mut i = from;
     while i < to {
-        let z = wide(scratch[4 * n + i]);
-        scratch[5 * n + z - 1] = scratch[3 * n + z - 1];
+        let z = wide(scratch[MEMBERS * n + i]);
+        scratch[TALLY * n + z - 1] = scratch[MERGED * n + z - 1];
         i += 1;
     }
 }
 
-// Moves the levels of a part to the sixth area, which is 0.
+// Moves the levels of a part from MERGED to TALLY, which is 0.
 fn move_levels(scratch: &mut [u16], n: usize, from: usize, to: usize)
     requires { ⌜ Movable n from to (now scratch) ⌝ }
     ensures { λ _. ⌜ left scratch ≡ swapped n (was scratch) ⌝ }
 {
     copy_levels(scratch, n, from, to);
-    erase(scratch, n, 3 * n, from, to);
+    erase(scratch, n, MERGED * n, from, to);
 }
 
-// The combined levels of the part whose members stand from..to: in the sixth area, n words by old number, and the greatest level count. The
-// first four areas are 0 afterwards. Meanwhile the levels stand where the queue of the search from u was, which is cleared for them.
+// The combined levels of the part whose members stand from..to: in TALLY, n words by old number, and the greatest level count. The four
+// areas in front of MEMBERS are 0 afterwards. Meanwhile the levels stand in MERGED, where the queue of the search from u was, which is cleared
+// for them.
 pub fn combine(
     starts: &[u16],
     neighbours: &[u16],
@@ -175,16 +182,16 @@ pub fn combine(
     width_u: u16,
 ) -> u16
     requires { ⌜ graphRefusal (now starts) (now neighbours) ≡ 0 ⌝ }
-    requires { ⌜ Given (graphOf (now starts) (now neighbours)) from to k «width_v» «width_u» (wordsOf (sizeOf (now starts)) (now scratch)) (slice (5 * sizeOf (now starts)) (6 * sizeOf (now starts)) (now scratch)) ⌝ }
+    requires { ⌜ Given (graphOf (now starts) (now neighbours)) from to k «width_v» «width_u» (wordsOf (sizeOf (now starts)) (now scratch)) (slice (tallyArea (sizeOf (now starts))) (areasEnd (sizeOf (now starts))) (now scratch)) ⌝ }
     ensures { λ r. ⌜ r ≡ widthOf k (combined (graphOf (was starts) (was neighbours)) (endsOf (graphOf (was starts) (was neighbours)) from (wordsOf (sizeOf (was starts)) (was scratch)))) ⌝ }
-    ensures { λ _. ⌜ left scratch ≡ zeroed (4 * sizeOf (was starts)) (wordsOf (sizeOf (was starts)) (was scratch)) ++ (merged (graphOf (was starts) (was neighbours)) (firstOf (sizeOf (was starts)) from (wordsOf (sizeOf (was starts)) (was scratch))) (endsOf (graphOf (was starts) (was neighbours)) from (wordsOf (sizeOf (was starts)) (was scratch))) (slice (5 * sizeOf (was starts)) (6 * sizeOf (was starts)) (was scratch)) ++ drop (6 * sizeOf (was starts)) (was scratch)) ⌝ }
+    ensures { λ _. ⌜ left scratch ≡ zeroed (membersArea (sizeOf (was starts))) (wordsOf (sizeOf (was starts)) (was scratch)) ++ (merged (graphOf (was starts) (was neighbours)) (firstOf (sizeOf (was starts)) from (wordsOf (sizeOf (was starts)) (was scratch))) (endsOf (graphOf (was starts) (was neighbours)) from (wordsOf (sizeOf (was starts)) (was scratch))) (slice (tallyArea (sizeOf (was starts))) (areasEnd (sizeOf (was starts))) (was scratch)) ++ drop (areasEnd (sizeOf (was starts))) (was scratch)) ⌝ }
 {
     let n = starts.len() - 1;
-    blank(scratch, 3 * n, to - from);
+    blank(scratch, MERGED * n, to - from);
     level(
         starts,
         neighbours,
-        &mut scratch[..6 * n],
+        &mut scratch[..AREAS * n],
         from,
         to,
         k,

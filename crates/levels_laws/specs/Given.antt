@@ -11,6 +11,7 @@ use Rattle.spec.specs.Ends.{Ends, ends}
 use Rattle.spec.specs.Graph.{Graph, nodes, ofNode}
 use Rattle.spec.specs.Levels.{levels, levelOf, levelList, part}
 use Rattle.laws.specs.Legal.{Node, LegalGraph}
+use Rattle.laws.specs.Scratch.{secondArea, mergedArea, membersArea, tallyArea}
 use Rattle.laws.specs.Structure.{EndsOf}
 use Rattle.levels_laws.specs.Model.{countOf}
 use Rattle.levels_laws.specs.Seek.{at}
@@ -18,7 +19,7 @@ use Rattle.levels_laws.specs.Starts.{membersOf}
 
 -- the first member of the part
 abbrev pub firstOf : ℕ → ℕ → List ℕ → ℕ
-firstOf n from W = getD W (4 * n + from) 0
+firstOf n from W = getD W (membersArea n + from) 0
 
 -- the ends of the part
 abbrev pub endsOf : Graph → ℕ → List ℕ → Ends
@@ -28,7 +29,7 @@ endsOf g from W = ends g (firstOf (g .size) from W)
 -- and u stand by old number, the queues behind them hold nothing past as many words as the part has nodes, and the levels are
 -- all 0.
 pub record Given (g : Graph) (from to k widthV widthU : ℕ) (W L : List ℕ) : Type 0 where
-  pub words : 5 * g .size ≤ length W
+  pub words : tallyArea (g .size) ≤ length W
   pub order : from < to
   pub most : to ≤ g .size
   pub members : membersOf (g .size) from to W ≡ part g (firstOf (g .size) from W)
@@ -36,9 +37,9 @@ pub record Given (g : Graph) (from to k widthV widthU : ℕ) (W L : List ℕ) : 
   pub width-v : widthV ≡ endsOf g from W .widthV
   pub width-u : widthU ≡ endsOf g from W .widthU
   pub firsts : take (g .size) W ≡ levelList g (levels g (endsOf g from W .v))
-  pub seconds : slice (2 * g .size) (3 * g .size) W ≡ levelList g (levels g (endsOf g from W .u))
-  pub queue-v : (i : ℕ) → g .size + (to - from) ≤ i → i < 2 * g .size → getD W i 0 ≡ 0
-  pub queue-u : (i : ℕ) → 3 * g .size + (to - from) ≤ i → i < 4 * g .size → getD W i 0 ≡ 0
+  pub seconds : slice (secondArea (g .size)) (mergedArea (g .size)) W ≡ levelList g (levels g (endsOf g from W .u))
+  pub queue-v : (i : ℕ) → g .size + (to - from) ≤ i → i < secondArea (g .size) → getD W i 0 ≡ 0
+  pub queue-u : (i : ℕ) → mergedArea (g .size) + (to - from) ≤ i → i < membersArea (g .size) → getD W i 0 ≡ 0
   pub clean : L ≡ replicate (g .size) 0
 
 -- the levels afterwards: the part's nodes have their combined levels, every other node what it had

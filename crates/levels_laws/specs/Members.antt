@@ -7,6 +7,7 @@ use lib.ListN.{length, getD, set}
 use lib.Dec.{eqb}
 use Rattle.basis.specs.Lists.{memb}
 use Rattle.basis.specs.Perm.{Once}
+use Rattle.laws.specs.Scratch.{secondArea, mergedArea, membersArea, tallyArea, areasEnd}
 use Rattle.levels_laws.specs.Starts.{membersOf}
 
 -- the members from..to are nodes, each once
@@ -16,12 +17,12 @@ pub record Members (n from to : ℕ) (W : List ℕ) : Type 0 where
   pub most : to ≤ n
   pub words : 5 * n ≤ length W
   pub once : Once (membersOf n from to W)
-  pub low : (i : ℕ) → from ≤ i → i < to → 1 ≤ getD W (4 * n + i) 0
-  pub high : (i : ℕ) → from ≤ i → i < to → getD W (4 * n + i) 0 ≤ n
+  pub low : (i : ℕ) → from ≤ i → i < to → 1 ≤ getD W (membersArea n + i) 0
+  pub high : (i : ℕ) → from ≤ i → i < to → getD W (membersArea n + i) 0 ≤ n
 
 -- node z is settled: its two numbers are equal
 abbrev pub settledAt : ℕ → List ℕ → ℕ → Bool
-settledAt n W z = eqb (getD W (z - 1) 0) (getD W (2 * n + z - 1) 0)
+settledAt n W z = eqb (getD W (z - 1) 0) (getD W (secondArea n + z - 1) 0)
 
 -- the words W after each of the nodes zs got its word, of those that start at base
 unfoldable pub stored : ℕ → (ℕ → ℕ) → List ℕ → List ℕ → List ℕ
@@ -30,7 +31,7 @@ stored base f W (z ∷ zs) = stored base f (set W (base + z - 1) (f z)) zs
 
 -- the level of z counted from the other end of k
 abbrev pub mirroredAt : ℕ → ℕ → List ℕ → ℕ → ℕ
-mirroredAt n k W z = k + 1 - getD W (2 * n + z - 1) 0
+mirroredAt n k W z = k + 1 - getD W (secondArea n + z - 1) 0
 
 -- 0 for every node
 abbrev pub nought : ℕ → ℕ
@@ -40,7 +41,7 @@ nought z = 0
 pub record Mirrorable (n from to k : ℕ) (W : List ℕ) : Type 0 where
   pub members : Members n from to W
   pub few : k ≤ 4096
-  pub most : (q : ℕ) → memb q (membersOf n from to W) ≡ true → getD W (2 * n + q - 1) 0 ≤ k
+  pub most : (q : ℕ) → memb q (membersOf n from to W) ≡ true → getD W (secondArea n + q - 1) 0 ≤ k
 
 -- what is asked before the words of a part are cleared: outside the members, past as many words of the queue and of the starts as there are
 -- members, and past level k all is 0
@@ -52,9 +53,9 @@ pub record Clearable (n from to k : ℕ) (W : List ℕ) : Type 0 where
   pub queue : (i : ℕ) → n + (to - from) ≤ i → i < 2 * n → getD W i 0 ≡ 0
   pub starts : (i : ℕ) → 3 * n + (to - from) ≤ i → i + k < 4 * n → getD W i 0 ≡ 0
 
--- what is asked before the levels of a part are moved from the fourth area to the sixth: outside the members, and in the sixth, all is 0
+-- what is asked before the levels of a part are moved from MERGED to TALLY: outside the members, and in TALLY, all is 0
 pub record Movable (n from to : ℕ) (X : List ℕ) : Type 0 where
-  pub room : 6 * n ≤ length X
+  pub room : areasEnd n ≤ length X
   pub members : Members n from to X
-  pub levels : (q : ℕ) → 1 ≤ q → q ≤ n → memb q (membersOf n from to X) ≡ false → getD X (3 * n + q - 1) 0 ≡ 0
-  pub spare : (i : ℕ) → 5 * n ≤ i → i < 6 * n → getD X i 0 ≡ 0
+  pub levels : (q : ℕ) → 1 ≤ q → q ≤ n → memb q (membersOf n from to X) ≡ false → getD X (mergedArea n + q - 1) 0 ≡ 0
+  pub spare : (i : ℕ) → tallyArea n ≤ i → i < areasEnd n → getD X i 0 ≡ 0

@@ -1,5 +1,6 @@
-// The words of a part, n each: first numbers, a queue of nodes, second numbers, levels by old number, words that are not used here, words
-// that end in the counts of the levels. Level i has the count word 6n - i. The callers have seen to the room and the ranges.
+// Of the scratch's areas (`graph_words::areas`) FIRST and SECOND have the first and the second numbers, QUEUE the nodes, MERGED the levels by
+// old number, and TALLY ends in the counts of the levels: level i has the word 6n - i, in the model 4n - i. The callers have seen to the
+// room and the ranges.
 ghost use mathlib.Core.Path.{_≡_};
 ghost use mathlib.Core.Bool.{cond};
 ghost use Prim.Native.Nat.{_+_, _*_, _≤_, _<_};
@@ -7,28 +8,32 @@ ghost use lib.ListN.{length};
 ghost use mathlib.Core.List.{map};
 ghost use Rattle.basis.specs.Lists.{upFrom, greatest};
 ghost use Rattle.basis.specs.Moments.{was, left};
+ghost use Rattle.laws.specs.Scratch.{secondArea, areasEnd};
 ghost use Rattle.levels_laws.specs.Areas.{workOf, heldOf};
 ghost use Rattle.levels_laws.specs.Tally.{tally, untally};
 ghost use Rattle.levels_laws.specs.Model.{slotAt, countOf, queued, slots, peakOf, written, numberAt, goesSecond, chosen, Readable, Countable, Full, Placeable};
+use graph_words::areas::AREAS;
+use graph_words::areas::MERGED;
+use graph_words::areas::SECOND;
 use graph_words::larger;
 use graph_words::wide;
 
 // The count word of the p-th node of the queue, by the numbers that start at base.
 fn slot(scratch: &[u16], n: usize, base: usize, s: usize, t: usize, p: usize) -> usize
-    requires { ⌜ 6 * n ≤ length (now scratch) ⌝ }
+    requires { ⌜ areasEnd n ≤ length (now scratch) ⌝ }
     requires { ⌜ Readable n base s t (workOf n (now scratch)) ⌝ }
     requires { ⌜ (s ≤ p) × (p < t) ⌝ }
     ensures { λ r. ⌜ r ≡ 2 * n + slotAt n base (workOf n (was scratch)) p ⌝ }
 {
     let z = wide(scratch[n + p]);
     let i = wide(scratch[base + z - 1]);
-    6 * n - i
+    AREAS * n - i
 }
 
 // Adds the nodes s..t of the queue to the counts. Returns the greatest count that it writes: counts only grow, so it is the
 // greatest of the levels that the nodes touch.
 fn raise(scratch: &mut [u16], n: usize, base: usize, s: usize, t: usize) -> usize
-    requires { ⌜ 6 * n ≤ length (now scratch) ⌝ }
+    requires { ⌜ areasEnd n ≤ length (now scratch) ⌝ }
     requires { ⌜ Countable n base s t (workOf n (now scratch)) ⌝ }
     ensures { λ r. ⌜ r ≡ peakOf n base s t (workOf n (was scratch)) ⌝ }
     ensures { λ _. ⌜ workOf n (left scratch) ≡ tally (workOf n (was scratch)) (slots n base s t (workOf n (was scratch))) ⌝ }
@@ -48,7 +53,7 @@ fn raise(scratch: &mut [u16], n: usize, base: usize, s: usize, t: usize) -> usiz
 
 // Takes the nodes s..t of the queue from the counts, which hold them.
 fn lower(scratch: &mut [u16], n: usize, base: usize, s: usize, t: usize)
-    requires { ⌜ 6 * n ≤ length (now scratch) ⌝ }
+    requires { ⌜ areasEnd n ≤ length (now scratch) ⌝ }
     requires { ⌜ Full n base s t (workOf n (now scratch)) ⌝ }
     ensures { λ _. ⌜ workOf n (left scratch) ≡ untally (workOf n (was scratch)) (slots n base s t (workOf n (was scratch))) ⌝ }
     ensures { λ _. ⌜ heldOf n (left scratch) ≡ heldOf n (was scratch) ⌝ }
@@ -64,7 +69,7 @@ fn lower(scratch: &mut [u16], n: usize, base: usize, s: usize, t: usize)
 
 // h, or l: the greatest count among the levels that the piece touches. The counts are as before.
 fn peak(scratch: &mut [u16], n: usize, base: usize, s: usize, t: usize) -> usize
-    requires { ⌜ 6 * n ≤ length (now scratch) ⌝ }
+    requires { ⌜ areasEnd n ≤ length (now scratch) ⌝ }
     requires { ⌜ Countable n base s t (workOf n (now scratch)) ⌝ }
     ensures { λ r. ⌜ r ≡ peakOf n base s t (workOf n (was scratch)) ⌝ }
     ensures { λ _. ⌜ workOf n (left scratch) ≡ workOf n (was scratch) ⌝ }
@@ -85,7 +90,7 @@ fn put(scratch: &mut [u16], n: usize, base: usize, s: usize, t: usize)
     let mut p = s;
     while p < t {
         let z = wide(scratch[n + p]);
-        scratch[3 * n + z - 1] = scratch[base + z - 1];
+        scratch[MERGED * n + z - 1] = scratch[base + z - 1];
         p += 1;
     }
 }
@@ -105,15 +110,15 @@ pub fn settle(scratch: &mut [u16], n: usize, base: usize, s: usize, t: usize)
 // width is less than v's", which narrow says.
 fn choose(n: usize, h: usize, l: usize, narrow: bool) -> usize
     requires { ⌜ n ≤ 4096 ⌝ }
-    ensures { λ r. ⌜ r ≡ cond (goesSecond h l narrow) (2 * n) 0 ⌝ }
+    ensures { λ r. ⌜ r ≡ cond (goesSecond h l narrow) (secondArea n) 0 ⌝ }
 {
     if l < h {
-        return 2 * n;
+        return SECOND * n;
     }
     if h < l {
         return 0;
     }
-    if narrow { 2 * n } else { 0 }
+    if narrow { SECOND * n } else { 0 }
 }
 
 // Places the piece s..t of the queue against the counts as they now are.
@@ -123,21 +128,21 @@ pub fn place(scratch: &mut [u16], n: usize, s: usize, t: usize, narrow: bool)
     ensures { λ _. ⌜ heldOf n (left scratch) ≡ written (numberAt (chosen n s t narrow (workOf n (was scratch))) (workOf n (was scratch))) (heldOf n (was scratch)) (queued n s t (workOf n (was scratch))) ⌝ }
 {
     let h = peak(scratch, n, 0, s, t);
-    let l = peak(scratch, n, 2 * n, s, t);
+    let l = peak(scratch, n, SECOND * n, s, t);
     let base = choose(n, h, l, narrow);
     settle(scratch, n, base, s, t);
 }
 
 // The greatest count of the levels 1..k.
 pub fn widest(scratch: &[u16], n: usize, k: usize) -> usize
-    requires { ⌜ (n ≤ 4096) × (k ≤ n) × (6 * n ≤ length (now scratch)) ⌝ }
+    requires { ⌜ (n ≤ 4096) × (k ≤ n) × (areasEnd n ≤ length (now scratch)) ⌝ }
     ensures { λ r. ⌜ r ≡ greatest (map (countOf n (workOf n (was scratch))) (upFrom 1 k)) ⌝ }
 {
     let mut top = 0;
     let mut i = 0;
     while i < k {
         i += 1;
-        top = larger(top, wide(scratch[6 * n - i]));
+        top = larger(top, wide(scratch[AREAS * n - i]));
     }
     top
 }
