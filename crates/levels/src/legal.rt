@@ -3,15 +3,15 @@
 // the ends are found. That then has the counts of the levels, and at last the combined levels.
 ghost use mathlib.Core.Path.{_≡_};
 ghost use Prim.Native.Nat.{_≤_};
-ghost use mathlib.Core.List.{_++_};
-ghost use lib.ListN.{length, take, drop, replicate};
-ghost use lib.Seq.{sets, slice};
+ghost use lib.ListN.{length, take, replicate};
+ghost use lib.Seq.{sets};
 ghost use Rattle.basis.specs.Moments.{was, left};
-ghost use Rattle.spec.specs.Graph.{graphOf, sizeOf, graphRefusal, outside};
+ghost use Rattle.spec.specs.Graph.{graphRefusal, outside};
 ghost use Rattle.spec.specs.Levels.{part};
-ghost use Rattle.laws.specs.Scratch.{secondArea, membersArea, tallyArea, areasEnd};
-ghost use Rattle.levels_laws.specs.Areas.{wordsOf};
-ghost use Rattle.levels_laws.specs.Given.{firstOf, endsOf, merged};
+ghost use Rattle.laws.specs.Handed.{graphNow, sizeNow, graphWas, sizeWas};
+ghost use Rattle.laws.specs.Scratch.{secondArea, membersArea, tallyArea};
+ghost use Rattle.levels_laws.specs.Areas.{wordsOf, tallyOf};
+ghost use Rattle.levels_laws.specs.Slices.{endsIn, withLevels};
 ghost use Rattle.levels.specs.Part.{placed, PartGiven, partLevelsOf};
 use crate::shape::PartLevels;
 use graph_words::areas::MEMBERS;
@@ -58,11 +58,11 @@ fn collect(scratch: &mut [u16], n: usize) -> usize
 // The members of the part of `node`, rising, from the start of MEMBERS on. Returns how many there are.
 pub fn gather_part(starts: &[u16], neighbours: &[u16], node: u16, scratch: &mut [u16]) -> usize
     requires { ⌜ graphRefusal (now starts) (now neighbours) ≡ 0 ⌝ }
-    requires { ⌜ (1 ≤ node) × (node ≤ sizeOf (now starts)) ⌝ }
-    requires { ⌜ tallyArea (sizeOf (now starts)) ≤ length (now scratch) ⌝ }
-    requires { ⌜ take (secondArea (sizeOf (now starts))) (now scratch) ≡ replicate (secondArea (sizeOf (now starts))) 0 ⌝ }
-    ensures { λ r. ⌜ r ≡ length (part (graphOf (was starts) (was neighbours)) node) ⌝ }
-    ensures { λ _. ⌜ left scratch ≡ sets (was scratch) (membersArea (sizeOf (was starts))) (part (graphOf (was starts) (was neighbours)) node) ⌝ }
+    requires { ⌜ (1 ≤ node) × (node ≤ sizeNow starts) ⌝ }
+    requires { ⌜ tallyArea (sizeNow starts) ≤ length (now scratch) ⌝ }
+    requires { ⌜ take (secondArea (sizeNow starts)) (now scratch) ≡ replicate (secondArea (sizeNow starts)) 0 ⌝ }
+    ensures { λ r. ⌜ r ≡ length (part (graphWas starts neighbours) node) ⌝ }
+    ensures { λ _. ⌜ left scratch ≡ sets (was scratch) (membersArea (sizeWas starts)) (part (graphWas starts neighbours) node) ⌝ }
 {
     let n = starts.len() - 1;
     let s = search(starts, neighbours, node, n, &mut scratch[0..SECOND * n]);
@@ -80,9 +80,9 @@ pub fn combine_part(
     to: usize,
 ) -> PartLevels
     requires { ⌜ graphRefusal (now starts) (now neighbours) ≡ 0 ⌝ }
-    requires { ⌜ PartGiven (graphOf (now starts) (now neighbours)) from to (wordsOf (sizeOf (now starts)) (now scratch)) (slice (tallyArea (sizeOf (now starts))) (areasEnd (sizeOf (now starts))) (now scratch)) ⌝ }
-    ensures { λ r. ⌜ r ≡ partLevelsOf (graphOf (was starts) (was neighbours)) (endsOf (graphOf (was starts) (was neighbours)) from (wordsOf (sizeOf (was starts)) (was scratch))) ⌝ }
-    ensures { λ _. ⌜ left scratch ≡ wordsOf (sizeOf (was starts)) (was scratch) ++ (merged (graphOf (was starts) (was neighbours)) (firstOf (sizeOf (was starts)) from (wordsOf (sizeOf (was starts)) (was scratch))) (endsOf (graphOf (was starts) (was neighbours)) from (wordsOf (sizeOf (was starts)) (was scratch))) (slice (tallyArea (sizeOf (was starts))) (areasEnd (sizeOf (was starts))) (was scratch)) ++ drop (areasEnd (sizeOf (was starts))) (was scratch)) ⌝ }
+    requires { ⌜ PartGiven (graphNow starts neighbours) from to (wordsOf (sizeNow starts) (now scratch)) (tallyOf (sizeNow starts) (now scratch)) ⌝ }
+    ensures { λ r. ⌜ r ≡ partLevelsOf (graphWas starts neighbours) (endsIn (graphWas starts neighbours) from (was scratch)) ⌝ }
+    ensures { λ _. ⌜ left scratch ≡ withLevels (graphWas starts neighbours) from (was scratch) (wordsOf (sizeWas starts) (was scratch)) ⌝ }
 {
     let n = starts.len() - 1;
     let first = first_in_e(starts, &scratch[MEMBERS * n + from..MEMBERS * n + to]);

@@ -5,8 +5,9 @@ ghost use lib.ListN.{length};
 ghost use Rattle.basis.specs.Moments.{was, left};
 ghost use Rattle.spec.specs.Combined.{combined};
 ghost use Rattle.spec.specs.Ends.{ends};
-ghost use Rattle.spec.specs.Graph.{graphOf, sizeOf, graphRefusal};
+ghost use Rattle.spec.specs.Graph.{graphRefusal};
 ghost use Rattle.spec.specs.Lent.{zeroed, wordsPerNode};
+ghost use Rattle.laws.specs.Handed.{sizeNow, graphWas, sizeWas};
 ghost use Rattle.levels_ends.specs.Answer.{foundOf};
 ghost use Rattle.levels.specs.Part.{partLevelsOf};
 use crate::legal::WORDS_PER_NODE;
@@ -23,10 +24,10 @@ use levels_ends::shape::Found;
 // The ends of the part of `node`, in scratch that is set to 0 before and after.
 pub(crate) fn find_ends(starts: &[u16], neighbours: &[u16], node: u16, scratch: &mut [u16]) -> Found
     requires { ⌜ graphRefusal (now starts) (now neighbours) ≡ 0 ⌝ }
-    requires { ⌜ (1 ≤ node) × (node ≤ sizeOf (now starts)) ⌝ }
-    requires { ⌜ wordsPerNode * sizeOf (now starts) ≤ length (now scratch) ⌝ }
-    ensures { λ r. ⌜ r ≡ foundOf (ends (graphOf (was starts) (was neighbours)) node) ⌝ }
-    ensures { λ _. ⌜ left scratch ≡ zeroed (wordsPerNode * sizeOf (was starts)) (was scratch) ⌝ }
+    requires { ⌜ (1 ≤ node) × (node ≤ sizeNow starts) ⌝ }
+    requires { ⌜ wordsPerNode * sizeNow starts ≤ length (now scratch) ⌝ }
+    ensures { λ r. ⌜ r ≡ foundOf (ends (graphWas starts neighbours) node) ⌝ }
+    ensures { λ _. ⌜ left scratch ≡ zeroed (wordsPerNode * sizeWas starts) (was scratch) ⌝ }
 {
     let n = starts.len() - 1;
     let half = n + n;
@@ -58,12 +59,12 @@ pub(crate) fn find_levels(
     scratch: &mut [u16],
 ) -> PartLevels
     requires { ⌜ graphRefusal (now starts) (now neighbours) ≡ 0 ⌝ }
-    requires { ⌜ (1 ≤ node) × (node ≤ sizeOf (now starts)) ⌝ }
-    requires { ⌜ length (now levels) ≡ sizeOf (now starts) ⌝ }
-    requires { ⌜ wordsPerNode * sizeOf (now starts) ≤ length (now scratch) ⌝ }
-    ensures { λ r. ⌜ r ≡ partLevelsOf (graphOf (was starts) (was neighbours)) (ends (graphOf (was starts) (was neighbours)) node) ⌝ }
-    ensures { λ _. ⌜ left levels ≡ combined (graphOf (was starts) (was neighbours)) (ends (graphOf (was starts) (was neighbours)) node) ⌝ }
-    ensures { λ _. ⌜ left scratch ≡ zeroed (wordsPerNode * sizeOf (was starts)) (was scratch) ⌝ }
+    requires { ⌜ (1 ≤ node) × (node ≤ sizeNow starts) ⌝ }
+    requires { ⌜ length (now levels) ≡ sizeNow starts ⌝ }
+    requires { ⌜ wordsPerNode * sizeNow starts ≤ length (now scratch) ⌝ }
+    ensures { λ r. ⌜ r ≡ partLevelsOf (graphWas starts neighbours) (ends (graphWas starts neighbours) node) ⌝ }
+    ensures { λ _. ⌜ left levels ≡ combined (graphWas starts neighbours) (ends (graphWas starts neighbours) node) ⌝ }
+    ensures { λ _. ⌜ left scratch ≡ zeroed (wordsPerNode * sizeWas starts) (was scratch) ⌝ }
 {
     let n = starts.len() - 1;
     clear(scratch, WORDS_PER_NODE * n);

@@ -3,23 +3,24 @@
 // and their sort have a word for each loose node, and each level has a settled one. The end search uses the four areas in front of MEMBERS,
 // and TALLY, 0 until then, has the levels in the end.
 ghost use mathlib.Core.Path.{_≡_};
-ghost use mathlib.Core.List.{_++_};
-ghost use Prim.Native.Nat.{_+_, _-_, _≤_, _<_};
-ghost use lib.ListN.{length, drop, replicate};
-ghost use lib.Seq.{sets, slice};
+ghost use Prim.Native.Nat.{_+_, _-_, _≤_};
+ghost use lib.ListN.{length, replicate};
+ghost use lib.Seq.{sets};
 ghost use lib.Dec.{ltb};
 ghost use Rattle.basis.specs.Lists.{filterb};
 ghost use Rattle.basis.specs.Moments.{was, left};
 ghost use Rattle.spec.specs.Combined.{combined, widthOf};
-ghost use Rattle.spec.specs.Graph.{graphOf, sizeOf, graphRefusal};
+ghost use Rattle.spec.specs.Graph.{graphRefusal};
 ghost use Rattle.spec.specs.Lent.{zeroed};
+ghost use Rattle.laws.specs.Handed.{graphNow, sizeNow, graphWas, sizeWas};
 ghost use Rattle.laws.specs.Scratch.{secondArea, mergedArea, membersArea, tallyArea, areasEnd};
-ghost use Rattle.levels_laws.specs.Areas.{wordsOf, swapped, workOf, heldOf};
+ghost use Rattle.levels_laws.specs.Areas.{wordsOf, tallyOf, swapped, workOf, heldOf};
 ghost use Rattle.levels_laws.specs.Model.{numberAt};
 ghost use Rattle.levels_laws.specs.Starts.{startsOf, membersOf};
 ghost use Rattle.levels_laws.specs.Placed.{wordsAfter, levelsAfter, PlaceableAll};
-ghost use Rattle.levels_laws.specs.Given.{firstOf, endsOf, Given, merged, Entry, Levelled};
+ghost use Rattle.levels_laws.specs.Given.{Given};
 ghost use Rattle.levels_laws.specs.Members.{Members, Mirrorable, Clearable, Movable, settledAt, stored, mirroredAt, nought};
+ghost use Rattle.levels_laws.specs.Slices.{endsIn, workEnds, EntryIn, LevelledIn, withLevels};
 use graph_words::areas::AREAS;
 use graph_words::areas::MEMBERS;
 use graph_words::areas::MERGED;
@@ -106,10 +107,10 @@ fn level(
     narrow: bool,
 )
     requires { ⌜ graphRefusal (now starts) (now neighbours) ≡ 0 ⌝ }
-    requires { ⌜ Entry (graphOf (now starts) (now neighbours)) (firstOf (sizeOf (now starts)) from (workOf (sizeOf (now starts)) (now scratch))) (endsOf (graphOf (now starts) (now neighbours)) from (workOf (sizeOf (now starts)) (now scratch))) (sizeOf (now starts)) from to (workOf (sizeOf (now starts)) (now scratch)) (heldOf (sizeOf (now starts)) (now scratch)) ⌝ }
-    requires { ⌜ k ≡ endsOf (graphOf (now starts) (now neighbours)) from (workOf (sizeOf (now starts)) (now scratch)) .k ⌝ }
-    requires { ⌜ narrow ≡ ltb (endsOf (graphOf (now starts) (now neighbours)) from (workOf (sizeOf (now starts)) (now scratch)) .widthU) (endsOf (graphOf (now starts) (now neighbours)) from (workOf (sizeOf (now starts)) (now scratch)) .widthV) ⌝ }
-    ensures { λ _. ⌜ Levelled (graphOf (was starts) (was neighbours)) (firstOf (sizeOf (was starts)) from (workOf (sizeOf (was starts)) (was scratch))) (endsOf (graphOf (was starts) (was neighbours)) from (workOf (sizeOf (was starts)) (was scratch))) (sizeOf (was starts)) from to (workOf (sizeOf (was starts)) (was scratch)) (heldOf (sizeOf (was starts)) (was scratch)) (workOf (sizeOf (was starts)) (left scratch)) (heldOf (sizeOf (was starts)) (left scratch)) ⌝ }
+    requires { ⌜ EntryIn (graphNow starts neighbours) from to (now scratch) ⌝ }
+    requires { ⌜ k ≡ workEnds (graphNow starts neighbours) from (now scratch) .k ⌝ }
+    requires { ⌜ narrow ≡ ltb (workEnds (graphNow starts neighbours) from (now scratch) .widthU) (workEnds (graphNow starts neighbours) from (now scratch) .widthV) ⌝ }
+    ensures { λ _. ⌜ LevelledIn (graphWas starts neighbours) from to (was scratch) (left scratch) ⌝ }
 {
     let n = starts.len() - 1;
     mirror(scratch, n, from, to, k);
@@ -182,9 +183,9 @@ pub fn combine(
     width_u: u16,
 ) -> u16
     requires { ⌜ graphRefusal (now starts) (now neighbours) ≡ 0 ⌝ }
-    requires { ⌜ Given (graphOf (now starts) (now neighbours)) from to k «width_v» «width_u» (wordsOf (sizeOf (now starts)) (now scratch)) (slice (tallyArea (sizeOf (now starts))) (areasEnd (sizeOf (now starts))) (now scratch)) ⌝ }
-    ensures { λ r. ⌜ r ≡ widthOf k (combined (graphOf (was starts) (was neighbours)) (endsOf (graphOf (was starts) (was neighbours)) from (wordsOf (sizeOf (was starts)) (was scratch)))) ⌝ }
-    ensures { λ _. ⌜ left scratch ≡ zeroed (membersArea (sizeOf (was starts))) (wordsOf (sizeOf (was starts)) (was scratch)) ++ (merged (graphOf (was starts) (was neighbours)) (firstOf (sizeOf (was starts)) from (wordsOf (sizeOf (was starts)) (was scratch))) (endsOf (graphOf (was starts) (was neighbours)) from (wordsOf (sizeOf (was starts)) (was scratch))) (slice (tallyArea (sizeOf (was starts))) (areasEnd (sizeOf (was starts))) (was scratch)) ++ drop (areasEnd (sizeOf (was starts))) (was scratch)) ⌝ }
+    requires { ⌜ Given (graphNow starts neighbours) from to k «width_v» «width_u» (wordsOf (sizeNow starts) (now scratch)) (tallyOf (sizeNow starts) (now scratch)) ⌝ }
+    ensures { λ r. ⌜ r ≡ widthOf k (combined (graphWas starts neighbours) (endsIn (graphWas starts neighbours) from (was scratch))) ⌝ }
+    ensures { λ _. ⌜ left scratch ≡ withLevels (graphWas starts neighbours) from (was scratch) (zeroed (membersArea (sizeWas starts)) (wordsOf (sizeWas starts) (was scratch))) ⌝ }
 {
     let n = starts.len() - 1;
     blank(scratch, MERGED * n, to - from);

@@ -6,9 +6,10 @@ ghost use Prim.Native.Nat.{ℕ, _+_, _≤_};
 ghost use lib.ListN.{length, drop, replicate};
 ghost use lib.Seq.{slice};
 ghost use Rattle.basis.specs.Moments.{was, left};
-ghost use Rattle.spec.specs.Graph.{graphOf, sizeOf, graphRefusal, firstInE};
+ghost use Rattle.spec.specs.Graph.{graphOf, graphRefusal, firstInE};
 ghost use Rattle.spec.specs.Levels.{levels, part};
 ghost use Rattle.spec.specs.Ends.{ends};
+ghost use Rattle.laws.specs.Handed.{graphNow, sizeNow, graphWas};
 ghost use Rattle.laws.specs.Legal.{Starts};
 ghost use Rattle.levels_search.specs.Answer.{rootedOf, Searched};
 ghost use Rattle.levels_search.specs.Queue.{Queued};
@@ -27,7 +28,7 @@ use levels_sort::legal::by_e;
 // The first of some nodes in E.
 pub fn first_in_e(starts: &[u16], nodes: &[u16]) -> u16
     requires { ⌜ ((neighbours : List ℕ) × Starts (now starts) neighbours) ⌝ }
-    requires { ⌜ Nodes (sizeOf (now starts)) (now nodes) ⌝ }
+    requires { ⌜ Nodes (sizeNow starts) (now nodes) ⌝ }
     requires { ⌜ 1 ≤ length (now nodes) ⌝ }
     ensures { λ r. ⌜ ((neighbours : List ℕ) → Starts (was starts) neighbours → r ≡ firstInE (graphOf (was starts) neighbours) (was nodes)) ⌝ }
 {
@@ -46,9 +47,9 @@ pub fn first_in_e(starts: &[u16], nodes: &[u16]) -> u16
 // Step 1: "v is the part's first node in E", for the part of `node`. The 2n words are 0 before and after.
 pub fn first_of_part(starts: &[u16], neighbours: &[u16], node: u16, work: &mut [u16]) -> u16
     requires { ⌜ graphRefusal (now starts) (now neighbours) ≡ 0 ⌝ }
-    requires { ⌜ (1 ≤ node) × (node ≤ sizeOf (now starts)) ⌝ }
-    requires { ⌜ now work ≡ replicate (sizeOf (now starts) + sizeOf (now starts)) 0 ⌝ }
-    ensures { λ r. ⌜ r ≡ firstInE (graphOf (was starts) (was neighbours)) (part (graphOf (was starts) (was neighbours)) node) ⌝ }
+    requires { ⌜ (1 ≤ node) × (node ≤ sizeNow starts) ⌝ }
+    requires { ⌜ now work ≡ replicate (sizeNow starts + sizeNow starts) 0 ⌝ }
+    ensures { λ r. ⌜ r ≡ firstInE (graphWas starts neighbours) (part (graphWas starts neighbours) node) ⌝ }
     ensures { λ _. ⌜ left work ≡ was work ⌝ }
 {
     let n = starts.len() - 1;
@@ -69,10 +70,10 @@ fn probe(
     work: &mut [u16],
 ) -> Rooted
     requires { ⌜ graphRefusal (now starts) (now neighbours) ≡ 0 ⌝ }
-    requires { ⌜ (1 ≤ s) × (s ≤ sizeOf (now starts)) ⌝ }
-    requires { ⌜ length (part (graphOf (now starts) (now neighbours)) s) ≤ most ⌝ }
-    requires { ⌜ Queued (sizeOf (now starts)) held (now work) ⌝ }
-    ensures { λ r. ⌜ r ≡ rootedOf (levels (graphOf (was starts) (was neighbours)) s) ⌝ }
+    requires { ⌜ (1 ≤ s) × (s ≤ sizeNow starts) ⌝ }
+    requires { ⌜ length (part (graphNow starts neighbours) s) ≤ most ⌝ }
+    requires { ⌜ Queued (sizeNow starts) held (now work) ⌝ }
+    ensures { λ r. ⌜ r ≡ rootedOf (levels (graphWas starts neighbours) s) ⌝ }
     ensures { λ _. ⌜ Searched (was starts) (was neighbours) s (left work) ⌝ }
 {
     let n = starts.len() - 1;
@@ -91,9 +92,9 @@ fn probe_other(
     work: &mut [u16],
 )
     requires { ⌜ graphRefusal (now starts) (now neighbours) ≡ 0 ⌝ }
-    requires { ⌜ (1 ≤ u) × (u ≤ sizeOf (now starts)) ⌝ }
-    requires { ⌜ length (part (graphOf (now starts) (now neighbours)) u) ≤ most ⌝ }
-    requires { ⌜ Queued (sizeOf (now starts)) held (now work) ⌝ }
+    requires { ⌜ (1 ≤ u) × (u ≤ sizeNow starts) ⌝ }
+    requires { ⌜ length (part (graphNow starts neighbours) u) ≤ most ⌝ }
+    requires { ⌜ Queued (sizeNow starts) held (now work) ⌝ }
     requires { ⌜ Searched (now starts) (now neighbours) s (now work) ⌝ }
     ensures { λ _. ⌜ Searched (was starts) (was neighbours) u (left work) ⌝ }
 {
@@ -226,11 +227,11 @@ fn take_over(work: &mut [u16], n: usize, count: usize)
 // The ends of the part whose first node in E is `first`, and the searches from them: v's in the first 2n words, u's in the second.
 pub fn ends_from(starts: &[u16], neighbours: &[u16], first: u16, work: &mut [u16]) -> Found
     requires { ⌜ graphRefusal (now starts) (now neighbours) ≡ 0 ⌝ }
-    requires { ⌜ (1 ≤ first) × (first ≤ sizeOf (now starts)) ⌝ }
-    requires { ⌜ first ≡ firstInE (graphOf (now starts) (now neighbours)) (part (graphOf (now starts) (now neighbours)) first) ⌝ }
-    requires { ⌜ now work ≡ replicate (sizeOf (now starts) + sizeOf (now starts) + (sizeOf (now starts) + sizeOf (now starts))) 0 ⌝ }
-    ensures { λ r. ⌜ r ≡ foundOf (ends (graphOf (was starts) (was neighbours)) first) ⌝ }
-    ensures { λ _. ⌜ Ended (was starts) (was neighbours) (ends (graphOf (was starts) (was neighbours)) first) (left work) ⌝ }
+    requires { ⌜ (1 ≤ first) × (first ≤ sizeNow starts) ⌝ }
+    requires { ⌜ first ≡ firstInE (graphNow starts neighbours) (part (graphNow starts neighbours) first) ⌝ }
+    requires { ⌜ now work ≡ replicate (sizeNow starts + sizeNow starts + (sizeNow starts + sizeNow starts)) 0 ⌝ }
+    ensures { λ r. ⌜ r ≡ foundOf (ends (graphWas starts neighbours) first) ⌝ }
+    ensures { λ _. ⌜ Ended (was starts) (was neighbours) (ends (graphWas starts neighbours) first) (left work) ⌝ }
 {
     let n = starts.len() - 1;
     let mut v = first;

@@ -10,11 +10,15 @@ use Rattle.laws.specs.Scratch.{mergedArea, membersArea, tallyArea, areasEnd}
 abbrev pub wordsOf : ℕ → List ℕ → List ℕ
 wordsOf n X = take (tallyArea n) X
 
+-- the sixth area
+abbrev pub tallyOf : ℕ → List ℕ → List ℕ
+tallyOf n X = slice (tallyArea n) (areasEnd n) X
+
 -- the slice with its fourth and its sixth area changed over
 unfoldable pub swapped : ℕ → List ℕ → List ℕ
 swapped n X =
     take (mergedArea n) X
-    ++ (slice (tallyArea n) (areasEnd n) X ++ (slice (membersArea n) (tallyArea n) X ++ (slice (mergedArea n) (membersArea n) X ++ drop (areasEnd n) X)))
+    ++ (tallyOf n X ++ (slice (membersArea n) (tallyArea n) X ++ (slice (mergedArea n) (membersArea n) X ++ drop (areasEnd n) X)))
 
 -- What is worked on, five areas: the words so changed over. FIRST, QUEUE, SECOND and MEMBERS stand where they were, at the words 0, n, 2n and
 -- 4n; at 3n stands TALLY. So level i has its count in word 4n - i.

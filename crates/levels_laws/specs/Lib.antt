@@ -7,3 +7,4 @@ pub mod Sizes
 pub mod Placed
 pub mod Members
 pub mod Given
+pub mod Slices

@@ -46,6 +46,13 @@ unfoldable pub written : (ℕ → ℕ) → List ℕ → List ℕ → List ℕ
 written f L [] = L
 written f L (z ∷ zs) = written f (set L (z - 1) (f z)) zs
 
+-- the words and the levels after the nodes s..t of the queue are placed by the numbers that start at base
+abbrev pub wordsBy : ℕ → ℕ → ℕ → ℕ → List ℕ → List ℕ
+wordsBy n base s t W = tally W (slots n base s t W)
+
+abbrev pub levelsBy : ℕ → ℕ → ℕ → ℕ → List ℕ → List ℕ → List ℕ
+levelsBy n base s t W L = written (numberAt base W) L (queued n s t W)
+
 -- by second numbers "if l < h", and if equal where `narrow` says that u's width is less than v's
 abbrev pub goesSecond : ℕ → ℕ → Bool → Bool
 goesSecond h l narrow = ltb l h || eqb l h && narrow

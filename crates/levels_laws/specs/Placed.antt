@@ -2,8 +2,7 @@
 use mathlib.Core.Bool.{Bool}
 use mathlib.Core.List.{List, [], _∷_}
 use Prim.Native.Nat.{ℕ, _+_, _*_, _≤_, _<_}
-use Rattle.levels_laws.specs.Tally.{tally}
-use Rattle.levels_laws.specs.Model.{nodeAt, queued, slots, numberAt, written, chosen, Placeable}
+use Rattle.levels_laws.specs.Model.{nodeAt, numberAt, wordsBy, levelsBy, chosen, Placeable}
 use Rattle.levels_laws.specs.Starts.{sizeAt, Standing}
 
 -- where the piece that starts at o ends
@@ -12,10 +11,10 @@ endOf n W L o = o + sizeAt n W L o
 
 -- the words and the levels after that piece is placed
 abbrev pub placedWords : ℕ → Bool → ℕ → List ℕ → List ℕ → List ℕ
-placedWords n narrow o W L = tally W (slots n (chosen n o (endOf n W L o) narrow W) o (endOf n W L o) W)
+placedWords n narrow o W L = wordsBy n (chosen n o (endOf n W L o) narrow W) o (endOf n W L o) W
 
 abbrev pub placedLevels : ℕ → Bool → ℕ → List ℕ → List ℕ → List ℕ
-placedLevels n narrow o W L = written (numberAt (chosen n o (endOf n W L o) narrow W) W) L (queued n o (endOf n W L o) W)
+placedLevels n narrow o W L = levelsBy n (chosen n o (endOf n W L o) narrow W) o (endOf n W L o) W L
 
 -- and after the pieces that start at os are placed in turn
 unfoldable pub wordsAfter : ℕ → Bool → List ℕ → List ℕ → List ℕ → List ℕ

@@ -11,7 +11,7 @@ ghost use Rattle.basis.specs.Moments.{was, left};
 ghost use Rattle.laws.specs.Scratch.{secondArea, areasEnd};
 ghost use Rattle.levels_laws.specs.Areas.{workOf, heldOf};
 ghost use Rattle.levels_laws.specs.Tally.{tally, untally};
-ghost use Rattle.levels_laws.specs.Model.{slotAt, countOf, queued, slots, peakOf, written, numberAt, goesSecond, chosen, Readable, Countable, Full, Placeable};
+ghost use Rattle.levels_laws.specs.Model.{slotAt, countOf, slots, peakOf, wordsBy, levelsBy, goesSecond, chosen, Readable, Countable, Full, Placeable};
 use graph_words::areas::AREAS;
 use graph_words::areas::MERGED;
 use graph_words::areas::SECOND;
@@ -85,7 +85,7 @@ fn put(scratch: &mut [u16], n: usize, base: usize, s: usize, t: usize)
     requires { ⌜ Readable n base s t (workOf n (now scratch)) ⌝ }
     requires { ⌜ n ≤ length (heldOf n (now scratch)) ⌝ }
     ensures { λ _. ⌜ workOf n (left scratch) ≡ workOf n (was scratch) ⌝ }
-    ensures { λ _. ⌜ heldOf n (left scratch) ≡ written (numberAt base (workOf n (was scratch))) (heldOf n (was scratch)) (queued n s t (workOf n (was scratch))) ⌝ }
+    ensures { λ _. ⌜ heldOf n (left scratch) ≡ levelsBy n base s t (workOf n (was scratch)) (heldOf n (was scratch)) ⌝ }
 {
     let mut p = s;
     while p < t {
@@ -99,8 +99,8 @@ fn put(scratch: &mut [u16], n: usize, base: usize, s: usize, t: usize)
 pub fn settle(scratch: &mut [u16], n: usize, base: usize, s: usize, t: usize)
     requires { ⌜ Countable n base s t (workOf n (now scratch)) ⌝ }
     requires { ⌜ n ≤ length (heldOf n (now scratch)) ⌝ }
-    ensures { λ _. ⌜ workOf n (left scratch) ≡ tally (workOf n (was scratch)) (slots n base s t (workOf n (was scratch))) ⌝ }
-    ensures { λ _. ⌜ heldOf n (left scratch) ≡ written (numberAt base (workOf n (was scratch))) (heldOf n (was scratch)) (queued n s t (workOf n (was scratch))) ⌝ }
+    ensures { λ _. ⌜ workOf n (left scratch) ≡ wordsBy n base s t (workOf n (was scratch)) ⌝ }
+    ensures { λ _. ⌜ heldOf n (left scratch) ≡ levelsBy n base s t (workOf n (was scratch)) (heldOf n (was scratch)) ⌝ }
 {
     put(scratch, n, base, s, t);
     raise(scratch, n, base, s, t);
@@ -124,8 +124,8 @@ fn choose(n: usize, h: usize, l: usize, narrow: bool) -> usize
 // Places the piece s..t of the queue against the counts as they now are.
 pub fn place(scratch: &mut [u16], n: usize, s: usize, t: usize, narrow: bool)
     requires { ⌜ Placeable n s t (workOf n (now scratch)) (heldOf n (now scratch)) ⌝ }
-    ensures { λ _. ⌜ workOf n (left scratch) ≡ tally (workOf n (was scratch)) (slots n (chosen n s t narrow (workOf n (was scratch))) s t (workOf n (was scratch))) ⌝ }
-    ensures { λ _. ⌜ heldOf n (left scratch) ≡ written (numberAt (chosen n s t narrow (workOf n (was scratch))) (workOf n (was scratch))) (heldOf n (was scratch)) (queued n s t (workOf n (was scratch))) ⌝ }
+    ensures { λ _. ⌜ workOf n (left scratch) ≡ wordsBy n (chosen n s t narrow (workOf n (was scratch))) s t (workOf n (was scratch)) ⌝ }
+    ensures { λ _. ⌜ heldOf n (left scratch) ≡ levelsBy n (chosen n s t narrow (workOf n (was scratch))) s t (workOf n (was scratch)) (heldOf n (was scratch)) ⌝ }
 {
     let h = peak(scratch, n, 0, s, t);
     let l = peak(scratch, n, SECOND * n, s, t);

@@ -7,7 +7,8 @@ ghost use lib.ListN.{length};
 ghost use lib.Dec.{eqb};
 ghost use Rattle.basis.specs.Lists.{filterb, upFrom};
 ghost use Rattle.basis.specs.Moments.{was, left};
-ghost use Rattle.spec.specs.Graph.{graphOf, sizeOf, graphRefusal, ofNode};
+ghost use Rattle.spec.specs.Graph.{graphRefusal, ofNode};
+ghost use Rattle.laws.specs.Handed.{sizeNow, graphWas};
 ghost use Rattle.levels_search.specs.Marks.{within, rows};
 ghost use Rattle.levels_search.specs.Queue.{Readable};
 ghost use Rattle.levels_scan.specs.Visit.{Visited};
@@ -69,10 +70,10 @@ fn next_level(starts: &[u16], neighbours: &[u16], levels: &mut [u16], i: u16) ->
 // The levels rooted at `root`, and their figures.
 pub fn scan(starts: &[u16], neighbours: &[u16], root: u16, levels: &mut [u16]) -> Figures
     requires { ⌜ graphRefusal (now starts) (now neighbours) ≡ 0 ⌝ }
-    requires { ⌜ (1 ≤ root) × (root ≤ sizeOf (now starts)) ⌝ }
-    requires { ⌜ length (now levels) ≡ sizeOf (now starts) ⌝ }
-    ensures { λ r. ⌜ r ≡ figuresOf (graphOf (was starts) (was neighbours)) root ⌝ }
-    ensures { λ _. ⌜ left levels ≡ listOf (graphOf (was starts) (was neighbours)) root ⌝ }
+    requires { ⌜ (1 ≤ root) × (root ≤ sizeNow starts) ⌝ }
+    requires { ⌜ length (now levels) ≡ sizeNow starts ⌝ }
+    ensures { λ r. ⌜ r ≡ figuresOf (graphWas starts neighbours) root ⌝ }
+    ensures { λ _. ⌜ left levels ≡ listOf (graphWas starts neighbours) root ⌝ }
 {
     let n = levels.len();
     clear(levels, n);

@@ -9,8 +9,9 @@ ghost use lib.Seq.{slice};
 ghost use lib.Dec.{eqb, ltb};
 ghost use Rattle.basis.specs.Lists.{bit, chainb};
 ghost use Rattle.basis.specs.Moments.{was, left};
-ghost use Rattle.spec.specs.Graph.{graphOf, sizeOf, rowOf, graphRefusal};
+ghost use Rattle.spec.specs.Graph.{rowOf, graphRefusal};
 ghost use Rattle.spec.specs.Levels.{levels, part};
+ghost use Rattle.laws.specs.Handed.{graphNow, sizeNow, graphWas};
 ghost use Rattle.levels_search.specs.Marks.{within, found, rows};
 ghost use Rattle.levels_search.specs.Queue.{Readable, Lent, Moved, Queued};
 ghost use Rattle.levels_search.specs.Answer.{rootedOf, Searched};
@@ -158,10 +159,10 @@ pub fn search(
     work: &mut [u16],
 ) -> Rooted
     requires { ⌜ graphRefusal (now starts) (now neighbours) ≡ 0 ⌝ }
-    requires { ⌜ (1 ≤ root) × (root ≤ sizeOf (now starts)) ⌝ }
-    requires { ⌜ length (part (graphOf (now starts) (now neighbours)) root) ≤ most ⌝ }
-    requires { ⌜ now work ≡ replicate (sizeOf (now starts) + sizeOf (now starts)) 0 ⌝ }
-    ensures { λ r. ⌜ r ≡ rootedOf (levels (graphOf (was starts) (was neighbours)) root) ⌝ }
+    requires { ⌜ (1 ≤ root) × (root ≤ sizeNow starts) ⌝ }
+    requires { ⌜ length (part (graphNow starts neighbours) root) ≤ most ⌝ }
+    requires { ⌜ now work ≡ replicate (sizeNow starts + sizeNow starts) 0 ⌝ }
+    ensures { λ r. ⌜ r ≡ rootedOf (levels (graphWas starts neighbours) root) ⌝ }
     ensures { λ _. ⌜ Searched (was starts) (was neighbours) root (left work) ⌝ }
 {
     let n = starts.len() - 1;
