@@ -160,7 +160,7 @@ module _ {S N : List ℕ} {n at : ℕ} {P W₀ : List ℕ} {b t i c : ℕ} {W : 
   fill-done h =
       rw (← cursor-done g lev (I .cursor) (λ q k. level-in g (ownLevels g P (drop at W₀)) i q k .0 .low) (sym (F .left) ∙ h)) (at-became (I .walk .now))
 
--- a turn, with the cursor at the end: z is numbered and the cursor goes on from it
+-- a round, with the cursor at the end: z is numbered and the cursor goes on from it
 pub fill-step : {S N : List ℕ} {n at : ℕ} {P W₀ : List ℕ} {b t i : ℕ} {W : List ℕ} {e z : ℕ} → Found S N n at P W₀ b t i e W e z → (z ≡ 0 → ⊥)
     → {e′ : ℕ} {W′ : List ℕ} → length W′ ≡ length W → Spreads n (foundBy (graphOf S N) (drop at W) i) e (orderIn n e W ++ (z ∷ [])) W e′ W′
     → Filling S N n at P W₀ b t i e′ W′ e′ z × (e < e′)

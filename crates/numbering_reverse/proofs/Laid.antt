@@ -48,7 +48,7 @@ module _ (n m : ℕ) (o R W : List ℕ) (len : length o ≡ m) (e : W ≡ laid n
       → ((n ≡ sizeOf S) × (n + m ≤ length W)) × (Part S N (segment n m W) × Clean n (segment n m W) W)
   laid-ready {S} {N} size P = ((size, laid-fits), (subst (λ (p : List ℕ). Part S N p) (sym laid-order) P, laid-clean (segment n m W)))
 
-  -- the order turned round in its place
+  -- the order turned in its place
   pub laid-turned : (t : List ℕ) → t ≡ reverse (midOf n (n + m - n) W) → putMid n (n + m - n) W t ≡ laid n (reverse o) R
   laid-turned t q =
       let k : n + m - n ≡ m = omega arith in

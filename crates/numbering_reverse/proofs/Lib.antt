@@ -2,4 +2,4 @@ pub mod Placing
 pub mod Spans
 pub mod Ready
 pub mod Laid
-pub mod Turning
+pub mod Reversing

@@ -139,7 +139,7 @@ fn profiles(starts: &[u16], neighbours: &[u16], work: &mut [u16], n: usize, m: u
 }
 
 // The words in the reverse order.
-fn turn_round(words: &mut [u16])
+fn reverse(words: &mut [u16])
     ensures { λ _. ⌜ left words ≡ reverse (was words) ⌝ }
 {
     let mut i = 0;
@@ -163,7 +163,7 @@ pub fn turn(starts: &[u16], neighbours: &[u16], work: &mut [u16], n: usize, m: u
 {
     let both = profiles(starts, neighbours, work, n, m);
     if both.backward < both.forward {
-        turn_round(&mut work[n..n + m]);
+        reverse(&mut work[n..n + m]);
         return true;
     }
     false

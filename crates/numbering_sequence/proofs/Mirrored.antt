@@ -112,8 +112,8 @@ module _ {n at from m k : ℕ} {W₀ W : List ℕ} {j : ℕ} (I : Mirroring n at
         elsewhere : (i : ℕ) → (i ≡ at + (a - 1) → ⊥) → getD new i 0 ≡ getD W i 0
         elsewhere i b = getD-set-other W (at + (a - 1)) i (k + 1 - getD W (at + (a - 1)) 0) 0 b
 
-        turned : k + 1 - getD W (at + (a - 1)) 0 ≡ mirrored k (getD W₀ (place at from m W₀ j) 0)
-        turned =
+        its-mirror : k + 1 - getD W (at + (a - 1)) 0 ≡ mirrored k (getD W₀ (place at from m W₀ j) 0)
+        its-mirror =
             let o = old-level e in
             let r = mirror-level e in
             let s = mirror-sum k (getD W₀ (place at from m W₀ j) 0) (omega (arith, r .0)) (omega (arith, r .1)) in
@@ -122,7 +122,7 @@ module _ {n at from m k : ℕ} {W₀ W : List ℕ} {j : ℕ} (I : Mirroring n at
         here : (i : ℕ) → i ≡ j → getD new (place at from m W₀ i) 0 ≡ mirrored k (getD W₀ (place at from m W₀ i) 0)
         here i r =
             subst (λ (x : ℕ). getD new (place at from m W₀ x) 0 ≡ mirrored k (getD W₀ (place at from m W₀ x) 0)) (sym r)
-            (ap (λ (x : ℕ). getD new x 0) (sym its) ∙ getD-set-same W (at + (a - 1)) (k + 1 - getD W (at + (a - 1)) 0) 0 (mirror-range e .1) ∙ turned)
+            (ap (λ (x : ℕ). getD new x 0) (sym its) ∙ getD-set-same W (at + (a - 1)) (k + 1 - getD W (at + (a - 1)) 0) 0 (mirror-range e .1) ∙ its-mirror)
 
         before : (i : ℕ) → i ≤ j → (i ≡ j → ⊥) → getD new (place at from m W₀ i) 0 ≡ mirrored k (getD W₀ (place at from m W₀ i) 0)
         before i b r =

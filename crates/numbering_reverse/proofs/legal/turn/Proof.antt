@@ -35,7 +35,7 @@ returns : tie.Need-returns
 returns c =
     let p = c .before .before .before .before .before .before .before .before in
     let s = p .before .before .before .before .before in
-    let r = c .before .before .turn-round in (
+    let r = c .before .before .reverse in (
       turns-yes (graph s) (order s) (p .profiles .ensures .1 .0) (p .profiles .ensures .0) (c .before .before .before .before .if1 .taken),
       laid-turned (s .args .n) (s .args .m) (order s) (rest s) (p .profiles .last .1 .1 .0) (long s) (after p) (r .last .0) (r .ensures),
     )

@@ -1,4 +1,4 @@
--- Words turned round in place, and the order turned in the working words. Assumes nothing.
+-- Words reversed in place: what holds before each round, one round, and the end. Assumes nothing.
 use mathlib.Core.Path.{_≡_, refl, sym, ap, _∙_}
 use mathlib.Core.Logic.{⊎-elim}
 use mathlib.Core.List.{List, reverse}
@@ -10,7 +10,7 @@ use Rattle.basis.proofs.Index.{getD-reverse}
 use Rattle.basis.proofs.Logic.{eq-or-ne, lt-or-le}
 
 -- the words before i and from e on have changed places, those between are as they were
-pub record Rounding (B W : List ℕ) (i e : ℕ) : Type 0 where
+pub record Reversing (B W : List ℕ) (i e : ℕ) : Type 0 where
   pub long : length W ≡ length B
   pub ends : i + e ≡ length B
   pub order : i ≤ e
@@ -19,8 +19,8 @@ pub record Rounding (B W : List ℕ) (i e : ℕ) : Type 0 where
   pub mid : (k : ℕ) → i ≤ k → k < e → getD W k 0 ≡ getD B k 0
 
 module _ (B : List ℕ) where
-  pub round-none : Rounding B B 0 (length B)
-  round-none = record {
+  pub reversing-none : Reversing B B 0 (length B)
+  reversing-none = record {
     long = refl;
     ends = omega arith;
     order = omega arith;
@@ -30,8 +30,8 @@ module _ (B : List ℕ) where
   }
 
   -- the words at i and at e - 1 change places
-  pub round-more : (W : List ℕ) (i e : ℕ) → Rounding B W i e → i + 1 < e → Rounding B (set (set W i (getD W (e - 1) 0)) (e - 1) (getD W i 0)) (i + 1) (e - 1)
-  round-more W i e r h = record {
+  pub reversing-more : (W : List ℕ) (i e : ℕ) → Reversing B W i e → i + 1 < e → Reversing B (set (set W i (getD W (e - 1) 0)) (e - 1) (getD W i 0)) (i + 1) (e - 1)
+  reversing-more W i e r h = record {
     long = length-set (set W i (getD W (e - 1) 0)) (e - 1) (getD W i 0) ∙ length-set W i (getD W (e - 1) 0) ∙ r .long;
     ends = omega (arith, r .ends);
     order = omega arith;
@@ -63,8 +63,8 @@ module _ (B : List ℕ) where
           ∙ r .mid i (omega arith) (omega arith)
           ∙ ap (λ (j : ℕ). getD B j 0) p
 
-  pub round-all : (W : List ℕ) (i e : ℕ) → Rounding B W i e → e ≤ i + 1 → W ≡ reverse B
-  round-all W i e r h =
+  pub reversing-all : (W : List ℕ) (i e : ℕ) → Reversing B W i e → e ≤ i + 1 → W ≡ reverse B
+  reversing-all W i e r h =
       ext-getD 0 W (reverse B) (r .long ∙ sym (length-reverse B)) (λ k b. each k (omega (arith, r .long)) ∙ sym (getD-reverse 0 B k (omega (arith, r .long))))
     where
       each : (k : ℕ) → k < length B → getD W k 0 ≡ getD B (length B - suc k) 0
