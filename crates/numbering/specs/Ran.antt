@@ -10,6 +10,7 @@ use Rattle.spec.specs.Graph.{Graph, graphOf, sizeOf, graphRefusal, ofNode}
 use Rattle.spec.specs.Levels.{part, leaders, parts}
 use Rattle.spec.specs.Numbering.{PartResult, Figures, partResult, wholeOrder, wholeLevels}
 use Rattle.laws.specs.Legal.{Node}
+use Rattle.laws.specs.Scratch.{membersArea, tallyArea, areasEnd}
 use Rattle.numbering_parts.specs.Walked.{Walked}
 use Rattle.numbering_part.specs.declared.shape.PartFigures.{PartFigures}
 use Rattle.numbering.specs.declared.legal.Tally.{Tally}
@@ -18,9 +19,9 @@ use Rattle.numbering.specs.declared.legal.Tally.{Tally}
 abbrev pub foundTo : Graph → ℕ → List PartResult
 foundTo g j = map (partResult g) (take j (leaders g))
 
--- After j parts with a nodes: X and L are the numbers and the levels by old number, W the scratch with the members of all parts in its fifth
--- area of n words and zeros before and behind, and k, w and p what is summed up. The nodes of later parts have level 0; in place of their numbers
--- the lowest node of each has the part's size.
+-- After j parts with a nodes: X and L are the numbers and the levels by old number, W the scratch with the members of all parts in
+-- their area and zeros in the areas before and behind, and k, w and p what is summed up. The nodes of later parts have level 0; in place of
+-- their numbers the lowest node of each has the part's size.
 pub record Ran (S N : List ℕ) (j a k w p : ℕ) (X L W : List ℕ) : Type 0 where
   pub legal : graphRefusal S N ≡ 0
   pub walked : Walked (graphOf S N) j a
@@ -34,9 +35,9 @@ pub record Ran (S N : List ℕ) (j a k w p : ℕ) (X L W : List ℕ) : Type 0 wh
   pub passes : p ≡ sum (map (λ r. r .report .passes) (foundTo (graphOf S N) j))
   pub few-levels : k ≤ 4096 * j
   pub few-passes : p ≤ 4096 * j
-  pub words : W ≡ replicate (4 * sizeOf S) 0 ++ (joinAll (parts (graphOf S N)) ++ drop (5 * sizeOf S) W)
-  pub full : 6 * sizeOf S ≤ length W
-  pub blank : slice (5 * sizeOf S) (6 * sizeOf S) W ≡ replicate (sizeOf S) 0
+  pub words : W ≡ replicate (membersArea (sizeOf S)) 0 ++ (joinAll (parts (graphOf S N)) ++ drop (tallyArea (sizeOf S)) W)
+  pub full : areasEnd (sizeOf S) ≤ length W
+  pub blank : slice (tallyArea (sizeOf S)) (areasEnd (sizeOf S)) W ≡ replicate (sizeOf S) 0
 
 -- what is summed up, with one part of m nodes more
 abbrev pub added : Tally → ℕ → PartFigures → Tally

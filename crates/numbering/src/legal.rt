@@ -10,6 +10,7 @@ ghost use Rattle.spec.specs.Numbering.{run};
 ghost use Rattle.numbering.specs.Answer.{eight};
 ghost use Rattle.numbering.specs.Ran.{added, Ran, Summed};
 use crate::answer::RunFigures;
+use graph_words::areas::MEMBERS;
 use graph_words::legal::clear;
 use graph_words::wide;
 use levels::legal::WORDS_PER_NODE;
@@ -67,7 +68,7 @@ fn next_part(
 {
     let n = starts.len() - 1;
     let from = wide(t.nodes);
-    let lowest = wide(scratch[4 * n + from]);
+    let lowest = wide(scratch[MEMBERS * n + from]);
     let m = numbers[lowest - 1];
     // A part of one node adds constants, so that the part after it waits for no word that is read here.
     if m == 1 {

@@ -3,7 +3,7 @@
 use mathlib.Core.Path.{_≡_}
 use mathlib.Core.Bool.{Bool, true, not, _&&_, cond}
 use mathlib.Core.List.{List, _++_, map}
-use Prim.Native.Nat.{ℕ, suc, _+_, _-_, _*_, _≤_, _<_}
+use Prim.Native.Nat.{ℕ, suc, _+_, _-_, _≤_, _<_}
 use lib.ListN.{length, take, drop, getD}
 use lib.Dec.{eqb}
 use Rattle.basis.specs.Lists.{bit, filterb, memb, upFrom}
@@ -11,6 +11,7 @@ use Rattle.basis.specs.Perm.{times, Once}
 use Rattle.spec.specs.Graph.{Graph, nodes, sortE, ofNode}
 use Rattle.spec.specs.Numbering.{levelNodes, within, laterLevel}
 use Rattle.laws.specs.Legal.{Closed}
+use Rattle.laws.specs.Scratch.{membersArea}
 use Rattle.levels_sort.specs.Nodes.{Nodes}
 use Rattle.numbering_stacks.specs.Part.{membersIn}
 use Rattle.numbering_stacks.specs.Stacks.{Stacks}
@@ -92,7 +93,7 @@ levelsIn g at from m W = ownLevels g (membersIn from m W) (drop at W)
 -- The part P's levels stand by old number from `at` on, and its nodes on the stacks of their levels, in E, in the 2n words behind the
 -- order. No edge leaves the part.
 pub record Standing (g : Graph) (n at : ℕ) (P W : List ℕ) : Type 0 where
-  pub behind : 4 * n ≤ at
+  pub behind : membersArea n ≤ at
   pub held : at + n ≤ length W
   pub rising : P ≡ filterb (λ q. memb q P) (nodes g)
   pub closed : Closed g P

@@ -4,7 +4,7 @@
 ghost use mathlib.Core.Path.{_≡_};
 ghost use mathlib.Core.Bool.{true, false};
 ghost use mathlib.Core.List.{List, [], _∷_, _++_, foldl};
-ghost use Prim.Native.Nat.{ℕ, _+_, _-_, _*_, _≤_};
+ghost use Prim.Native.Nat.{ℕ, _+_, _-_, _≤_};
 ghost use lib.ListN.{length, take, drop, replicate};
 ghost use lib.Dec.{ltb};
 ghost use Rattle.basis.specs.Lists.{filterb, chainb, memb, upFrom, overwrite};
@@ -12,6 +12,7 @@ ghost use Rattle.basis.specs.Moments.{was, left};
 ghost use Rattle.spec.specs.Graph.{sizeOf, graphOf, graphRefusal, sortE};
 ghost use Rattle.spec.specs.Numbering.{forwardOrder};
 ghost use Rattle.laws.specs.Legal.{Starts};
+ghost use Rattle.laws.specs.Scratch.{membersArea};
 ghost use Rattle.levels_sort.specs.Nodes.{Nodes};
 ghost use Rattle.numbering_stacks.specs.Part.{membersIn, Behind};
 ghost use Rattle.numbering_order.specs.Model.{stand, orderIn, Open, Became, Far, free, isFree, foundBy, addBy, Spreads, levelsIn, ownLevels, Starting, filledIn, laterIn, Fills, Follows, Opens};
@@ -302,7 +303,7 @@ fn number(starts: &[u16], neighbours: &[u16], work: &mut [u16], n: usize, at: us
 }
 
 // The order of a part: its m nodes by number, before any turn, in the n words after the marks. All but the order is 0 before and after in
-// the first 4n words. The part's k levels stand by old number from `at` on, its nodes in rising order from `from` on.
+// the first four areas. The part's k levels stand by old number from `at` on, its nodes in rising order from `from` on.
 pub fn forward(
     starts: &[u16],
     neighbours: &[u16],
@@ -314,7 +315,7 @@ pub fn forward(
     v: u16,
 )
     requires { ⌜ graphRefusal (now starts) (now neighbours) ≡ 0 ⌝ }
-    requires { ⌜ take (4 * sizeOf (now starts)) (now work) ≡ replicate (4 * sizeOf (now starts)) 0 ⌝ }
+    requires { ⌜ take (membersArea (sizeOf (now starts))) (now work) ≡ replicate (membersArea (sizeOf (now starts))) 0 ⌝ }
     requires { ⌜ Behind (graphOf (now starts) (now neighbours)) (sizeOf (now starts)) at from m (now work) ⌝ }
     requires { ⌜ Starting (levelsIn (graphOf (now starts) (now neighbours)) at from m (now work)) (membersIn from m (now work)) k v ⌝ }
     ensures { λ _. ⌜ left work ≡ replicate (sizeOf (was starts)) 0 ++ overwrite (forwardOrder (graphOf (was starts) (was neighbours)) (levelsIn (graphOf (was starts) (was neighbours)) at from m (was work)) k v) (drop (sizeOf (was starts)) (was work)) ⌝ }

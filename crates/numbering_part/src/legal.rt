@@ -1,12 +1,14 @@
-// One part of a legal graph, for a caller that has its members. The scratch has areas of n words: four to work in, the second of them for
-// the part's order, the members of the parts, and one for the part's levels by old number. Linear in the part's nodes and entries: nothing here is n.
+// One part of a legal graph, for a caller that has its members. Of the scratch's six areas four are to work in, the second of them for the
+// part's order; then come the members of the parts and, where the tally was, the part's levels by old number. Linear in the part's nodes and
+// entries: nothing here is n.
 ghost use mathlib.Core.Path.{_≡_};
-ghost use Prim.Native.Nat.{_+_, _-_, _*_, _≤_, _<_};
+ghost use Prim.Native.Nat.{_+_, _-_, _≤_, _<_};
 ghost use lib.ListN.{length, replicate, set};
 ghost use lib.Seq.{sets, slice};
 ghost use Rattle.basis.specs.Moments.{was, left};
 ghost use Rattle.spec.specs.Graph.{graphOf, sizeOf, graphRefusal, ofNode};
 ghost use Rattle.spec.specs.Numbering.{partResult};
+ghost use Rattle.laws.specs.Scratch.{tallyArea, areasEnd};
 ghost use Rattle.levels_laws.specs.Areas.{wordsOf};
 ghost use Rattle.levels_laws.specs.Model.{numberAt, written};
 ghost use Rattle.levels_laws.specs.Given.{firstOf};
@@ -15,6 +17,8 @@ ghost use Rattle.levels_laws.specs.Starts.{membersOf};
 ghost use Rattle.levels.specs.Part.{PartGiven};
 ghost use Rattle.numbering_part.specs.Part.{orderAt, renewed, numbered, numberFrom, partFiguresOf, Numberable};
 use crate::shape::PartFigures;
+use graph_words::areas::MEMBERS;
+use graph_words::areas::TALLY;
 use graph_words::wide;
 use levels::legal::combine_part;
 use numbering_sequence::legal::sequence;
@@ -35,19 +39,19 @@ fn give_numbers(scratch: &mut [u16], numbers: &mut [u16], n: usize, m: usize, a:
     }
 }
 
-// Hands the members' levels over, and clears the area for levels.
+// Hands the members' levels over, and clears their area.
 fn give_levels(scratch: &mut [u16], levels: &mut [u16], n: usize, from: usize, to: usize)
     requires { ⌜ Members n from to (now scratch) ⌝ }
-    requires { ⌜ 6 * n ≤ length (now scratch) ⌝ }
+    requires { ⌜ areasEnd n ≤ length (now scratch) ⌝ }
     requires { ⌜ length (now levels) ≡ n ⌝ }
-    ensures { λ _. ⌜ left scratch ≡ stored (5 * n) nought (was scratch) (membersOf n from to (was scratch)) ⌝ }
-    ensures { λ _. ⌜ left levels ≡ written (numberAt (5 * n) (was scratch)) (was levels) (membersOf n from to (was scratch)) ⌝ }
+    ensures { λ _. ⌜ left scratch ≡ stored (tallyArea n) nought (was scratch) (membersOf n from to (was scratch)) ⌝ }
+    ensures { λ _. ⌜ left levels ≡ written (numberAt (tallyArea n) (was scratch)) (was levels) (membersOf n from to (was scratch)) ⌝ }
 {
     let mut i = from;
     while i < to {
-        let z = wide(scratch[4 * n + i]);
-        levels[z - 1] = scratch[5 * n + z - 1];
-        scratch[5 * n + z - 1] = 0;
+        let z = wide(scratch[MEMBERS * n + i]);
+        levels[z - 1] = scratch[TALLY * n + z - 1];
+        scratch[TALLY * n + z - 1] = 0;
         i += 1;
     }
 }
@@ -77,7 +81,7 @@ pub fn number_part(
     to: usize,
 ) -> PartFigures
     requires { ⌜ graphRefusal (now starts) (now neighbours) ≡ 0 ⌝ }
-    requires { ⌜ PartGiven (graphOf (now starts) (now neighbours)) from to (wordsOf (sizeOf (now starts)) (now scratch)) (slice (5 * sizeOf (now starts)) (6 * sizeOf (now starts)) (now scratch)) ⌝ }
+    requires { ⌜ PartGiven (graphOf (now starts) (now neighbours)) from to (wordsOf (sizeOf (now starts)) (now scratch)) (slice (tallyArea (sizeOf (now starts))) (areasEnd (sizeOf (now starts))) (now scratch)) ⌝ }
     requires { ⌜ (length (now numbers) ≡ sizeOf (now starts)) × (length (now levels) ≡ sizeOf (now starts)) ⌝ }
     ensures { λ r. ⌜ r ≡ partFiguresOf (partResult (graphOf (was starts) (was neighbours)) (firstOf (sizeOf (was starts)) from (wordsOf (sizeOf (was starts)) (was scratch))) .report) ⌝ }
     ensures { λ _. ⌜ left scratch ≡ was scratch ⌝ }
@@ -91,8 +95,8 @@ pub fn number_part(
         starts,
         neighbours,
         scratch,
-        5 * n,
-        4 * n + from,
+        TALLY * n,
+        MEMBERS * n + from,
         m,
         f.k,
         f.v,

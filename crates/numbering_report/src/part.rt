@@ -9,14 +9,16 @@ ghost use Rattle.spec.specs.Numbering.{partResult};
 ghost use Rattle.numbering_report.specs.Answers.{reportMeaning};
 use crate::answer::PartReport;
 use crate::legal::report;
+use graph_words::areas::MEMBERS;
+use graph_words::areas::TALLY;
 use graph_words::legal::clear;
 use levels::legal::WORDS_PER_NODE;
 use levels::legal::combine_part;
 use levels::legal::gather_part;
 use numbering_sequence::legal::sequence;
 
-// The report of the part of `node`, in scratch that is set to 0 before and after. The part's members stand in the fifth area of n words,
-// its combined levels in the sixth.
+// The report of the part of `node`, in scratch that is set to 0 before and after. The part's members stand in their area, its combined
+// levels where the tally was.
 pub(crate) fn find_report(
     starts: &[u16],
     neighbours: &[u16],
@@ -33,7 +35,17 @@ pub(crate) fn find_report(
     clear(scratch, WORDS_PER_NODE * n);
     let m = gather_part(starts, neighbours, node, scratch);
     let f = combine_part(starts, neighbours, scratch, 0, m);
-    let s = sequence(starts, neighbours, scratch, 5 * n, 4 * n, m, f.k, f.v, f.u);
+    let s = sequence(
+        starts,
+        neighbours,
+        scratch,
+        TALLY * n,
+        MEMBERS * n,
+        m,
+        f.k,
+        f.v,
+        f.u,
+    );
     clear(scratch, WORDS_PER_NODE * n);
     report(s, f.k, f.width, f.passes)
 }

@@ -3,7 +3,7 @@ use mathlib.Core.Path.{_≡_}
 use mathlib.Core.Logic.{_⊎_}
 use mathlib.Core.Bool.{true, false}
 use mathlib.Core.List.{List}
-use Prim.Native.Nat.{ℕ, _+_, _*_, _≤_}
+use Prim.Native.Nat.{ℕ, _+_, _≤_}
 use lib.ListN.{length, take, getD, replicate}
 use lib.Seq.{slice}
 use Rattle.basis.specs.Lists.{memb}
@@ -13,6 +13,7 @@ use Rattle.spec.specs.Ends.{Ends, ends}
 use Rattle.spec.specs.Graph.{Graph, ofNode}
 use Rattle.spec.specs.Levels.{part}
 use Rattle.spec.specs.Numbering.{startNode, finishNode, partLevels, forwardOrder, turns}
+use Rattle.laws.specs.Scratch.{membersArea}
 use Rattle.levels_sort.specs.Nodes.{Nodes}
 use Rattle.numbering_stacks.specs.Part.{membersIn}
 use Rattle.numbering_sequence.specs.declared.shape.Sequence.{Sequence}
@@ -27,11 +28,11 @@ sequenceOf g e = record { v = startNode g e; u = finishNode g e; turned = turns 
 
 -- ---- the working words
 
--- The first 4n words are 0. Behind them stand n words by old number, from `at` on, and m nodes, from `from` on, in either order.
+-- The first four areas are 0. Behind them stand n words by old number, from `at` on, and m nodes, from `from` on, in either order.
 pub record Areas (n at from m : ℕ) (W : List ℕ) : Type 0 where
-  pub zeros : take (4 * n) W ≡ replicate (4 * n) 0
-  pub at-low : 4 * n ≤ at
-  pub from-low : 4 * n ≤ from
+  pub zeros : take (membersArea n) W ≡ replicate (membersArea n) 0
+  pub at-low : membersArea n ≤ at
+  pub from-low : membersArea n ≤ from
   pub at-held : at + n ≤ length W
   pub from-held : from + m ≤ length W
   pub apart : (at + n ≤ from) ⊎ (from + m ≤ at)
