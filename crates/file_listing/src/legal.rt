@@ -4,11 +4,12 @@ ghost use Prim.Native.Nat.{_*_, _≤_};
 ghost use lib.ListN.{length};
 ghost use Rattle.basis.specs.Lists.{overwrite};
 ghost use Rattle.basis.specs.Moments.{was, left};
-ghost use Rattle.spec.specs.Graph.{graphOf, graphRefusal, maxNodes};
+ghost use Rattle.spec.specs.Graph.{graphRefusal, maxNodes};
 ghost use Rattle.spec.specs.Lent.{outcome, filled, wordsPerNode};
 ghost use Rattle.spec.specs.Mesh.{entryCount, startList, neighbourList};
 ghost use Rattle.spec.specs.Numbering.{run};
 ghost use Rattle.spec.specs.File.{fileGraph, fileRefusal, listing, programOutput};
+ghost use Rattle.laws.specs.Handed.{graphWas};
 ghost use Rattle.mesh.specs.Answer.{meaning};
 ghost use Rattle.numbering.specs.Answer.{eight};
 ghost use Rattle.file_writing.specs.Figures.{figuresOf};
@@ -44,8 +45,8 @@ fn renumber(
 ) -> usize
     requires { ⌜ graphRefusal (now starts) (now neighbours) ≡ 0 ⌝ }
     requires { ⌜ (wordsPerNode * maxNodes ≤ length (now scratch)) × TextRoom (now numbers) (now levels) (now output) ⌝ }
-    ensures { λ r. ⌜ r ≡ length (listing (graphOf (was starts) (was neighbours)) (run (graphOf (was starts) (was neighbours)))) ⌝ }
-    ensures { λ _. ⌜ left output ≡ overwrite (listing (graphOf (was starts) (was neighbours)) (run (graphOf (was starts) (was neighbours)))) (was output) ⌝ }
+    ensures { λ r. ⌜ r ≡ length (listing (graphWas starts neighbours) (run (graphWas starts neighbours))) ⌝ }
+    ensures { λ _. ⌜ left output ≡ overwrite (listing (graphWas starts neighbours) (run (graphWas starts neighbours))) (was output) ⌝ }
 {
     let n = starts.len() - 1;
     let x = &mut numbers[..n];

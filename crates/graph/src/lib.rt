@@ -6,8 +6,9 @@ ghost use lib.ListN.{length};
 ghost use lib.Dec.{leb, ltb};
 ghost use Rattle.basis.specs.Lists.{chainb, memb};
 ghost use Rattle.basis.specs.Moments.{was};
-ghost use Rattle.spec.specs.Graph.{graphOf, refuses1, refuses2, badRow, refuses3, refuses4};
+ghost use Rattle.spec.specs.Graph.{refuses1, refuses2, badRow, refuses3, refuses4};
 ghost use Rattle.spec.specs.CallsLevels.{adjacencyAnswer};
+ghost use Rattle.laws.specs.Handed.{graphNow, graphWas};
 ghost use Rattle.laws.specs.Legal.{Node, Starts};
 ghost use Rattle.graph.specs.Answer.{meaning};
 ghost use Rattle.graph.specs.Facts.{Rows, lowerPairs};
@@ -86,7 +87,7 @@ fn bad_row(row: &[u16], p: usize, n: usize) -> bool
 // 3: a row leaves 1..n, holds itself or doesn't rise.
 fn bad_rows(starts: &[u16], neighbours: &[u16]) -> bool
     requires { ⌜ Starts (now starts) (now neighbours) ⌝ }
-    ensures { λ r. ⌜ r ≡ refuses3 (graphOf (was starts) (was neighbours)) ⌝ }
+    ensures { λ r. ⌜ r ≡ refuses3 (graphWas starts neighbours) ⌝ }
 {
     let n = starts.len() - 1;
     let mut p = 0;
@@ -125,8 +126,8 @@ fn holds(row: &[u16], p: usize) -> bool
 // How many entries of row p are under p and have their partner: the row they name holds p. The row rises, so the first that is not under p ends the walk.
 fn lower_pairs(starts: &[u16], neighbours: &[u16], p: usize) -> usize
     requires { ⌜ Rows (now starts) (now neighbours) ⌝ }
-    requires { ⌜ Node (graphOf (now starts) (now neighbours)) p ⌝ }
-    ensures { λ r. ⌜ r ≡ lowerPairs (graphOf (was starts) (was neighbours)) p ⌝ }
+    requires { ⌜ Node (graphNow starts neighbours) p ⌝ }
+    ensures { λ r. ⌜ r ≡ lowerPairs (graphWas starts neighbours) p ⌝ }
 {
     let row = legal::row(starts, neighbours, p);
     let mut pairs = 0;
@@ -148,7 +149,7 @@ fn lower_pairs(starts: &[u16], neighbours: &[u16], p: usize) -> usize
 // 4: a row's entry lacks its partner. Of the two entries of a pair one is under its row's number, so one is lacking exactly if the pairs fall short of half of the entries.
 fn lacks_partners(starts: &[u16], neighbours: &[u16]) -> bool
     requires { ⌜ Rows (now starts) (now neighbours) ⌝ }
-    ensures { λ r. ⌜ r ≡ refuses4 (graphOf (was starts) (was neighbours)) ⌝ }
+    ensures { λ r. ⌜ r ≡ refuses4 (graphWas starts neighbours) ⌝ }
 {
     let n = starts.len() - 1;
     let mut pairs = 0;

@@ -6,9 +6,10 @@ ghost use Prim.Native.Nat.{_≤_};
 ghost use lib.ListN.{length, replicate};
 ghost use Rattle.basis.specs.Lists.{least, overwrite};
 ghost use Rattle.basis.specs.Moments.{was, left};
-ghost use Rattle.spec.specs.Graph.{sizeOf, graphOf, ofNode};
+ghost use Rattle.spec.specs.Graph.{ofNode};
 ghost use Rattle.spec.specs.Lent.{zeroed};
 ghost use Rattle.spec.specs.Measures.{isNumbering, orderOf, renumbered, firstIn, rowSpan, profile};
+ghost use Rattle.laws.specs.Handed.{graphNow, graphWas, sizeNow};
 ghost use Rattle.laws.specs.Legal.{Node, LegalGraph, Starts};
 ghost use Rattle.graph_envelope.specs.Numbers.{Words};
 use graph::legal::row;
@@ -96,10 +97,10 @@ pub fn row_first(row: &[u16], numbering: &[u16], own: usize) -> usize
 // f of the number of node p: "the least of q and its neighbours" over new numbers.
 pub fn first(starts: &[u16], neighbours: &[u16], numbering: &[u16], p: usize) -> usize
     requires { ⌜ Starts (now starts) (now neighbours) ⌝ }
-    requires { ⌜ LegalGraph (graphOf (now starts) (now neighbours)) ⌝ }
-    requires { ⌜ isNumbering (sizeOf (now starts)) (now numbering) ≡ true ⌝ }
-    requires { ⌜ Node (graphOf (now starts) (now neighbours)) p ⌝ }
-    ensures { λ r. ⌜ r ≡ firstIn (renumbered (graphOf (was starts) (was neighbours)) (was numbering)) (ofNode (was numbering) p) ⌝ }
+    requires { ⌜ LegalGraph (graphNow starts neighbours) ⌝ }
+    requires { ⌜ isNumbering (sizeNow starts) (now numbering) ≡ true ⌝ }
+    requires { ⌜ Node (graphNow starts neighbours) p ⌝ }
+    ensures { λ r. ⌜ r ≡ firstIn (renumbered (graphWas starts neighbours) (was numbering)) (ofNode (was numbering) p) ⌝ }
 {
     let own = number(numbering, p);
     row_first(row(starts, neighbours, p), numbering, own)
@@ -108,10 +109,10 @@ pub fn first(starts: &[u16], neighbours: &[u16], numbering: &[u16], p: usize) ->
 // How far the row of node p reaches below the diagonal.
 fn span(starts: &[u16], neighbours: &[u16], numbering: &[u16], p: usize) -> u32
     requires { ⌜ Starts (now starts) (now neighbours) ⌝ }
-    requires { ⌜ LegalGraph (graphOf (now starts) (now neighbours)) ⌝ }
-    requires { ⌜ isNumbering (sizeOf (now starts)) (now numbering) ≡ true ⌝ }
-    requires { ⌜ Node (graphOf (now starts) (now neighbours)) p ⌝ }
-    ensures { λ r. ⌜ r ≡ rowSpan (renumbered (graphOf (was starts) (was neighbours)) (was numbering)) (ofNode (was numbering) p) ⌝ }
+    requires { ⌜ LegalGraph (graphNow starts neighbours) ⌝ }
+    requires { ⌜ isNumbering (sizeNow starts) (now numbering) ≡ true ⌝ }
+    requires { ⌜ Node (graphNow starts neighbours) p ⌝ }
+    ensures { λ r. ⌜ r ≡ rowSpan (renumbered (graphWas starts neighbours) (was numbering)) (ofNode (was numbering) p) ⌝ }
 {
     let own = number(numbering, p);
     let reach = own - first(starts, neighbours, numbering, p);
@@ -121,9 +122,9 @@ fn span(starts: &[u16], neighbours: &[u16], numbering: &[u16], p: usize) -> u32
 // "Profile is the sum of q − f_q": at most 8,386,560, since q − f_q is at most q − 1.
 pub fn profile(starts: &[u16], neighbours: &[u16], numbering: &[u16]) -> u32
     requires { ⌜ Starts (now starts) (now neighbours) ⌝ }
-    requires { ⌜ LegalGraph (graphOf (now starts) (now neighbours)) ⌝ }
-    requires { ⌜ isNumbering (sizeOf (now starts)) (now numbering) ≡ true ⌝ }
-    ensures { λ r. ⌜ r ≡ profile (renumbered (graphOf (was starts) (was neighbours)) (was numbering)) ⌝ }
+    requires { ⌜ LegalGraph (graphNow starts neighbours) ⌝ }
+    requires { ⌜ isNumbering (sizeNow starts) (now numbering) ≡ true ⌝ }
+    ensures { λ r. ⌜ r ≡ profile (renumbered (graphWas starts neighbours) (was numbering)) ⌝ }
 {
     let n = numbering.len();
     let mut sum: u32 = 0;

@@ -3,10 +3,11 @@ ghost use mathlib.Core.Path.{_≡_};
 ghost use Prim.Native.Nat.{_+_, _*_, _≤_, _<_, max};
 ghost use lib.ListN.{length};
 ghost use Rattle.basis.specs.Moments.{was, left};
-ghost use Rattle.spec.specs.Graph.{graphOf, sizeOf, graphRefusal};
+ghost use Rattle.spec.specs.Graph.{graphRefusal};
 ghost use Rattle.spec.specs.Lent.{zeroed, wordsPerNode};
 ghost use Rattle.spec.specs.Levels.{parts};
 ghost use Rattle.spec.specs.Numbering.{run};
+ghost use Rattle.laws.specs.Handed.{graphNow, graphWas, sizeNow, sizeWas};
 ghost use Rattle.numbering.specs.Answer.{eight};
 ghost use Rattle.numbering.specs.Ran.{added, Ran, Summed};
 use crate::answer::RunFigures;
@@ -60,7 +61,7 @@ fn next_part(
     scratch: &mut [u16],
     t: Tally,
 ) -> Tally
-    requires { ⌜ t .parts < length (parts (graphOf (now starts) (now neighbours))) ⌝ }
+    requires { ⌜ t .parts < length (parts (graphNow starts neighbours)) ⌝ }
     requires { ⌜ Ran (now starts) (now neighbours) (t .parts) (t .nodes) (t .levels) (t .width) (t .passes) (now numbers) (now levels) (now scratch) ⌝ }
     ensures { λ r. ⌜ r .parts ≡ t .parts + 1 ⌝ }
     ensures { λ r. ⌜ Ran (was starts) (was neighbours) (r .parts) (r .nodes) (r .levels) (r .width) (r .passes) (left numbers) (left levels) (was scratch) ⌝ }
@@ -101,11 +102,11 @@ fn number_parts(
     scratch: &mut [u16],
     count: u16,
 ) -> Tally
-    requires { ⌜ count ≡ length (parts (graphOf (now starts) (now neighbours))) ⌝ }
+    requires { ⌜ count ≡ length (parts (graphNow starts neighbours)) ⌝ }
     requires { ⌜ Ran (now starts) (now neighbours) 0 0 0 0 0 (now numbers) (now levels) (now scratch) ⌝ }
-    ensures { λ r. ⌜ Summed (run (graphOf (was starts) (was neighbours)) .figures) (r .parts) (r .nodes) (r .levels) (r .width) (r .passes) ⌝ }
-    ensures { λ _. ⌜ left numbers ≡ run (graphOf (was starts) (was neighbours)) .numbers ⌝ }
-    ensures { λ _. ⌜ left levels ≡ run (graphOf (was starts) (was neighbours)) .levels ⌝ }
+    ensures { λ r. ⌜ Summed (run (graphWas starts neighbours) .figures) (r .parts) (r .nodes) (r .levels) (r .width) (r .passes) ⌝ }
+    ensures { λ _. ⌜ left numbers ≡ run (graphWas starts neighbours) .numbers ⌝ }
+    ensures { λ _. ⌜ left levels ≡ run (graphWas starts neighbours) .levels ⌝ }
     ensures { λ _. ⌜ left scratch ≡ was scratch ⌝ }
 {
     let mut t = Tally {
@@ -130,12 +131,12 @@ pub fn number_all(
     scratch: &mut [u16],
 ) -> RunFigures
     requires { ⌜ graphRefusal (now starts) (now neighbours) ≡ 0 ⌝ }
-    requires { ⌜ (length (now numbers) ≡ sizeOf (now starts)) × (length (now levels) ≡ sizeOf (now starts)) ⌝ }
-    requires { ⌜ wordsPerNode * sizeOf (now starts) ≤ length (now scratch) ⌝ }
-    ensures { λ r. ⌜ eight r ≡ run (graphOf (was starts) (was neighbours)) .figures ⌝ }
-    ensures { λ _. ⌜ left numbers ≡ run (graphOf (was starts) (was neighbours)) .numbers ⌝ }
-    ensures { λ _. ⌜ left levels ≡ run (graphOf (was starts) (was neighbours)) .levels ⌝ }
-    ensures { λ _. ⌜ left scratch ≡ zeroed (wordsPerNode * sizeOf (was starts)) (was scratch) ⌝ }
+    requires { ⌜ (length (now numbers) ≡ sizeNow starts) × (length (now levels) ≡ sizeNow starts) ⌝ }
+    requires { ⌜ wordsPerNode * sizeNow starts ≤ length (now scratch) ⌝ }
+    ensures { λ r. ⌜ eight r ≡ run (graphWas starts neighbours) .figures ⌝ }
+    ensures { λ _. ⌜ left numbers ≡ run (graphWas starts neighbours) .numbers ⌝ }
+    ensures { λ _. ⌜ left levels ≡ run (graphWas starts neighbours) .levels ⌝ }
+    ensures { λ _. ⌜ left scratch ≡ zeroed (wordsPerNode * sizeWas starts) (was scratch) ⌝ }
 {
     let n = starts.len() - 1;
     clear(scratch, WORDS_PER_NODE * n);

@@ -6,8 +6,8 @@ ghost use mathlib.Core.Bool.{true};
 ghost use lib.ListN.{length, replicate};
 ghost use Rattle.basis.specs.Moments.{was, left};
 ghost use Rattle.spec.specs.CallsNumbering.{measureFigures};
-ghost use Rattle.spec.specs.Graph.{sizeOf, graphOf};
 ghost use Rattle.spec.specs.Measures.{isNumbering, renumbered, bandwidth, profile};
+ghost use Rattle.laws.specs.Handed.{graphWas, sizeNow, sizeWas};
 ghost use Rattle.graph.specs.Facts.{LegalLists};
 ghost use Rattle.numbering_measures.specs.Answer.{three};
 ghost use Rattle.numbering_measures.specs.Fronts.{opened};
@@ -27,11 +27,11 @@ struct Spans {
 // Bandwidth and profile, and for each number i the count of the numbers j with f_j = i.
 fn walk(starts: &[u16], neighbours: &[u16], numbering: &[u16], counts: &mut [u16]) -> Spans
     requires { ⌜ LegalLists (now starts) (now neighbours) ⌝ }
-    requires { ⌜ isNumbering (sizeOf (now starts)) (now numbering) ≡ true ⌝ }
-    requires { ⌜ now counts ≡ replicate (sizeOf (now starts)) 0 ⌝ }
-    ensures { λ r. ⌜ r .bandwidth ≡ bandwidth (renumbered (graphOf (was starts) (was neighbours)) (was numbering)) ⌝ }
-    ensures { λ r. ⌜ r .profile ≡ profile (renumbered (graphOf (was starts) (was neighbours)) (was numbering)) ⌝ }
-    ensures { λ _. ⌜ left counts ≡ opened (graphOf (was starts) (was neighbours)) (was numbering) (sizeOf (was starts)) ⌝ }
+    requires { ⌜ isNumbering (sizeNow starts) (now numbering) ≡ true ⌝ }
+    requires { ⌜ now counts ≡ replicate (sizeNow starts) 0 ⌝ }
+    ensures { λ r. ⌜ r .bandwidth ≡ bandwidth (renumbered (graphWas starts neighbours) (was numbering)) ⌝ }
+    ensures { λ r. ⌜ r .profile ≡ profile (renumbered (graphWas starts neighbours) (was numbering)) ⌝ }
+    ensures { λ _. ⌜ left counts ≡ opened (graphWas starts neighbours) (was numbering) (sizeWas starts) ⌝ }
 {
     let n = numbering.len();
     let mut widest = 0;
@@ -60,10 +60,10 @@ pub fn figures(
     counts: &mut [u16],
 ) -> Measures
     requires { ⌜ LegalLists (now starts) (now neighbours) ⌝ }
-    requires { ⌜ isNumbering (sizeOf (now starts)) (now numbering) ≡ true ⌝ }
-    requires { ⌜ length (now counts) ≡ sizeOf (now starts) ⌝ }
-    ensures { λ r. ⌜ three r ≡ measureFigures (renumbered (graphOf (was starts) (was neighbours)) (was numbering)) ⌝ }
-    ensures { λ _. ⌜ left counts ≡ replicate (sizeOf (was starts)) 0 ⌝ }
+    requires { ⌜ isNumbering (sizeNow starts) (now numbering) ≡ true ⌝ }
+    requires { ⌜ length (now counts) ≡ sizeNow starts ⌝ }
+    ensures { λ r. ⌜ three r ≡ measureFigures (renumbered (graphWas starts neighbours) (was numbering)) ⌝ }
+    ensures { λ _. ⌜ left counts ≡ replicate (sizeWas starts) 0 ⌝ }
 {
     clear(counts, numbering.len());
     let spans = walk(starts, neighbours, numbering, counts);

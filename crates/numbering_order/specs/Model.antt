@@ -2,14 +2,14 @@
 -- Assumes nothing.
 use mathlib.Core.Path.{_≡_}
 use mathlib.Core.Bool.{Bool, true, not, _&&_, cond}
-use mathlib.Core.List.{List, _++_, map}
+use mathlib.Core.List.{List, _++_, map, foldl}
 use Prim.Native.Nat.{ℕ, suc, _+_, _-_, _≤_, _<_}
-use lib.ListN.{length, take, drop, getD}
+use lib.ListN.{length, take, drop, getD, replicate}
 use lib.Dec.{eqb}
-use Rattle.basis.specs.Lists.{bit, filterb, memb, upFrom}
+use Rattle.basis.specs.Lists.{bit, filterb, memb, upFrom, overwrite}
 use Rattle.basis.specs.Perm.{times, Once}
 use Rattle.spec.specs.Graph.{Graph, nodes, sortE, ofNode}
-use Rattle.spec.specs.Numbering.{levelNodes, within, laterLevel}
+use Rattle.spec.specs.Numbering.{levelNodes, within, laterLevel, forwardOrder}
 use Rattle.laws.specs.Legal.{Closed}
 use Rattle.laws.specs.Scratch.{membersArea}
 use Rattle.levels_sort.specs.Nodes.{Nodes}
@@ -69,6 +69,10 @@ foundBy g L i o w = sortE g (filterb (free L i o) (g .row w))
 -- the order with what w finds added
 abbrev pub addBy : (List ℕ → ℕ → List ℕ) → List ℕ → ℕ → List ℕ
 addBy by o w = o ++ by o w
+
+-- the order o with its nodes after the first t sorted by E
+abbrev pub tailSorted : Graph → ℕ → List ℕ → List ℕ
+tailSorted g t o = take t o ++ sortE g (drop t o)
 
 -- from the order o, with a cursor at c, node after node adds what it finds, until the cursor is at the end: the order is then o′
 pub data Spread (by : List ℕ → ℕ → List ℕ) : ℕ → List ℕ → List ℕ → Type 0 where
@@ -142,3 +146,25 @@ Follows g n at t i a W P = Standing g n at P W × Levelled g (ownLevels g P (dro
 -- nothing is numbered, and v is to be the first
 abbrev pub Opens : Graph → ℕ → ℕ → ℕ → ℕ → List ℕ → List ℕ → Type 0
 Opens g n at k v W P = Standing g n at P W × Starting (ownLevels g P (drop at W)) P k v
+
+-- ---- what becomes of it: the words W′ have an order of r nodes
+
+-- the rest of level i is numbered
+abbrev pub RestNumbered : Graph → ℕ → ℕ → ℕ → ℕ → List ℕ → List ℕ → ℕ → List ℕ → Type 0
+RestNumbered g n at t i W P r W′ = Became n W (filledIn g (ownLevels g P (drop at W)) i (orderIn n t W)) r W′
+
+-- level i is numbered
+abbrev pub LevelNumbered : Graph → ℕ → ℕ → ℕ → ℕ → List ℕ → List ℕ → ℕ → List ℕ → Type 0
+LevelNumbered g n at t i W P r W′ = Became n W (laterIn g (ownLevels g P (drop at W)) (orderIn n t W) i) r W′
+
+-- the levels 2 to k are numbered, one after the other
+abbrev pub LevelsNumbered : Graph → ℕ → ℕ → ℕ → ℕ → List ℕ → List ℕ → ℕ → List ℕ → Type 0
+LevelsNumbered g n at t k W P r W′ = Became n W (foldl (laterIn g (ownLevels g P (drop at W))) (orderIn n t W) (upFrom 2 (k - 1))) r W′
+
+-- the whole order from v, before any turn
+abbrev pub forwardIn : Graph → ℕ → ℕ → ℕ → List ℕ → List ℕ → List ℕ
+forwardIn g at k v W P = forwardOrder g (ownLevels g P (drop at W)) k v
+
+-- the words W with the order o behind n marks that are 0 again
+abbrev pub ordered : ℕ → List ℕ → List ℕ → List ℕ
+ordered n o W = replicate n 0 ++ overwrite o (drop n W)

@@ -4,18 +4,18 @@
 ghost use mathlib.Core.Path.{_≡_};
 ghost use mathlib.Core.Bool.{true, false};
 ghost use mathlib.Core.List.{List, [], _∷_, _++_, foldl};
-ghost use Prim.Native.Nat.{ℕ, _+_, _-_, _≤_};
+ghost use Prim.Native.Nat.{ℕ, _+_, _≤_};
 ghost use lib.ListN.{length, take, drop, replicate};
 ghost use lib.Dec.{ltb};
-ghost use Rattle.basis.specs.Lists.{filterb, chainb, memb, upFrom, overwrite};
+ghost use Rattle.basis.specs.Lists.{filterb, chainb, memb};
 ghost use Rattle.basis.specs.Moments.{was, left};
-ghost use Rattle.spec.specs.Graph.{sizeOf, graphOf, graphRefusal, sortE};
-ghost use Rattle.spec.specs.Numbering.{forwardOrder};
+ghost use Rattle.spec.specs.Graph.{graphOf, graphRefusal};
+ghost use Rattle.laws.specs.Handed.{graphNow, graphWas, sizeNow, sizeWas};
 ghost use Rattle.laws.specs.Legal.{Starts};
 ghost use Rattle.laws.specs.Scratch.{membersArea};
 ghost use Rattle.levels_sort.specs.Nodes.{Nodes};
 ghost use Rattle.numbering_stacks.specs.Part.{membersIn, Behind};
-ghost use Rattle.numbering_order.specs.Model.{stand, orderIn, Open, Became, Far, free, isFree, foundBy, addBy, Spreads, levelsIn, ownLevels, Starting, filledIn, laterIn, Fills, Follows, Opens};
+ghost use Rattle.numbering_order.specs.Model.{stand, orderIn, Open, Became, Far, free, isFree, foundBy, addBy, Spreads, tailSorted, levelsIn, Starting, Fills, Follows, Opens, RestNumbered, LevelNumbered, LevelsNumbered, forwardIn, ordered};
 use graph_words::wide;
 use numbering_stacks::legal::rank;
 use numbering_stacks::legal::unmarked;
@@ -80,10 +80,10 @@ fn append(row: &[u16], work: &mut [u16], n: usize, at: usize, t: usize, i: u16) 
 // Sorts the nodes that have the numbers after t, up to e, by E.
 fn sort_tail(starts: &[u16], work: &mut [u16], n: usize, t: usize, e: usize)
     requires { ⌜ ((neighbours : List ℕ) × Starts (now starts) neighbours) ⌝ }
-    requires { ⌜ n ≡ sizeOf (now starts) ⌝ }
+    requires { ⌜ n ≡ sizeNow starts ⌝ }
     requires { ⌜ Open n e (now work) ⌝ }
     requires { ⌜ t ≤ e ⌝ }
-    ensures { λ _. ⌜ ((neighbours : List ℕ) → Starts (was starts) neighbours → left work ≡ stand n (take t (orderIn n e (was work)) ++ sortE (graphOf (was starts) neighbours) (drop t (orderIn n e (was work)))) (drop n (was work))) ⌝ }
+    ensures { λ _. ⌜ ((neighbours : List ℕ) → Starts (was starts) neighbours → left work ≡ stand n (tailSorted (graphOf (was starts) neighbours) t (orderIn n e (was work))) (drop n (was work))) ⌝ }
 {
     levels_sort::legal::by_e(starts, &mut work[n + t..n + e]);
 }
@@ -100,11 +100,11 @@ fn extend(
     i: u16,
 ) -> usize
     requires { ⌜ graphRefusal (now starts) (now neighbours) ≡ 0 ⌝ }
-    requires { ⌜ n ≡ sizeOf (now starts) ⌝ }
+    requires { ⌜ n ≡ sizeNow starts ⌝ }
     requires { ⌜ Open n t (now work) ⌝ }
     requires { ⌜ Far n at (now work) ⌝ }
     requires { ⌜ (1 ≤ w) × (w ≤ n) ⌝ }
-    ensures { λ r. ⌜ Became n (was work) (addBy (foundBy (graphOf (was starts) (was neighbours)) (drop at (was work)) i) (orderIn n t (was work)) w) r (left work) ⌝ }
+    ensures { λ r. ⌜ Became n (was work) (addBy (foundBy (graphWas starts neighbours) (drop at (was work)) i) (orderIn n t (was work)) w) r (left work) ⌝ }
 {
     let row = graph::legal::row(starts, neighbours, wide(w));
     let e = append(row, work, n, at, t, i);
@@ -124,11 +124,11 @@ fn from_before(
     i: u16,
 ) -> usize
     requires { ⌜ graphRefusal (now starts) (now neighbours) ≡ 0 ⌝ }
-    requires { ⌜ n ≡ sizeOf (now starts) ⌝ }
+    requires { ⌜ n ≡ sizeNow starts ⌝ }
     requires { ⌜ Open n b (now work) ⌝ }
     requires { ⌜ Far n at (now work) ⌝ }
     requires { ⌜ a ≤ b ⌝ }
-    ensures { λ r. ⌜ Became n (was work) (foldl (addBy (foundBy (graphOf (was starts) (was neighbours)) (drop at (was work)) i)) (orderIn n b (was work)) (drop a (orderIn n b (was work)))) r (left work) ⌝ }
+    ensures { λ r. ⌜ Became n (was work) (foldl (addBy (foundBy (graphWas starts neighbours) (drop at (was work)) i)) (orderIn n b (was work)) (drop a (orderIn n b (was work)))) r (left work) ⌝ }
 {
     let mut e = b;
     let mut h = a;
@@ -153,10 +153,10 @@ fn spread(
     i: u16,
 ) -> usize
     requires { ⌜ graphRefusal (now starts) (now neighbours) ≡ 0 ⌝ }
-    requires { ⌜ n ≡ sizeOf (now starts) ⌝ }
+    requires { ⌜ n ≡ sizeNow starts ⌝ }
     requires { ⌜ Open n t (now work) ⌝ }
     requires { ⌜ Far n at (now work) ⌝ }
-    ensures { λ r. ⌜ Spreads n (foundBy (graphOf (was starts) (was neighbours)) (drop at (was work)) i) c (orderIn n t (was work)) (was work) r (left work) ⌝ }
+    ensures { λ r. ⌜ Spreads n (foundBy (graphWas starts neighbours) (drop at (was work)) i) c (orderIn n t (was work)) (was work) r (left work) ⌝ }
 {
     let mut e = t;
     let mut h = c;
@@ -180,12 +180,12 @@ fn resume(
     i: u16,
 ) -> usize
     requires { ⌜ graphRefusal (now starts) (now neighbours) ≡ 0 ⌝ }
-    requires { ⌜ n ≡ sizeOf (now starts) ⌝ }
+    requires { ⌜ n ≡ sizeNow starts ⌝ }
     requires { ⌜ Open n t (now work) ⌝ }
     requires { ⌜ Far n at (now work) ⌝ }
     requires { ⌜ (1 ≤ z) × (z ≤ n) ⌝ }
     requires { ⌜ memb z (orderIn n t (now work)) ≡ false ⌝ }
-    ensures { λ r. ⌜ Spreads n (foundBy (graphOf (was starts) (was neighbours)) (drop at (was work)) i) t (orderIn n t (was work) ++ (z ∷ [])) (was work) r (left work) ⌝ }
+    ensures { λ r. ⌜ Spreads n (foundBy (graphWas starts neighbours) (drop at (was work)) i) t (orderIn n t (was work) ++ (z ∷ [])) (was work) r (left work) ⌝ }
 {
     push(work, n, t, z);
     spread(starts, neighbours, work, n, at, t, t + 1, i)
@@ -204,11 +204,11 @@ fn fill(
     i: u16,
 ) -> usize
     requires { ⌜ graphRefusal (now starts) (now neighbours) ≡ 0 ⌝ }
-    requires { ⌜ n ≡ sizeOf (now starts) ⌝ }
+    requires { ⌜ n ≡ sizeNow starts ⌝ }
     requires { ⌜ Open n t (now work) ⌝ }
     requires { ⌜ i ≤ n ⌝ }
-    requires { ⌜ ((P : List ℕ) × Fills (graphOf (now starts) (now neighbours)) n at t i b (now work) P) ⌝ }
-    ensures { λ r. ⌜ ((P : List ℕ) → Fills (graphOf (was starts) (was neighbours)) n at t i b (was work) P → Became n (was work) (filledIn (graphOf (was starts) (was neighbours)) (ownLevels (graphOf (was starts) (was neighbours)) P (drop at (was work))) i (orderIn n t (was work))) r (left work)) ⌝ }
+    requires { ⌜ ((P : List ℕ) × Fills (graphNow starts neighbours) n at t i b (now work) P) ⌝ }
+    ensures { λ r. ⌜ ((P : List ℕ) → Fills (graphWas starts neighbours) n at t i b (was work) P → RestNumbered (graphWas starts neighbours) n at t i (was work) P r (left work)) ⌝ }
 {
     let top = work[n + n + n + (wide(i) - 1)];
     let left = unmarked(work, n, top);
@@ -236,11 +236,11 @@ fn level(
     i: u16,
 ) -> usize
     requires { ⌜ graphRefusal (now starts) (now neighbours) ≡ 0 ⌝ }
-    requires { ⌜ n ≡ sizeOf (now starts) ⌝ }
+    requires { ⌜ n ≡ sizeNow starts ⌝ }
     requires { ⌜ Open n b (now work) ⌝ }
     requires { ⌜ i ≤ n ⌝ }
-    requires { ⌜ ((P : List ℕ) × Follows (graphOf (now starts) (now neighbours)) n at b i a (now work) P) ⌝ }
-    ensures { λ r. ⌜ ((P : List ℕ) → Follows (graphOf (was starts) (was neighbours)) n at b i a (was work) P → Became n (was work) (laterIn (graphOf (was starts) (was neighbours)) (ownLevels (graphOf (was starts) (was neighbours)) P (drop at (was work))) (orderIn n b (was work)) i) r (left work)) ⌝ }
+    requires { ⌜ ((P : List ℕ) × Follows (graphNow starts neighbours) n at b i a (now work) P) ⌝ }
+    ensures { λ r. ⌜ ((P : List ℕ) → Follows (graphWas starts neighbours) n at b i a (was work) P → LevelNumbered (graphWas starts neighbours) n at b i (was work) P r (left work)) ⌝ }
 {
     let e = from_before(starts, neighbours, work, n, at, a, b, i);
     fill(starts, neighbours, work, n, at, b, e, i)
@@ -270,11 +270,11 @@ fn later_levels(
     k: u16,
 ) -> usize
     requires { ⌜ graphRefusal (now starts) (now neighbours) ≡ 0 ⌝ }
-    requires { ⌜ n ≡ sizeOf (now starts) ⌝ }
+    requires { ⌜ n ≡ sizeNow starts ⌝ }
     requires { ⌜ Open n t (now work) ⌝ }
     requires { ⌜ (1 ≤ k) × (k ≤ n) ⌝ }
-    requires { ⌜ ((P : List ℕ) × Follows (graphOf (now starts) (now neighbours)) n at t 2 0 (now work) P) ⌝ }
-    ensures { λ r. ⌜ ((P : List ℕ) → Follows (graphOf (was starts) (was neighbours)) n at t 2 0 (was work) P → Became n (was work) (foldl (laterIn (graphOf (was starts) (was neighbours)) (ownLevels (graphOf (was starts) (was neighbours)) P (drop at (was work)))) (orderIn n t (was work)) (upFrom 2 (k - 1))) r (left work)) ⌝ }
+    requires { ⌜ ((P : List ℕ) × Follows (graphNow starts neighbours) n at t 2 0 (now work) P) ⌝ }
+    ensures { λ r. ⌜ ((P : List ℕ) → Follows (graphWas starts neighbours) n at t 2 0 (was work) P → LevelsNumbered (graphWas starts neighbours) n at t k (was work) P r (left work)) ⌝ }
 {
     let mut a = 0;
     let mut b = t;
@@ -291,10 +291,10 @@ fn later_levels(
 // The order of a part whose nodes are on the stacks of their levels. "Level 1: v first".
 fn number(starts: &[u16], neighbours: &[u16], work: &mut [u16], n: usize, at: usize, k: u16, v: u16)
     requires { ⌜ graphRefusal (now starts) (now neighbours) ≡ 0 ⌝ }
-    requires { ⌜ n ≡ sizeOf (now starts) ⌝ }
+    requires { ⌜ n ≡ sizeNow starts ⌝ }
     requires { ⌜ take n (now work) ≡ replicate n 0 ⌝ }
-    requires { ⌜ ((P : List ℕ) × Opens (graphOf (now starts) (now neighbours)) n at k v (now work) P) ⌝ }
-    ensures { λ _. ⌜ ((P : List ℕ) → Opens (graphOf (was starts) (was neighbours)) n at k v (was work) P → left work ≡ replicate n 0 ++ overwrite (forwardOrder (graphOf (was starts) (was neighbours)) (ownLevels (graphOf (was starts) (was neighbours)) P (drop at (was work))) k v) (drop n (was work))) ⌝ }
+    requires { ⌜ ((P : List ℕ) × Opens (graphNow starts neighbours) n at k v (now work) P) ⌝ }
+    ensures { λ _. ⌜ ((P : List ℕ) → Opens (graphWas starts neighbours) n at k v (was work) P → left work ≡ ordered n (forwardIn (graphWas starts neighbours) at k v (was work) P) (was work)) ⌝ }
 {
     push(work, n, 0, v);
     let b = fill(starts, neighbours, work, n, at, 0, 1, 1);
@@ -315,10 +315,10 @@ pub fn forward(
     v: u16,
 )
     requires { ⌜ graphRefusal (now starts) (now neighbours) ≡ 0 ⌝ }
-    requires { ⌜ take (membersArea (sizeOf (now starts))) (now work) ≡ replicate (membersArea (sizeOf (now starts))) 0 ⌝ }
-    requires { ⌜ Behind (graphOf (now starts) (now neighbours)) (sizeOf (now starts)) at from m (now work) ⌝ }
-    requires { ⌜ Starting (levelsIn (graphOf (now starts) (now neighbours)) at from m (now work)) (membersIn from m (now work)) k v ⌝ }
-    ensures { λ _. ⌜ left work ≡ replicate (sizeOf (was starts)) 0 ++ overwrite (forwardOrder (graphOf (was starts) (was neighbours)) (levelsIn (graphOf (was starts) (was neighbours)) at from m (was work)) k v) (drop (sizeOf (was starts)) (was work)) ⌝ }
+    requires { ⌜ take (membersArea (sizeNow starts)) (now work) ≡ replicate (membersArea (sizeNow starts)) 0 ⌝ }
+    requires { ⌜ Behind (graphNow starts neighbours) (sizeNow starts) at from m (now work) ⌝ }
+    requires { ⌜ Starting (levelsIn (graphNow starts neighbours) at from m (now work)) (membersIn from m (now work)) k v ⌝ }
+    ensures { λ _. ⌜ left work ≡ ordered (sizeWas starts) (forwardIn (graphWas starts neighbours) at k v (was work) (membersIn from m (was work))) (was work) ⌝ }
 {
     let n = starts.len() - 1;
     rank(starts, neighbours, work, n, at, from, m);

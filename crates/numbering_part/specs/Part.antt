@@ -8,7 +8,9 @@ use Rattle.basis.specs.Lists.{memb, upFrom, position}
 use Rattle.basis.specs.Perm.{Once}
 use Rattle.spec.specs.Graph.{Graph, nodes, ofNode}
 use Rattle.spec.specs.Levels.{part}
-use Rattle.spec.specs.Numbering.{PartReport}
+use Rattle.spec.specs.Numbering.{PartReport, partResult}
+use Rattle.levels_laws.specs.Areas.{wordsOf}
+use Rattle.levels_laws.specs.Given.{firstOf}
 use Rattle.numbering_part.specs.declared.shape.PartFigures.{PartFigures}
 
 -- the order of m nodes that stands behind the first n words
@@ -26,6 +28,18 @@ numbered a o X = map (λ q. cond (memb q o) (numberFrom a o q) (ofNode X q)) (up
 -- the list L, by old number, after the nodes of z's part got the words that f gives
 unfoldable pub renewed : Graph → ℕ → (ℕ → ℕ) → List ℕ → List ℕ
 renewed g z f L = map (λ q. cond (memb q (part g z)) (f q) (ofNode L q)) (nodes g)
+
+-- the lowest node of the part whose members stand from `from` on in their area of the scratch W
+abbrev pub lowestIn : ℕ → ℕ → List ℕ → ℕ
+lowestIn n from W = firstOf n from (wordsOf n W)
+
+-- the numbers X, by old number, after the nodes of z's part got the numbers after a
+abbrev pub newNumbers : Graph → ℕ → ℕ → List ℕ → List ℕ
+newNumbers g z a X = renewed g z (numberFrom a (partResult g z .order)) X
+
+-- the levels L, by old number, after they got their levels
+abbrev pub newLevels : Graph → ℕ → List ℕ → List ℕ
+newLevels g z L = renewed g z (ofNode (partResult g z .levels)) L
 
 -- what the run sums up of a part's report
 abbrev pub partFiguresOf : PartReport → PartFigures

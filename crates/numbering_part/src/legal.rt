@@ -6,16 +6,16 @@ ghost use Prim.Native.Nat.{_+_, _-_, _≤_, _<_};
 ghost use lib.ListN.{length, replicate, set};
 ghost use lib.Seq.{sets, slice};
 ghost use Rattle.basis.specs.Moments.{was, left};
-ghost use Rattle.spec.specs.Graph.{graphOf, sizeOf, graphRefusal, ofNode};
+ghost use Rattle.spec.specs.Graph.{graphRefusal};
 ghost use Rattle.spec.specs.Numbering.{partResult};
+ghost use Rattle.laws.specs.Handed.{graphNow, graphWas, sizeNow, sizeWas};
 ghost use Rattle.laws.specs.Scratch.{tallyArea, areasEnd};
 ghost use Rattle.levels_laws.specs.Areas.{wordsOf};
 ghost use Rattle.levels_laws.specs.Model.{numberAt, written};
-ghost use Rattle.levels_laws.specs.Given.{firstOf};
 ghost use Rattle.levels_laws.specs.Members.{Members, stored, nought};
 ghost use Rattle.levels_laws.specs.Starts.{membersOf};
 ghost use Rattle.levels.specs.Part.{PartGiven};
-ghost use Rattle.numbering_part.specs.Part.{orderAt, renewed, numbered, numberFrom, partFiguresOf, Numberable};
+ghost use Rattle.numbering_part.specs.Part.{orderAt, numbered, lowestIn, newNumbers, newLevels, partFiguresOf, Numberable};
 use crate::shape::PartFigures;
 use graph_words::areas::MEMBERS;
 use graph_words::areas::TALLY;
@@ -81,12 +81,12 @@ pub fn number_part(
     to: usize,
 ) -> PartFigures
     requires { ⌜ graphRefusal (now starts) (now neighbours) ≡ 0 ⌝ }
-    requires { ⌜ PartGiven (graphOf (now starts) (now neighbours)) from to (wordsOf (sizeOf (now starts)) (now scratch)) (slice (tallyArea (sizeOf (now starts))) (areasEnd (sizeOf (now starts))) (now scratch)) ⌝ }
-    requires { ⌜ (length (now numbers) ≡ sizeOf (now starts)) × (length (now levels) ≡ sizeOf (now starts)) ⌝ }
-    ensures { λ r. ⌜ r ≡ partFiguresOf (partResult (graphOf (was starts) (was neighbours)) (firstOf (sizeOf (was starts)) from (wordsOf (sizeOf (was starts)) (was scratch))) .report) ⌝ }
+    requires { ⌜ PartGiven (graphNow starts neighbours) from to (wordsOf (sizeNow starts) (now scratch)) (slice (tallyArea (sizeNow starts)) (areasEnd (sizeNow starts)) (now scratch)) ⌝ }
+    requires { ⌜ (length (now numbers) ≡ sizeNow starts) × (length (now levels) ≡ sizeNow starts) ⌝ }
+    ensures { λ r. ⌜ r ≡ partFiguresOf (partResult (graphWas starts neighbours) (lowestIn (sizeWas starts) from (was scratch)) .report) ⌝ }
     ensures { λ _. ⌜ left scratch ≡ was scratch ⌝ }
-    ensures { λ _. ⌜ left numbers ≡ renewed (graphOf (was starts) (was neighbours)) (firstOf (sizeOf (was starts)) from (wordsOf (sizeOf (was starts)) (was scratch))) (numberFrom from (partResult (graphOf (was starts) (was neighbours)) (firstOf (sizeOf (was starts)) from (wordsOf (sizeOf (was starts)) (was scratch))) .order)) (was numbers) ⌝ }
-    ensures { λ _. ⌜ left levels ≡ renewed (graphOf (was starts) (was neighbours)) (firstOf (sizeOf (was starts)) from (wordsOf (sizeOf (was starts)) (was scratch))) (ofNode (partResult (graphOf (was starts) (was neighbours)) (firstOf (sizeOf (was starts)) from (wordsOf (sizeOf (was starts)) (was scratch))) .levels)) (was levels) ⌝ }
+    ensures { λ _. ⌜ left numbers ≡ newNumbers (graphWas starts neighbours) (lowestIn (sizeWas starts) from (was scratch)) from (was numbers) ⌝ }
+    ensures { λ _. ⌜ left levels ≡ newLevels (graphWas starts neighbours) (lowestIn (sizeWas starts) from (was scratch)) (was levels) ⌝ }
 {
     let n = starts.len() - 1;
     let m = to - from;

@@ -3,9 +3,10 @@ ghost use mathlib.Core.Path.{_≡_};
 ghost use Prim.Native.Nat.{_*_, _≤_};
 ghost use lib.ListN.{length};
 ghost use Rattle.basis.specs.Moments.{was, left};
-ghost use Rattle.spec.specs.Graph.{graphOf, sizeOf, graphRefusal};
+ghost use Rattle.spec.specs.Graph.{graphRefusal};
 ghost use Rattle.spec.specs.Lent.{zeroed, wordsPerNode};
 ghost use Rattle.spec.specs.Numbering.{partResult};
+ghost use Rattle.laws.specs.Handed.{graphWas, sizeNow, sizeWas};
 ghost use Rattle.numbering_report.specs.Answers.{reportMeaning};
 use crate::answer::PartReport;
 use crate::legal::report;
@@ -26,10 +27,10 @@ pub(crate) fn find_report(
     scratch: &mut [u16],
 ) -> PartReport
     requires { ⌜ graphRefusal (now starts) (now neighbours) ≡ 0 ⌝ }
-    requires { ⌜ (1 ≤ node) × (node ≤ sizeOf (now starts)) ⌝ }
-    requires { ⌜ wordsPerNode * sizeOf (now starts) ≤ length (now scratch) ⌝ }
-    ensures { λ r. ⌜ reportMeaning r ≡ partResult (graphOf (was starts) (was neighbours)) node .report ⌝ }
-    ensures { λ _. ⌜ left scratch ≡ zeroed (wordsPerNode * sizeOf (was starts)) (was scratch) ⌝ }
+    requires { ⌜ (1 ≤ node) × (node ≤ sizeNow starts) ⌝ }
+    requires { ⌜ wordsPerNode * sizeNow starts ≤ length (now scratch) ⌝ }
+    ensures { λ r. ⌜ reportMeaning r ≡ partResult (graphWas starts neighbours) node .report ⌝ }
+    ensures { λ _. ⌜ left scratch ≡ zeroed (wordsPerNode * sizeWas starts) (was scratch) ⌝ }
 {
     let n = starts.len() - 1;
     clear(scratch, WORDS_PER_NODE * n);

@@ -7,9 +7,10 @@ ghost use Prim.Native.Nat.{_+_, _-_, _≤_, _<_, max, suc};
 ghost use lib.ListN.{length, drop, replicate};
 ghost use Rattle.basis.specs.Lists.{greatest, least};
 ghost use Rattle.basis.specs.Moments.{was, left};
-ghost use Rattle.spec.specs.Graph.{sizeOf, graphOf, ofNode};
+ghost use Rattle.spec.specs.Graph.{ofNode};
 ghost use Rattle.spec.specs.Measures.{inOrder, rowSpan, profile};
 ghost use Rattle.spec.specs.Numbering.{turns};
+ghost use Rattle.laws.specs.Handed.{graphWas, sizeNow};
 ghost use Rattle.graph_envelope.specs.Numbers.{Words};
 ghost use Rattle.numbering_reverse.specs.Places.{segment, Listed, Part, Clean, Placed, Put};
 use graph_envelope::legal::number;
@@ -82,11 +83,11 @@ fn ends(row: &[u16], places: &[u16], own: usize) -> Range
 
 // The spans of the node at place a + 1, which is place m − a of the order reversed: what lies above the diagonal lies below it then.
 fn span(starts: &[u16], neighbours: &[u16], work: &[u16], n: usize, m: usize, a: usize) -> Both
-    requires { ⌜ (n ≡ sizeOf (now starts)) × (n + m ≤ length (now work)) × (a < m) ⌝ }
+    requires { ⌜ (n ≡ sizeNow starts) × (n + m ≤ length (now work)) × (a < m) ⌝ }
     requires { ⌜ Part (now starts) (now neighbours) (segment n m (now work)) ⌝ }
     requires { ⌜ Placed (segment n m (now work)) (now work) ⌝ }
-    ensures { λ r. ⌜ r .forward ≡ rowSpan (inOrder (graphOf (was starts) (was neighbours)) (segment n m (was work))) (suc a) ⌝ }
-    ensures { λ r. ⌜ r .backward ≡ rowSpan (inOrder (graphOf (was starts) (was neighbours)) (reverse (segment n m (was work)))) (m - a) ⌝ }
+    ensures { λ r. ⌜ r .forward ≡ rowSpan (inOrder (graphWas starts neighbours) (segment n m (was work))) (suc a) ⌝ }
+    ensures { λ r. ⌜ r .backward ≡ rowSpan (inOrder (graphWas starts neighbours) (reverse (segment n m (was work)))) (m - a) ⌝ }
 {
     let z = wide(work[n + a]);
     let row = graph::legal::row(starts, neighbours, z);
@@ -102,11 +103,11 @@ fn span(starts: &[u16], neighbours: &[u16], work: &[u16], n: usize, m: usize, a:
 
 // The sums of the spans.
 fn spans(starts: &[u16], neighbours: &[u16], work: &[u16], n: usize, m: usize) -> Both
-    requires { ⌜ (n ≡ sizeOf (now starts)) × (n + m ≤ length (now work)) ⌝ }
+    requires { ⌜ (n ≡ sizeNow starts) × (n + m ≤ length (now work)) ⌝ }
     requires { ⌜ Part (now starts) (now neighbours) (segment n m (now work)) ⌝ }
     requires { ⌜ Placed (segment n m (now work)) (now work) ⌝ }
-    ensures { λ r. ⌜ r .forward ≡ profile (inOrder (graphOf (was starts) (was neighbours)) (segment n m (was work))) ⌝ }
-    ensures { λ r. ⌜ r .backward ≡ profile (inOrder (graphOf (was starts) (was neighbours)) (reverse (segment n m (was work)))) ⌝ }
+    ensures { λ r. ⌜ r .forward ≡ profile (inOrder (graphWas starts neighbours) (segment n m (was work))) ⌝ }
+    ensures { λ r. ⌜ r .backward ≡ profile (inOrder (graphWas starts neighbours) (reverse (segment n m (was work)))) ⌝ }
 {
     let mut forward: u32 = 0;
     let mut backward: u32 = 0;
@@ -125,11 +126,11 @@ fn spans(starts: &[u16], neighbours: &[u16], work: &[u16], n: usize, m: usize) -
 
 // The profiles of a part in its order and in that reversed. The first n words end as 0.
 fn profiles(starts: &[u16], neighbours: &[u16], work: &mut [u16], n: usize, m: usize) -> Both
-    requires { ⌜ (n ≡ sizeOf (now starts)) × (n + m ≤ length (now work)) ⌝ }
+    requires { ⌜ (n ≡ sizeNow starts) × (n + m ≤ length (now work)) ⌝ }
     requires { ⌜ Part (now starts) (now neighbours) (segment n m (now work)) ⌝ }
     requires { ⌜ Clean n (segment n m (now work)) (now work) ⌝ }
-    ensures { λ r. ⌜ r .forward ≡ profile (inOrder (graphOf (was starts) (was neighbours)) (segment n m (was work))) ⌝ }
-    ensures { λ r. ⌜ r .backward ≡ profile (inOrder (graphOf (was starts) (was neighbours)) (reverse (segment n m (was work)))) ⌝ }
+    ensures { λ r. ⌜ r .forward ≡ profile (inOrder (graphWas starts neighbours) (segment n m (was work))) ⌝ }
+    ensures { λ r. ⌜ r .backward ≡ profile (inOrder (graphWas starts neighbours) (reverse (segment n m (was work)))) ⌝ }
     ensures { λ _. ⌜ left work ≡ replicate n 0 ++ drop n (was work) ⌝ }
 {
     put_places(work, n, m);
@@ -155,10 +156,10 @@ fn reverse(words: &mut [u16])
 
 // "A part's numbers are turned end for end exactly if that makes its profile less": whether they are, and the order as it is then.
 pub fn turn(starts: &[u16], neighbours: &[u16], work: &mut [u16], n: usize, m: usize) -> bool
-    requires { ⌜ (n ≡ sizeOf (now starts)) × (n + m ≤ length (now work)) ⌝ }
+    requires { ⌜ (n ≡ sizeNow starts) × (n + m ≤ length (now work)) ⌝ }
     requires { ⌜ Part (now starts) (now neighbours) (segment n m (now work)) ⌝ }
     requires { ⌜ Clean n (segment n m (now work)) (now work) ⌝ }
-    ensures { λ r. ⌜ r ≡ turns (graphOf (was starts) (was neighbours)) (segment n m (was work)) ⌝ }
+    ensures { λ r. ⌜ r ≡ turns (graphWas starts neighbours) (segment n m (was work)) ⌝ }
     ensures { λ r. ⌜ left work ≡ replicate n 0 ++ (cond r (reverse (segment n m (was work))) (segment n m (was work)) ++ drop (n + m) (was work)) ⌝ }
 {
     let both = profiles(starts, neighbours, work, n, m);

@@ -5,14 +5,14 @@ use mathlib.Core.Bool.{true, false}
 use mathlib.Core.List.{List}
 use Prim.Native.Nat.{ℕ, _+_, _≤_}
 use lib.ListN.{length, take, getD, replicate}
-use lib.Seq.{slice}
+use lib.Seq.{sets, slice}
 use Rattle.basis.specs.Lists.{memb}
 use Rattle.basis.specs.Perm.{Once}
 use Rattle.spec.specs.Combined.{combined}
 use Rattle.spec.specs.Ends.{Ends, ends}
 use Rattle.spec.specs.Graph.{Graph, ofNode}
 use Rattle.spec.specs.Levels.{part}
-use Rattle.spec.specs.Numbering.{startNode, finishNode, partLevels, forwardOrder, turns}
+use Rattle.spec.specs.Numbering.{PartResult, startNode, finishNode, partLevels, forwardOrder, turns, partResult}
 use Rattle.laws.specs.Scratch.{membersArea}
 use Rattle.levels_sort.specs.Nodes.{Nodes}
 use Rattle.numbering_stacks.specs.Part.{membersIn}
@@ -42,22 +42,34 @@ pub record PartAt (g : Graph) (from m : ℕ) (W : List ℕ) : Type 0 where
   pub some : 1 ≤ m
   pub members : membersIn from m W ≡ part g (getD W from 0)
 
+-- the ends of the part whose nodes stand from `from` on
+abbrev pub endsIn : Graph → ℕ → List ℕ → Ends
+endsIn g from W = ends g (getD W from 0)
+
+-- and what is found of it
+abbrev pub resultIn : Graph → ℕ → List ℕ → PartResult
+resultIn g from W = partResult g (getD W from 0)
+
+-- the words W with it: the order behind the first n words, the levels from `at` on
+abbrev pub withResult : ℕ → ℕ → PartResult → List ℕ → List ℕ
+withResult n at found W = sets (sets W n (found .order)) at (found .levels)
+
 -- what the order of a part asks: the part, its combined levels, k, v and u
 pub record Sequenceable (g : Graph) (at from m k v u : ℕ) (W : List ℕ) : Type 0 where
   pub areas : Areas (g .size) at from m W
   pub part : PartAt g from m W
-  pub levels : slice at (at + g .size) W ≡ combined g (ends g (getD W from 0))
-  pub k-is : k ≡ ends g (getD W from 0) .k
-  pub v-is : v ≡ ends g (getD W from 0) .v
-  pub u-is : u ≡ ends g (getD W from 0) .u
+  pub levels : slice at (at + g .size) W ≡ combined g (endsIn g from W)
+  pub k-is : k ≡ endsIn g from W .k
+  pub v-is : v ≡ endsIn g from W .v
+  pub u-is : u ≡ endsIn g from W .u
 
 -- the same after any change of names: v is v as now named, and the levels are counted from it
 pub record Named (g : Graph) (at from m k v : ℕ) (W : List ℕ) : Type 0 where
   pub areas : Areas (g .size) at from m W
   pub part : PartAt g from m W
-  pub levels : slice at (at + g .size) W ≡ partLevels g (ends g (getD W from 0))
-  pub k-is : k ≡ ends g (getD W from 0) .k
-  pub v-is : v ≡ startNode g (ends g (getD W from 0))
+  pub levels : slice at (at + g .size) W ≡ partLevels g (endsIn g from W)
+  pub k-is : k ≡ endsIn g from W .k
+  pub v-is : v ≡ startNode g (endsIn g from W)
 
 -- what a change of names asks: the levels of the m nodes are among 1..k, and those of other nodes are 0
 pub record Mirrorable (n at from m k : ℕ) (W : List ℕ) : Type 0 where

@@ -3,16 +3,15 @@
 ghost use mathlib.Core.Path.{_≡_};
 ghost use mathlib.Core.List.{List, map};
 ghost use Prim.Native.Nat.{ℕ, _+_, _≤_};
-ghost use lib.ListN.{getD};
 ghost use lib.Dec.{ltb};
 ghost use lib.Seq.{sets, slice};
 ghost use Rattle.basis.specs.Moments.{was, left};
-ghost use Rattle.spec.specs.Graph.{sizeOf, graphOf, graphRefusal, degree};
+ghost use Rattle.spec.specs.Graph.{graphOf, graphRefusal, degree};
 ghost use Rattle.spec.specs.Combined.{mirrored};
-ghost use Rattle.spec.specs.Ends.{ends};
-ghost use Rattle.spec.specs.Numbering.{turns, partResult};
+ghost use Rattle.spec.specs.Numbering.{turns};
+ghost use Rattle.laws.specs.Handed.{graphNow, graphWas, sizeNow, sizeWas};
 ghost use Rattle.laws.specs.Legal.{Starts};
-ghost use Rattle.numbering_sequence.specs.Answer.{forwardBy, sequenceOf, Sequenceable, Named, Mirrorable};
+ghost use Rattle.numbering_sequence.specs.Answer.{forwardBy, sequenceOf, endsIn, resultIn, withResult, Sequenceable, Named, Mirrorable};
 use crate::shape::Sequence;
 use graph::legal::degree;
 use graph_words::wide;
@@ -20,7 +19,7 @@ use graph_words::wide;
 // "If u has lower degree than v, v and u change names": whether they do.
 fn renames(starts: &[u16], v: u16, u: u16) -> bool
     requires { ⌜ ((neighbours : List ℕ) × Starts (now starts) neighbours) ⌝ }
-    requires { ⌜ (1 ≤ v) × (v ≤ sizeOf (now starts)) × (1 ≤ u) × (u ≤ sizeOf (now starts)) ⌝ }
+    requires { ⌜ (1 ≤ v) × (v ≤ sizeNow starts) × (1 ≤ u) × (u ≤ sizeNow starts) ⌝ }
     ensures { λ r. ⌜ ((neighbours : List ℕ) → Starts (was starts) neighbours → r ≡ ltb (degree (graphOf (was starts) neighbours) u) (degree (graphOf (was starts) neighbours) v)) ⌝ }
 {
     let a = degree(starts, wide(u));
@@ -54,9 +53,9 @@ fn arrange(
     v: u16,
 ) -> bool
     requires { ⌜ graphRefusal (now starts) (now neighbours) ≡ 0 ⌝ }
-    requires { ⌜ Named (graphOf (now starts) (now neighbours)) at from m k v (now work) ⌝ }
-    ensures { λ r. ⌜ r ≡ turns (graphOf (was starts) (was neighbours)) (forwardBy (graphOf (was starts) (was neighbours)) (ends (graphOf (was starts) (was neighbours)) (getD (was work) from 0))) ⌝ }
-    ensures { λ _. ⌜ left work ≡ sets (was work) (sizeOf (was starts)) (partResult (graphOf (was starts) (was neighbours)) (getD (was work) from 0) .order) ⌝ }
+    requires { ⌜ Named (graphNow starts neighbours) at from m k v (now work) ⌝ }
+    ensures { λ r. ⌜ r ≡ turns (graphWas starts neighbours) (forwardBy (graphWas starts neighbours) (endsIn (graphWas starts neighbours) from (was work))) ⌝ }
+    ensures { λ _. ⌜ left work ≡ sets (was work) (sizeWas starts) (resultIn (graphWas starts neighbours) from (was work) .order) ⌝ }
 {
     let n = starts.len() - 1;
     numbering_order::legal::forward(starts, neighbours, work, at, from, m, k, v);
@@ -78,9 +77,9 @@ pub fn sequence(
     u: u16,
 ) -> Sequence
     requires { ⌜ graphRefusal (now starts) (now neighbours) ≡ 0 ⌝ }
-    requires { ⌜ Sequenceable (graphOf (now starts) (now neighbours)) at from m k v u (now work) ⌝ }
-    ensures { λ r. ⌜ r ≡ sequenceOf (graphOf (was starts) (was neighbours)) (ends (graphOf (was starts) (was neighbours)) (getD (was work) from 0)) ⌝ }
-    ensures { λ _. ⌜ left work ≡ sets (sets (was work) (sizeOf (was starts)) (partResult (graphOf (was starts) (was neighbours)) (getD (was work) from 0) .order)) at (partResult (graphOf (was starts) (was neighbours)) (getD (was work) from 0) .levels) ⌝ }
+    requires { ⌜ Sequenceable (graphNow starts neighbours) at from m k v u (now work) ⌝ }
+    ensures { λ r. ⌜ r ≡ sequenceOf (graphWas starts neighbours) (endsIn (graphWas starts neighbours) from (was work)) ⌝ }
+    ensures { λ _. ⌜ left work ≡ withResult (sizeWas starts) at (resultIn (graphWas starts neighbours) from (was work)) (was work) ⌝ }
 {
     if renames(starts, v, u) {
         let n = starts.len() - 1;

@@ -1,6 +1,11 @@
 -- What the answers of this library mean in document 01's numbers and values. Assumes nothing.
-use Rattle.spec.specs.CallsStore.{EliminationFigures, RunElimination}
-use Rattle.spec.specs.Lent.{Outcome, accepted, refused}
+use mathlib.Core.List.{List}
+use Prim.Native.Nat.{ℕ}
+use Rattle.spec.specs.CallsStore.{EliminationFigures, RunElimination, eliminationFigures}
+use Rattle.spec.specs.Graph.{Graph}
+use Rattle.spec.specs.Lent.{Outcome, accepted, refused, outcome, filled, short}
+use Rattle.spec.specs.Refusal.{refuse}
+use Rattle.spec.specs.Store.{markByteCount, markBytes}
 use Rattle.numbering.specs.Answer.{eight}
 use Rattle.store.specs.declared.answer.Counts.{Counts}
 use Rattle.store.specs.declared.answer.Elimination.{Elimination}
@@ -25,3 +30,17 @@ runMeaning (RunRefused c) = refused c
 runMeaning (RunOnly f c) = accepted (record { figures = eight f; elimination = refused c })
 -- the run's figures and the elimination's counts
 runMeaning (Both f c) = accepted (record { figures = eight f; elimination = accepted (figuresOf c) })
+
+-- ---- the elimination of the graph h, by its new numbers, where mark bytes are lent
+
+-- 8: they are short
+abbrev pub bytesRefusal : Graph → List ℕ → ℕ
+bytesRefusal h bytes = refuse (short bytes (markByteCount h)) 8
+
+-- what is answered
+abbrev pub eliminated : Graph → List ℕ → Outcome EliminationFigures
+eliminated h bytes = outcome (bytesRefusal h bytes) (eliminationFigures h)
+
+-- the mark bytes afterwards
+abbrev pub bytesAfter : Graph → List ℕ → List ℕ
+bytesAfter h bytes = filled (bytesRefusal h bytes) (markBytes h) bytes

@@ -4,13 +4,12 @@ ghost use Prim.Native.Nat.{_≤_};
 ghost use lib.ListN.{length, take, replicate};
 ghost use Rattle.basis.specs.Moments.{was, left};
 ghost use Rattle.spec.specs.CallsStore.{eliminationFigures};
-ghost use Rattle.spec.specs.Graph.{sizeOf};
-ghost use Rattle.spec.specs.Lent.{outcome, filled, zeroed, short};
+ghost use Rattle.spec.specs.Lent.{zeroed};
 ghost use Rattle.spec.specs.Measures.{orderOf};
-ghost use Rattle.spec.specs.Refusal.{refuse};
 ghost use Rattle.spec.specs.Store.{markByteCount, markBytes};
+ghost use Rattle.laws.specs.Handed.{sizeNow, sizeWas};
 ghost use Rattle.store_eliminate.specs.Walk.{Given, newGraph};
-ghost use Rattle.store.specs.Answer.{meaning, figuresOf};
+ghost use Rattle.store.specs.Answer.{meaning, figuresOf, eliminated, bytesAfter};
 use crate::answer::Counts;
 use crate::answer::Elimination;
 
@@ -35,7 +34,7 @@ fn mark(
         × (now scratch ≡ orderOf (now numbering))
         × (length (now bytes) ≡ markByteCount (newGraph (now starts) (now neighbours) (now numbering))) ⌝ }
     ensures { λ r. ⌜ (figuresOf r ≡ eliminationFigures (newGraph (was starts) (was neighbours) (was numbering)))
-        × (left scratch ≡ replicate (sizeOf (was starts)) 0)
+        × (left scratch ≡ replicate (sizeWas starts) 0)
         × (left bytes ≡ markBytes (newGraph (was starts) (was neighbours) (was numbering))) ⌝ }
 {
     let marked = store_eliminate::legal::mark(starts, neighbours, numbering, scratch, bytes);
@@ -56,12 +55,12 @@ pub fn eliminate(
     n: usize,
 ) -> Elimination
     requires { ⌜ Given (now starts) (now neighbours) (now numbering)
-        × (n ≡ sizeOf (now starts))
+        × (n ≡ sizeNow starts)
         × (n ≤ length (now scratch))
         × (take n (now scratch) ≡ orderOf (now numbering)) ⌝ }
-    ensures { λ r. ⌜ (meaning r ≡ outcome (refuse (short (was bytes) (markByteCount (newGraph (was starts) (was neighbours) (was numbering)))) 8) (eliminationFigures (newGraph (was starts) (was neighbours) (was numbering))))
+    ensures { λ r. ⌜ (meaning r ≡ eliminated (newGraph (was starts) (was neighbours) (was numbering)) (was bytes))
         × (left scratch ≡ zeroed n (was scratch))
-        × (left bytes ≡ filled (refuse (short (was bytes) (markByteCount (newGraph (was starts) (was neighbours) (was numbering)))) 8) (markBytes (newGraph (was starts) (was neighbours) (was numbering))) (was bytes)) ⌝ }
+        × (left bytes ≡ bytesAfter (newGraph (was starts) (was neighbours) (was numbering)) (was bytes)) ⌝ }
 {
     let m = byte_count(starts, neighbours, numbering);
     if bytes.len() < m {

@@ -82,7 +82,9 @@ pub fn run_eliminate(
     ensures { λ _. ⌜ left levels ≡ runLevels (was starts) (was neighbours) (was numbers) (was levels) (was scratch) ⌝ }
     ensures { λ _. ⌜ left scratch ≡ runScratch (was starts) (was neighbours) (was numbers) (was levels) (was scratch) ⌝ }
     ensures { λ _. ⌜ left bytes ≡ runEliminateBytes (was starts) (was neighbours) (was numbers) (was levels) (was scratch) (was bytes) ⌝ }
-    ensures { λ r. ⌜ ((e : RunEliminated) → runMeaning r ≡ accepted e → Claimed (was starts) (was neighbours) (e .figures) (left numbers) (left levels) (handedScratch (was starts) (was neighbours) (was numbers) (was levels) (was scratch)) (was bytes) (e .elimination) (left bytes)) ⌝ }
+    ensures { λ r. ⌜ ((e : RunEliminated) → runMeaning r ≡ accepted e
+        → Claimed (was starts) (was neighbours) (e .figures) (left numbers) (left levels)
+        (handedScratch (was starts) (was neighbours) (was numbers) (was levels) (was scratch)) (was bytes) (e .elimination) (left bytes)) ⌝ }
 {
     match numbering::run(starts, neighbours, numbers, levels, scratch) {
         RunAnswer::Refused(c) => RunElimination::Refused(c),
