@@ -13,7 +13,7 @@ use Rattle.basis.specs.Lists.{anyb}
 use Rattle.basis.proofs.Logic.{or-none, lt-or-le}
 use Rattle.spec.specs.Refusal.{refuse, _orElse_}
 use Rattle.spec.specs.Graph.{outside}
-use Rattle.spec.specs.Mesh.{kindTable, nodeCount, repeats, badNodes, elementRefusal, elementsRefusal, elements}
+use Rattle.spec.specs.Mesh.{kindTable, nodeCount, badNodes, elementRefusal, elementsRefusal, elements}
 use Rattle.laws.proofs.Refused.{or-else-zero, refuse-zero}
 use Rattle.laws.proofs.Bounds.{refusal-empty, refusal-first, elements-empty, elements-first}
 use Rattle.mesh_elements.proofs.Remains.{drop-next}
@@ -51,7 +51,7 @@ by-record short n kind ws =
     in-order (refuse (eqb (nodeCount kind) 0) 9) (refuse (ltb (length ws) (nodeCount kind)) short) _
     ∙ ap (λ (l : List ℕ). refuse (eqb (nodeCount kind) 0) 9 orElse refuse (ltb (length ws) (nodeCount kind)) short orElse refuse (badNodes n l) 10) (take-least (nodeCount kind) ws)
 
--- an element that is not refused: its kind is known, its record ends within the words, and its nodes are inside and differ
+-- an element that is not refused: its kind is known, its record ends within the words, and its nodes are in range
 pub record Good (n kind : ℕ) (ws : List ℕ) : Type 0 where
   pub known : eqb (nodeCount kind) 0 ≡ false
   pub fits : ltb (length ws) (nodeCount kind) ≡ false
@@ -85,8 +85,7 @@ good-some n kind ws e =
 
 pub good-inside : (n kind : ℕ) (ws : List ℕ) → elementRefusal 9 n kind ws ≡ 0 → anyb (outside n) (take (nodeCount kind) ws) ≡ false
 unfolding badNodes
-good-inside n kind ws e =
-    or-none (anyb (outside n) (take (nodeCount kind) ws)) (repeats (take (nodeCount kind) ws)) (good-of 9 n kind ws (omega arith) e .nodes) .0
+good-inside n kind ws e = good-of 9 n kind ws (omega arith) e .nodes
 
 -- ---- the elements one by one
 

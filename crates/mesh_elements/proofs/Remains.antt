@@ -7,8 +7,7 @@ use native.Mathlib.Numerals.{add-one}
 use native.Mathlib.Omega.{arith}
 use lib.ListN.{length, getD, take, drop, length-drop, drop-of-length-le}
 use lib.Seq.{take-all, drop-cons}
-use Rattle.basis.specs.Lists.{anyb, memb}
-use Rattle.spec.specs.Mesh.{repeats}
+use Rattle.basis.specs.Lists.{anyb}
 
 -- the list from place j on: the word there, then the list from the next place on
 pub drop-next : (l : List ℕ) (j : ℕ) → j < length l → drop j l ≡ getD l j 0 ∷ drop (j + 1) l
@@ -30,19 +29,3 @@ module _ (t : ℕ → Bool) (l : List ℕ) (j : ℕ) (rest : anyb t l ≡ anyb t
   -- no word is left
   pub any-over : length l ≤ j → false ≡ anyb t l
   any-over h = sym (rest ∙ ap (anyb t) (drop-of-length-le l h))
-
-module _ (l : List ℕ) (j : ℕ) (rest : repeats l ≡ repeats (drop j l)) where
-  -- the word at j stands again later
-  pub repeat-met : j < length l → memb (getD l j 0) (drop (j + 1) l) ≡ true → true ≡ repeats l
-  unfolding repeats
-  repeat-met h e = sym (rest ∙ ap repeats (drop-next l j h) ∙ ap (λ b. b || repeats (drop (j + 1) l)) e)
-
-  -- it doesn't: go on
-  pub repeat-passed : j < length l → memb (getD l j 0) (drop (j + 1) l) ≡ false → repeats l ≡ repeats (drop (j + 1) l)
-  unfolding repeats
-  repeat-passed h e = rest ∙ ap repeats (drop-next l j h) ∙ ap (λ b. b || repeats (drop (j + 1) l)) e
-
-  -- no word is left
-  pub repeat-over : length l ≤ j → false ≡ repeats l
-  unfolding repeats
-  repeat-over h = sym (rest ∙ ap repeats (drop-of-length-le l h))

@@ -1,10 +1,10 @@
-// Tests of the nodes of one element. There are ten at most, so each node is compared with all that follow.
+// The test of the nodes of one element. A node may repeat.
 ghost use mathlib.Core.Path.{_≡_};
-ghost use Rattle.basis.specs.Lists.{anyb, memb};
+ghost use Rattle.basis.specs.Lists.{anyb};
 ghost use Rattle.basis.specs.Moments.{was};
 ghost use Rattle.spec.specs.Graph.{outside};
 ghost use Rattle.spec.specs.Refusal.{refuse};
-ghost use Rattle.spec.specs.Mesh.{repeats, badNodes};
+ghost use Rattle.spec.specs.Mesh.{badNodes};
 
 // Whether a node is out of range: 0 or above n.
 fn leaves(nodes: &[u16], n: usize) -> bool
@@ -24,42 +24,11 @@ fn leaves(nodes: &[u16], n: usize) -> bool
     false
 }
 
-// Whether p is one of the nodes.
-pub fn holds(nodes: &[u16], p: u16) -> bool
-    ensures { λ r. ⌜ r ≡ memb p (was nodes) ⌝ }
-{
-    let mut j = 0;
-    while j < nodes.len() {
-        if p == nodes[j] {
-            return true;
-        }
-        j += 1;
-    }
-    false
-}
-
-// Whether a node is repeated.
-fn repeated(nodes: &[u16]) -> bool
-    ensures { λ r. ⌜ r ≡ repeats (was nodes) ⌝ }
-{
-    let mut j = 0;
-    while j < nodes.len() {
-        if holds(&nodes[j + 1..], nodes[j]) {
-            return true;
-        }
-        j += 1;
-    }
-    false
-}
-
-// 10 for a node out of range or repeated, else 0.
+// 10 for a node out of range, else 0.
 pub fn nodes_refusal(n: usize, nodes: &[u16]) -> u16
     ensures { λ r. ⌜ r ≡ refuse (badNodes n (was nodes)) 10 ⌝ }
 {
     if leaves(nodes, n) {
-        return 10;
-    }
-    if repeated(nodes) {
         return 10;
     }
     0

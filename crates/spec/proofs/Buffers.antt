@@ -122,7 +122,7 @@ record BufferTable : Type 0 where
   combined-6 : combined pair 3 3 17 ≡ leaves 6 (lent 3 ∷ lent 17 ∷ [])
   report-6 : report pair 3 17 ≡ leaves 6 (lent 17 ∷ [])
   mesh-9 : meshed 2 (11 ∷ []) 4 32768 3 ≡ leaves 9 (lent 4 ∷ lent 4 ∷ lent 3 ∷ [])
-  mesh-10 : meshed 2 (1 ∷ 2 ∷ 2 ∷ []) 4 32768 3 ≡ leaves 10 (lent 4 ∷ lent 4 ∷ lent 3 ∷ [])
+  mesh-10 : meshed 2 (1 ∷ 2 ∷ 0 ∷ []) 4 32768 3 ≡ leaves 10 (lent 4 ∷ lent 4 ∷ lent 3 ∷ [])
   -- 7 and 8: "the n scratch words 0, the rest untouched"; 7 comes before 8, and 8 goes by the profile
   measures-7 : measured pair (1 ∷ 1 ∷ []) 3 ≡ leaves 7 (cleared 2 ∷ [])
   measures-7-few : measured pair (1 ∷ []) 3 ≡ leaves 7 (cleared 2 ∷ [])

@@ -1,6 +1,7 @@
 pub mod Compute
 pub mod Called
 pub mod ElementKinds
+pub mod Collapsed
 pub mod Bracket
 pub mod Examples
 pub mod Buffers

@@ -11,11 +11,7 @@ returns c = rw (sym (c .before .leaves .ensures) ∙ c .if1 .taken)
 
 returns-2 : tie.Need-returns-2
 unfolding badNodes
-returns-2 c = rw (sym (c .before .before .before .leaves .ensures) ∙ c .before .before .if1 .left, sym (c .before .repeated .ensures) ∙ c .if2 .taken)
-
-returns-3 : tie.Need-returns-3
-unfolding badNodes
-returns-3 c = rw (sym (c .before .before .before .leaves .ensures) ∙ c .before .before .if1 .left, sym (c .before .repeated .ensures) ∙ c .if2 .left)
+returns-2 c = rw (sym (c .before .leaves .ensures) ∙ c .if1 .left)
 
 pub nodes-refusal-spec : {M : Type 1} → statement M
-nodes-refusal-spec = tie.close (tie.spec (λ c κs. search needs) returns (λ c κs. search needs) returns-2 returns-3)
+nodes-refusal-spec = tie.close (tie.spec (λ c κs. search needs) returns returns-2)
