@@ -94,6 +94,9 @@ def odd_files():
             ('4,097 nodes', grd_file(4097)), ('kind 0', grd_file(4, (0, 1, 2))), ('kind 11', grd_file(4, (11, 1, 2))),
             ('a record past the end', good[:-1]), ('half a kind word', good[:10]), ('an element missing', good[:7] + b'\2\0' + good[9:]),
             ('node 0', grd_file(4, (2, 1, 0, 3))), ('node 5 of 4', grd_file(4, (2, 1, 5, 3))), ('a node twice', grd_file(4, (2, 1, 3, 1))),
+            ('a bar on one node', grd_file(4, (1, 2, 2))), ('a corner twice', grd_file(4, (3, 1, 2, 4, 4))),
+            ('a brick on one node', grd_file(4, (7, *[3] * 8))), ('a node twice, a byte left over', grd_file(4, (1, 2, 2)) + b'\0'),
+            ('node 0 twice', grd_file(4, (2, 0, 3, 0))), ('node 5 of 4 twice', grd_file(4, (2, 1, 5, 5))),
             ('a byte left over', good + b'\0'), ('32,768 entries', exact), ('32,770 entries', over), ('line feeds', b'\n' * 40),
             ('the longest', LONGEST), ('65,536 bytes', LONGEST + b'\0'), ('70,000 bytes', LONGEST + bytes(4465))]
 
@@ -161,7 +164,7 @@ def explained(c, folder):
     figures = b'5 nodes, 4 elements (bar 4)\n  bandwidth 3 before, 1 after\n  profile 7 before, 4 after\n  front 3 before, 2 after\n'
     c.equal('explained', run('--explain', written(folder, SAMPLE)), (0, sample_text(), told + figures))
     c.equal('explained, standard input', run('--explain', given=SAMPLE), (0, sample_text(), told + figures))
-    for content, where in ((grd_file(3, (2, 1, 2, 3), (2, 1, 2, 1)), b'element 2 (byte 17), a triangle, has node 1 twice'),
+    for content, where in ((grd_file(3, (2, 1, 2, 3), (2, 1, 2, 4)), b'element 2 (byte 17), a triangle, has node 4, and the nodes are 1 to 3'),
                            (b'', b'the file has only 0 bytes'), (LONGEST + bytes(9), b'the file is too long')):
         status, out, err = run('--explain', written(folder, content))
         c.equal('explained: %s' % where, (status, out), (1, text_for(content)))

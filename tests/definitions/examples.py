@@ -1,5 +1,6 @@
 #!/usr/bin/env python3
-"""The second table of crate `spec`: a dozen graphs, one for each slip and each tie rule of document 01, and the order of the refusals.
+"""The second table of crate `spec`: a dozen graphs, one for each slip and each tie rule of document 01, the order of the refusals, and elements
+that have a node more than once.
 
   examples.py            print crates/spec/proofs/Examples.antt; `rt fmt` lays it out
   examples.py --check    say whether the file stands as this script prints it, layout aside
@@ -15,9 +16,10 @@ TOP = os.path.dirname(os.path.dirname(HERE))
 sys.path[:0] = [os.path.join(TOP, 'tests', 'reference'), HERE]
 
 import calls
+import listing
 import program
 from antt import ELIMINATION_FIGURES, ENDS, FIGURES, PART_REPORT, figures, outcome, words
-from graph import from_edges
+from graph import MOST_ENTRIES, from_edges
 
 # name, what it is for, nodes, edges
 GRAPHS = [
@@ -68,13 +70,24 @@ FILES = [
     ('an unknown kind as the last word', b'GRD', [1, 2, 1, 11], b''),
     ('a record past the end, seen before its node 0', b'GRD', [1, 2, 1, 1, 0], b''),
     ('nodes that are none, then an unknown kind', b'GRD', [1, 2, 2, 1, 0, 1, 11], b''),
-    ('a repeated node, and a byte left over: 10 before 12', b'GRD', [1, 2, 1, 1, 2, 2], b'\0'),
+    ('a node above n, and a byte left over: 10 before 12', b'GRD', [1, 2, 1, 1, 2, 3], b'\0'),
+    ('a node above n twice, and a byte left over: 10 before 12', b'GRD', [1, 2, 1, 1, 3, 3], b'\0'),
+    ('node 0 twice', b'GRD', [1, 2, 1, 1, 0, 0], b''),
+    ('a repeated node, which is legal, and a byte left over: 12', b'GRD', [1, 2, 1, 1, 2, 2], b'\0'),
+    ('a repeated node, then an unknown kind', b'GRD', [1, 2, 2, 1, 2, 2, 11], b''),
     ('a byte left over', b'GRD', [1, 2, 1, 1, 1, 2], b'\0'),
     ('half a kind word', b'GRD', [1, 2, 1], b'\1'),
     ('none of these', b'GRD', [1, 2, 1, 1, 1, 2], b''),
+    ('a bar on one node joins nothing', b'GRD', [1, 2, 1, 1, 2, 2], b''),
+    ('a triangle', b'GRD', [1, 3, 1, 2, 1, 2, 3], b''),
+    ('a quadrilateral with one corner twice: the lists of the triangle', b'GRD', [1, 3, 1, 3, 1, 2, 3, 3], b''),
+    ('a quadrilateral with two opposite corners the same: the lists of the triangle', b'GRD', [1, 3, 1, 3, 2, 1, 2, 3], b''),
+    ('a pyramid on two nodes', b'GRD', [1, 3, 1, 5, 3, 1, 1, 3, 3], b''),
+    ('a brick on one node', b'GRD', [1, 2, 1, 7, 2, 2, 2, 2, 2, 2, 2, 2], b''),
 ]
 
-HEAD = '''-- A second table by computation: graphs chosen so that each slip of document 01 and each tie rule shows, and the order of the refusals.
+HEAD = '''-- A second table by computation: graphs chosen so that each slip of document 01 and each tie rule shows, the order of the refusals, and elements
+-- that have a node more than once.
 -- Made by tests/definitions/examples.py: every expected value is the independent program's, tests/reference. Assumes nothing.
 use Prim.Native.Nat.{ℕ, _*_}
 use mathlib.Core.Path.{_≡_, refl}
@@ -84,7 +97,8 @@ use Rattle.spec.specs.Graph.{sizeOf}
 use Rattle.spec.specs.Ends.{Ends}
 use Rattle.spec.specs.Numbering.{Forward, Reversed, PartReport, Figures}
 use Rattle.spec.specs.Lent.{Outcome, accepted}
-use Rattle.spec.specs.File.{fileRefusal}
+use Rattle.spec.specs.Mesh.{startList, neighbourList}
+use Rattle.spec.specs.File.{fileGraph, fileRefusal}
 use Rattle.spec.specs.CallsLevels.{adjacencyAnswer, rootedAnswer, endsAnswer}
 use Rattle.spec.specs.CallsNumbering.{runAnswer, measuresAnswer}
 use Rattle.spec.specs.CallsStore.{EliminationFigures, eliminationAnswer}
@@ -190,13 +204,25 @@ def file_refusal(file):
     return int(answer[1]) if answer[0] == b'refused' else 0
 
 
+def file_lists(file):
+    """The start list and the neighbour list of a file that is not refused."""
+    n = listing.nodes_of_file(file)
+    starts, neighbours = buffer(n + 1), buffer(MOST_ENTRIES)
+    _, (entries,) = calls.mesh(n, listing.words_after_header(file), starts, neighbours, buffer(n))
+    return [('starts', 'startList', starts), ('neighbours', 'neighbourList', neighbours[:entries])]
+
+
 def file_rows():
-    """A field for each file, and its proof."""
+    """A field for each file, and one for each of its lists where it is not refused, and their proofs."""
     fields, proofs = [], []
-    for number, (why, mark, values, more) in enumerate(FILES):
+    for number, (why, mark, values, more) in enumerate(FILES, 1):
         file = mark + b''.join(value.to_bytes(2, 'little') for value in values) + more
-        fields.append('  -- %s\n  file-%d : fileRefusal %s ≡ %d' % (why, number + 1, words(file), file_refusal(file)))
-        proofs.append('  file-%d = refl;' % (number + 1))
+        refusal = file_refusal(file)
+        fields.append('  -- %s\n  file-%d : fileRefusal %s ≡ %d' % (why, number, words(file), refusal))
+        proofs.append('  file-%d = refl;' % number)
+        for name, of_graph, due in [] if refusal else file_lists(file):
+            fields.append('  file-%d-%s : %s (fileGraph %s) ≡ %s' % (number, name, of_graph, words(file), words(due)))
+            proofs.append('  file-%d-%s = refl;' % (number, name))
     return fields, proofs
 
 

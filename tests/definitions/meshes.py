@@ -9,15 +9,27 @@ from mesh import NODE_COUNT
 MeshInput = namedtuple('MeshInput', 'n elements starts neighbours scratch')
 
 
+def element(rng, n):
+    """A kind and its nodes. One in eight is collapsed and may have any kind: its nodes are fewer than its places. With one node all are so."""
+    if n == 1 or rng.random() < 0.125:
+        kind = rng.choice(list(NODE_COUNT))
+        few = rng.sample(range(1, n + 1), rng.randint(1, min(n, NODE_COUNT[kind] - 1)))
+        nodes = few + rng.choices(few, k=NODE_COUNT[kind] - len(few))
+        return kind, rng.sample(nodes, len(nodes))
+    kind = rng.choice([k for k in NODE_COUNT if NODE_COUNT[k] <= n])
+    return kind, rng.sample(range(1, n + 1), NODE_COUNT[kind])
+
+
 def elements(rng, n, count):
-    """Words of some elements; now and then a wrong kind, a wrong or repeated node."""
+    """Words of some elements; now and then a wrong kind, or a wrong node, once or at two places."""
     out = []
     for _ in range(count):
-        kinds = [k for k in NODE_COUNT if NODE_COUNT[k] <= n] or [1]
-        kind = rng.choice(kinds) if rng.random() < 0.95 else rng.choice([0, 11, 65535])
-        nodes = rng.sample(range(1, n + 1), min(n, NODE_COUNT.get(kind, 2)))
+        kind, nodes = element(rng, n)
+        if rng.random() < 0.05:
+            kind = rng.choice([0, 11, 65535])
         if rng.random() < 0.1:
-            nodes = [rng.choice([0, n + 1, nodes[0]])] + nodes[1:]
+            wrong = rng.choice([0, n + 1])
+            nodes = [wrong] + nodes[1:] if rng.random() < 0.7 else [wrong] + nodes[1:-1] + [wrong]
         out += [kind] + nodes
     return out if rng.random() < 0.9 else out[:-1]
 

@@ -106,7 +106,7 @@ def at_random(draw, count):
 def some(draw, count):
     """What is run in some minutes."""
     for made in (cases.small(draw, 1, 5), cases.of_table(draw), of_paper(draw, 20), at_random(draw, count), cases.limits(draw), wide(),
-                 cases.of_many_parts(), cases.full_meshes(), cases.long_meshes(), full_size(draw)):
+                 cases.of_many_parts(), cases.collapsed_meshes(), cases.full_meshes(), cases.long_meshes(), full_size(draw)):
         for c in made:
             yield of_case(draw, c)
 

@@ -1,4 +1,6 @@
-"""Elements and the adjacency of a mesh, from the section 'Mesh and file' of document 01."""
+"""Elements and the adjacency of a mesh, from the section 'Mesh and file' of document 01 and request A.1 of document 02."""
+
+from itertools import combinations
 
 from graph import MOST_ENTRIES
 
@@ -9,11 +11,15 @@ NODE_COUNT = {1: 2, 2: 3, 3: 4, 4: 4, 5: 5, 6: 6, 7: 8, 8: 6, 9: 8, 10: 10}
 
 
 def wrong_nodes(n, nodes):
-    # 10: "element node 0, above n or repeated"
-    for p in nodes:
-        if p == 0 or p > n:
-            return True
-    return len(set(nodes)) < len(nodes)
+    # 10 in A.1, in place of "element node 0, above n or repeated":
+    # "Refusal 10 stays for numbers 0 and above n."
+    return any(p == 0 or p > n for p in nodes)
+
+
+def distinct(nodes):
+    # A.1, in place of "A node may not repeat within an element":
+    # "A node that repeats within an element counts once"
+    return sorted(set(nodes))
 
 
 def read_elements(n, words):
@@ -37,12 +43,13 @@ def read_elements(n, words):
 
 def mesh_rows(n, elements):
     # "all its nodes adjoin one another"; an edge met again counts once.
+    # A.1: "The adjacency compared with is from then on that of the distinct
+    # nodes", "and an element with one distinct node joins nothing": it has no pair.
     rows = {p: set() for p in range(1, n + 1)}
     for nodes in elements:
-        for p in nodes:
-            for q in nodes:
-                if p != q:
-                    rows[p].add(q)
+        for p, q in combinations(distinct(nodes), 2):
+            rows[p].add(q)
+            rows[q].add(p)
     return rows
 
 

@@ -1,4 +1,4 @@
-"""The table of refusals: broken lists, short buffers, and what each answer leaves in which buffer."""
+"""The table of refusals: broken lists, short buffers, and what each answer leaves in which buffer; and elements that collapse (A.1)."""
 
 import random
 import sys
@@ -6,6 +6,7 @@ import sys
 import calls
 from bracket import element_words, grd_file
 from checking import Checks
+from mesh import NODE_COUNT
 from program import text_for
 
 # Fills lent buffers, so that untouched words show.
@@ -171,9 +172,39 @@ def accepted_buffers(checks):
 
 BROKEN_ELEMENTS = [
     ([0], 9), ([11], 9), ([65535], 9), ([1], 9), ([1, 2], 9), ([1, 0], 9), ([7] * 8, 9),
-    ([1, 1, 1], 10), ([1, 0, 1], 10), ([1, 1, 4], 10), ([2, 1, 2, 1], 10), ([65535] * 70000, 9),
-    # One by one: the first element at fault gives the number.
-    ([1, 1, 1, 11], 10), ([11, 1, 1, 1], 9), ([1, 1, 2, 1, 1], 9), ([1, 1, 2, 1, 3, 3], 10),
+    ([1, 0, 1], 10), ([1, 1, 4], 10), ([65535] * 70000, 9),
+    # A number that is no node stays so where it repeats.
+    ([1, 0, 0], 10), ([1, 4, 4], 10), ([1, 65535, 65535], 10), ([2, 0, 2, 0], 10), ([3, 1, 2, 4, 4], 10),
+    ([3, 1, 1, 4, 1], 10), ([5, 3, 3, 3, 3, 0], 10), ([7] + [4] * 8, 10), ([7] + [0] * 8, 10),
+    # One by one: the first element at fault gives the number, and a repeated node is no fault.
+    ([1, 1, 0, 11], 10), ([11, 1, 1, 1], 9), ([1, 1, 2, 1, 1], 9), ([1, 1, 2, 1, 3, 4], 10),
+    ([1, 1, 1, 11], 9), ([1, 1, 1, 1, 4, 4], 10), ([3, 2, 2, 2, 2, 1, 2], 9), ([1, 3], 9),
+]
+
+# Elements of four nodes that have a node more than once, and the lists that are due.
+NOTHING = ([0, 0, 0, 0, 0], [])
+BAR_23 = ([0, 0, 1, 2, 2], [3, 2])
+TRIANGLE_124 = ([0, 2, 4, 4, 6], [2, 4, 1, 4, 1, 2])
+ALL_FOUR = ([0, 3, 6, 9, 12], [2, 3, 4, 1, 3, 4, 1, 2, 4, 1, 2, 3])
+COLLAPSED = [
+    ('bar on one node', [1, 2, 2], NOTHING),
+    ('triangle on one node', [2, 4, 4, 4], NOTHING), ('triangle as a bar', [2, 2, 3, 2], BAR_23),
+    ('the triangle itself', [2, 1, 2, 4], TRIANGLE_124),
+    ('quadrilateral, corners 1 and 2 the same', [3, 1, 1, 2, 4], TRIANGLE_124),
+    ('quadrilateral, corners 1 and 3 the same', [3, 1, 2, 1, 4], TRIANGLE_124),
+    ('quadrilateral, corners 1 and 4 the same', [3, 1, 2, 4, 1], TRIANGLE_124),
+    ('quadrilateral, corners 2 and 3 the same', [3, 1, 2, 2, 4], TRIANGLE_124),
+    ('quadrilateral, corners 2 and 4 the same', [3, 4, 1, 2, 1], TRIANGLE_124),
+    ('quadrilateral, corners 3 and 4 the same', [3, 1, 2, 4, 4], TRIANGLE_124),
+    ('quadrilateral as a bar', [3, 2, 3, 3, 2], BAR_23), ('quadrilateral as a bar, three corners the same', [3, 3, 3, 2, 3], BAR_23),
+    ('quadrilateral on one node', [3, 1, 1, 1, 1], NOTHING),
+    ('pyramid, apex on a corner', [5, 1, 2, 3, 4, 2], ALL_FOUR), ('pyramid on a triangle', [5, 1, 2, 2, 3, 4], ALL_FOUR),
+    ('pyramid as a triangle', [5, 1, 2, 2, 1, 4], TRIANGLE_124), ('pyramid as a bar', [5, 2, 2, 2, 2, 3], BAR_23),
+    ('pyramid on one node', [5, 3, 3, 3, 3, 3], NOTHING),
+    ('brick as a tetrahedron', [7, 1, 2, 3, 3, 4, 4, 4, 4], ALL_FOUR), ('brick as a triangle', [7, 1, 1, 2, 2, 1, 1, 4, 4], TRIANGLE_124),
+    ('brick as a bar', [7, 2, 2, 2, 2, 3, 3, 3, 3], BAR_23), ('brick on one node', [7] + [4] * 8, NOTHING),
+    ('bar on a node of a bar', [1, 2, 3, 1, 3, 3], BAR_23), ('bar on a node beside a triangle', [1, 3, 3, 2, 1, 2, 4], TRIANGLE_124),
+    ('two collapsed quadrilaterals and a bar', [3, 1, 2, 3, 3, 3, 1, 1, 3, 4, 1, 2, 4], ALL_FOUR),
 ]
 
 
@@ -196,6 +227,39 @@ def mesh_refusals(checks):
                        [[0, 2, 4, 6, 6, OLD], [2, 3, 1, 3, 1, 2] + words(32762), [0] * 4 + [OLD]])
 
 
+def mesh_leaves(checks, name, n, element, starts, neighbours):
+    answer_and_buffers(checks, name, calls.mesh, [n, element], [words(n + 2), words(32769), words(n + 1)],
+                       ('accepted', (len(neighbours),)),
+                       [starts + [OLD], neighbours + words(32769 - len(neighbours)), [0] * n + [OLD]])
+
+
+def collapsed_elements(checks):
+    """A.1: the lists of the distinct nodes."""
+    for name, element, (starts, neighbours) in COLLAPSED:
+        mesh_leaves(checks, 'mesh, ' + name, 4, element, starts, neighbours)
+    # A brick with two corners of its base the same, and the two above them: a wedge.
+    everyone = [[q for q in range(1, 7) if q != p] for p in range(1, 7)]
+    wedge = ([0, 5, 10, 15, 20, 25, 30], [q for row in everyone for q in row])
+    for name, element in ('wedge', [6, 1, 2, 3, 4, 5, 6]), ('brick as a wedge', [7, 1, 2, 3, 3, 4, 5, 6, 6]):
+        mesh_leaves(checks, 'mesh, ' + name, 6, element, *wedge)
+    # Collapsed elements are no further entries: 32,768 stay so.
+    lent = [words(3651), words(32768), words(3650)]
+    more = [1, 3650, 3650] + [7, 1, 2, 3, 4, 5, 5, 5, 5] + [3, 9, 10, 9, 10]
+    checks.equal('mesh, 32,768 entries and collapsed elements', calls.mesh(3650, element_words(4) + more, *lent), ('accepted', (32768,)))
+
+
+def one_node_twice(checks):
+    """Each kind with one node also at another place, at each pair of places: all but the node left out adjoin one another."""
+    for kind, size in NODE_COUNT.items():
+        for i in range(1, size + 1):
+            for j in range(1, size + 1):
+                if i != j:
+                    nodes = [j if p == i else p for p in range(1, size + 1)]
+                    rows = [[] if p == i else [q for q in range(1, size + 1) if q not in (p, i)] for p in range(1, size + 1)]
+                    starts = [sum(len(row) for row in rows[:p]) for p in range(size + 1)]
+                    mesh_leaves(checks, 'mesh, kind %d, place %d as %d' % (kind, i, j), size, [kind] + nodes, starts, sum(rows, []))
+
+
 # The program.
 
 WRONG_HEADERS = [
@@ -216,7 +280,8 @@ WRONG_ELEMENTS = [
     ('record past the end', 1, [1, 2], b'', 12), ('half a node', 1, [1, 2], b'\x03', 12),
     ('record past the end before its nodes', 1, [1, 0], b'', 12),
     ('unknown kind', 1, [11, 1, 2], b'', 9), ('unknown kind as last word', 1, [0], b'', 9),
-    ('node 0', 1, [1, 0, 1], b'', 10), ('node repeated', 1, [1, 3, 3], b'', 10),
+    ('node 0', 1, [1, 0, 1], b'', 10), ('node 0 twice', 1, [1, 0, 0], b'', 10), ('node above n twice', 1, [1, 4, 4], b'', 10),
+    ('node twice, bytes left over', 1, [1, 3, 3], b'\x00', 12), ('node twice, then an unknown kind', 2, [1, 3, 3, 99], b'', 9),
     ('node above n, bytes left over', 1, [1, 3, 4, 9], b'', 10),
     ('unknown kind in the second', 2, [1, 1, 2, 99], b'\x01', 9),
     ('word left over', 1, [1, 1, 2, 1], b'', 12), ('byte left over', 1, [1, 1, 2], b'\x00', 12),
@@ -238,6 +303,10 @@ def program_refusals(checks):
 def program_accepted(checks):
     checks.equal('program, a bar', text_for(grd_file(3, 1, [1, 3, 1])),
                  b'nodes 3 parts 2 bandwidth 1 profile 1 front 2 levels 3 width 1 passes 2\n1 1 1\n2 3 1\n3 2 2\n')
+    checks.equal('program, a bar on one node', text_for(grd_file(3, 1, [1, 3, 3])),
+                 b'nodes 3 parts 3 bandwidth 0 profile 0 front 1 levels 3 width 1 passes 3\n1 1 1\n2 2 1\n3 3 1\n')
+    checks.equal('program, a quadrilateral with one corner twice', text_for(grd_file(3, 1, [3, 1, 2, 3, 3])),
+                 b'nodes 3 parts 1 bandwidth 2 profile 3 front 3 levels 2 width 2 passes 1\n1 1 1\n2 2 2\n3 3 2\n')
 
 
 # Any words at all.
@@ -278,8 +347,8 @@ def random_files(checks):
 def main():
     checks = Checks('table of refusals')
     for subject in (broken_lists, short_buffers, wrong_nodes, wrong_numberings, short_mark_bytes,
-                    accepted_buffers, mesh_refusals, program_refusals, program_accepted,
-                    random_input, random_files):
+                    accepted_buffers, mesh_refusals, collapsed_elements, one_node_twice,
+                    program_refusals, program_accepted, random_input, random_files):
         subject(checks)
     return checks.report()
 

@@ -8,6 +8,7 @@ from collections import namedtuple
 from itertools import permutations
 
 import calls
+import elements
 import shapes
 import store
 from combined import number_pairs
@@ -15,7 +16,6 @@ from ends import ends_of_part
 from examples import GRAPHS
 from graph import from_edges, lists_of, part_of, pieces_of, rows_of, small_graphs
 from measures import profile
-from mesh import NODE_COUNT
 from vectors import answer_text, byte_pattern, changed, number, of_words, pattern, shown
 
 # Given lists, a given node (n for the mesh), lengths of what is lent. `kind` says what the case is for.
@@ -332,13 +332,14 @@ def limits(draw):
 # Cases of the mesh.
 
 def element(draw, n):
-    """A kind and its nodes; now and then a wrong kind, or wrong or repeated nodes."""
-    kind = draw.one([k for k in NODE_COUNT if NODE_COUNT[k] <= n] or [1])
-    nodes = draw.some(range(1, n + 1), NODE_COUNT[kind]) if NODE_COUNT[kind] <= n else [1, 1]
+    """A kind and its nodes, which may repeat; now and then a wrong kind, or a number that is no node, at one place or at two."""
+    kind, *nodes = elements.element(draw, n)
     if draw.chance(0.05):
         kind = draw.one([0, 11, 12, 65535])
     if draw.chance(0.05):
-        nodes[draw.below(len(nodes))] = draw.one([0, n + 1, 65535, nodes[0], nodes[-1]])
+        wrong = draw.one([0, n + 1, 65535])
+        for at in draw.some(range(len(nodes)), 1 + draw.below(2)):
+            nodes[at] = wrong
     return [kind] + nodes
 
 
@@ -351,6 +352,12 @@ def meshes(draw, count):
         yield Case('mesh', 'mesh', [], [], words, n, lent(draw, n + 1), lent(draw, 32768), lent(draw, n), 0)
 
 
+def collapsed_meshes():
+    """Elements that have a node more than once, or a number that is no node."""
+    for n, made in list(elements.collapsed()) + list(elements.no_node_twice()):
+        yield Case('collapsed mesh', 'mesh', [], [], sum(made, []), n, n + 1, 32768, n, 0)
+
+
 def full_meshes():
     """Entry counts about 32,768: 90 to a block of ten, 2 to a pair."""
     for blocks, pairs in ((364, 3), (364, 4), (364, 5), (365, 0)):
@@ -360,7 +367,9 @@ def full_meshes():
 
 
 def long_meshes():
-    """Lists of elements longer than 65,535 words: accepted, and with a fault in the last element."""
+    """Lists of elements longer than 65,535 words: accepted, and with a fault in the last element; quadrilaterals with one corner twice."""
     bars = [word for i in range(23000) for word in (1, 1 + i % 4095, 2 + i % 4095)]
-    for last in ([1, 1, 3], [1, 3, 3], [0, 1, 3], [1, 1]):
+    quadrilaterals = [word + i % 4094 if at else word for i in range(13500) for at, word in enumerate((3, 1, 2, 3, 1 + i % 3))]
+    yield Case('mesh', 'mesh', [], [], quadrilaterals, 4096, 4097, 32768, 4096, 0)
+    for last in ([1, 1, 3], [1, 3, 3], [1, 3, 4097], [0, 1, 3], [1, 1]):
         yield Case('mesh', 'mesh', [], [], bars + last, 4096, 4097, 32768, 4096, 0)

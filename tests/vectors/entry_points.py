@@ -31,7 +31,8 @@ def selection():
     draw = Draw(1976)
     return (list(cases.small(draw, 1, 4)) + list(cases.some_of_five(draw, 40)) + list(cases.of_table(draw)) + list(cases.telling(draw, 120))
             + list(cases.at_random(draw, 20, 3)) + list(cases.runs_at_random(draw, 16)) + list(cases.illegal(draw, 350))
-            + list(cases.limits(draw)) + list(cases.of_many_parts()) + list(cases.meshes(draw, 250)) + list(cases.full_meshes()))
+            + list(cases.limits(draw)) + list(cases.of_many_parts()) + list(cases.meshes(draw, 250)) + list(cases.collapsed_meshes())
+            + list(cases.full_meshes()))
 
 
 def many(count, seed):
@@ -40,7 +41,7 @@ def many(count, seed):
     return (list(cases.small(draw, 1, 5)) + list(cases.every_numbering(1, 5)) + list(cases.of_table(draw)) + list(cases.telling(draw, count))
             + list(cases.at_random(draw, count, 40)) + list(cases.runs_at_random(draw, count)) + list(cases.large(draw, count // 10))
             + list(cases.illegal(draw, count)) + list(cases.limits(draw)) + list(cases.of_many_parts()) + list(cases.of_full_size(draw))
-            + list(cases.meshes(draw, count)) + list(cases.full_meshes()) + list(cases.long_meshes()))
+            + list(cases.meshes(draw, count)) + list(cases.collapsed_meshes()) + list(cases.full_meshes()) + list(cases.long_meshes()))
 
 
 def report(made):

@@ -18,6 +18,7 @@ TOP = os.path.dirname(os.path.dirname(os.path.dirname(os.path.abspath(__file__))
 sys.path[:0] = [os.path.join(TOP, 'tests', part) for part in ('reference', 'vectors')]
 
 import calls
+from elements import collapsed, element, no_node_twice
 from listing import element_refusal, header_refusal, nodes_of_file, words_after_header
 from mesh import NODE_COUNT
 from vectors import Draw, answer_text, changed, differences, keep, number, of_words, options, pattern, shown, tally
@@ -120,12 +121,18 @@ def kinds():
 
 
 def wrong_nodes():
-    """Each kind with one node 0, above n or repeated, at each place."""
+    """Each kind with one node 0 or above n, at each place."""
     for kind, size in NODE_COUNT.items():
         nodes = list(range(1, size + 1))
         for i in range(size):
-            for value in [0, size + 1, 256 + nodes[i], 65535] + nodes[:i]:
+            for value in (0, size + 1, 256 + nodes[i], 65535):
                 yield file_of(size, [[kind] + nodes[:i] + [value] + nodes[i + 1:]])
+
+
+def repeated_nodes():
+    """Elements that have a node more than once, or a number that is no node."""
+    for n, elements in list(collapsed()) + list(no_node_twice()):
+        yield file_of(n, elements)
 
 
 def sizes():
@@ -138,7 +145,7 @@ def sizes():
         yield file_of(n, bars([(1, 2), (n, min(n + 1, 65535))]))
 
 
-# The last two have words or bytes behind their elements; their counts say how many elements there are.
+# The last three have words or bytes behind their elements; their counts say how many elements there are.
 BODIES = [
     ([[1, 1, 2], [2, 3, 4, 5]], b''),
     ([], b''),
@@ -147,12 +154,14 @@ BODIES = [
     ([[1, 1, 2], [1, 2]], b''),
     ([[1, 1]], b'\x02'),
     ([[11, 0, 0]], b''),
+    ([[1, 3, 9], [12, 1, 2]], b''),
     ([[1, 3, 3], [12, 1, 2]], b''),
-    ([[12, 1, 2], [1, 3, 3]], b''),
+    ([[12, 1, 2], [1, 9, 9]], b''),
     ([[3, 1, 1, 0]], b''),
     ([[1, 1, 2], [10, 0]], b''),
     ([[1, 1, 2]], of_words([1, 9, 9])),
     ([[1, 2, 2]], b'\0'),
+    ([[1, 9, 9]], b'\0'),
 ]
 
 
@@ -197,12 +206,16 @@ def full():
     yield file_of(4096, most + most[:100] + [[1, 2, 1], [1, 1, 2]])
     yield file_of(4096, most + [[1, 1, 2]])
     yield file_of(4096, most + [[1, 1, 4096]])
-    # 9, 10 and 12 come before 11
+    # a collapsed element adds what its distinct nodes join: nothing, or too much
+    yield file_of(4096, most + [[1, 64, 64], [3, 1, 2, 2, 1], [7] + [4096] * 8])
+    yield file_of(4096, most + [[3, 1, 2, 4096, 4096]])
+    # 9, 10 and 12 come before 11; the last is 11, as its bar is legal
     over = with_entries(32770)
     yield file_of(4096, over) + b'\0'
     yield file_of(4096, over)[:-1]
-    yield file_of(4096, over + [[1, 7, 7]])
+    yield file_of(4096, over + [[1, 7, 0]])
     yield file_of(4096, over + [[0, 7, 7]])
+    yield file_of(4096, over + [[1, 7, 7]])
 
 
 def long():
@@ -212,19 +225,14 @@ def long():
     yield most
     yield most[:-1]
     yield most + b'\0'
-    yield file_of(4096, bars(edges[:-1]) + [[1, 5, 5]])
+    yield file_of(4096, bars(edges[:-1]) + [[1, 5, 4097]])
     yield header(4096, 0) + bytes(65536 - 9)
     yield header(4096, 0)[:8] + bytes(70000 - 8)
 
 
-def element(draw, n):
-    kind = draw.one([k for k in NODE_COUNT if NODE_COUNT[k] <= n])
-    return [kind] + draw.some(range(1, n + 1), NODE_COUNT[kind])
-
-
 def mesh_file(draw):
     n = 1 + draw.below(40)
-    return file_of(n, [] if n == 1 else [element(draw, n) for _ in range(draw.below(9))])
+    return file_of(n, [element(draw, n) for _ in range(draw.below(9))])
 
 
 def random_valid(draw, count):
@@ -267,8 +275,9 @@ def all_files():
     """Pairs of a kind of vector and a file."""
     draw = Draw(1976)
     made = [('byte changed', changed_bytes()), ('truncated', truncations()), ('extended', extensions()), ('element count', counts()),
-            ('kind', kinds()), ('node', wrong_nodes()), ('n', sizes()), ('two faults', orders()), ('entries', full()), ('length', long()),
-            ('random valid', random_valid(draw, 500)), ('large valid', large_valid(draw)), ('random damaged', random_damaged(draw, 700))]
+            ('kind', kinds()), ('node', wrong_nodes()), ('repeated node', repeated_nodes()), ('n', sizes()), ('two faults', orders()),
+            ('entries', full()), ('length', long()), ('random valid', random_valid(draw, 500)), ('large valid', large_valid(draw)),
+            ('random damaged', random_damaged(draw, 700))]
     return [(kind, file) for kind, files in made for file in files]
 
 

@@ -1,4 +1,5 @@
--- A second table by computation: graphs chosen so that each slip of document 01 and each tie rule shows, and the order of the refusals.
+-- A second table by computation: graphs chosen so that each slip of document 01 and each tie rule shows, the order of the refusals, and elements
+-- that have a node more than once.
 -- Made by tests/definitions/examples.py: every expected value is the independent program's, tests/reference. Assumes nothing.
 use Prim.Native.Nat.{ℕ, _*_}
 use mathlib.Core.Path.{_≡_, refl}
@@ -8,7 +9,8 @@ use Rattle.spec.specs.Graph.{sizeOf}
 use Rattle.spec.specs.Ends.{Ends}
 use Rattle.spec.specs.Numbering.{Forward, Reversed, PartReport, Figures}
 use Rattle.spec.specs.Lent.{Outcome, accepted}
-use Rattle.spec.specs.File.{fileRefusal}
+use Rattle.spec.specs.Mesh.{startList, neighbourList}
+use Rattle.spec.specs.File.{fileGraph, fileRefusal}
 use Rattle.spec.specs.CallsLevels.{adjacencyAnswer, rootedAnswer, endsAnswer}
 use Rattle.spec.specs.CallsNumbering.{runAnswer, measuresAnswer}
 use Rattle.spec.specs.CallsStore.{EliminationFigures, eliminationAnswer}
@@ -343,14 +345,48 @@ record ExampleTable : Type 0 where
   file-5 : fileRefusal (71 ∷ 82 ∷ 68 ∷ 1 ∷ 0 ∷ 2 ∷ 0 ∷ 1 ∷ 0 ∷ 1 ∷ 0 ∷ 0 ∷ 0 ∷ []) ≡ 12
   -- nodes that are none, then an unknown kind
   file-6 : fileRefusal (71 ∷ 82 ∷ 68 ∷ 1 ∷ 0 ∷ 2 ∷ 0 ∷ 2 ∷ 0 ∷ 1 ∷ 0 ∷ 0 ∷ 0 ∷ 1 ∷ 0 ∷ 11 ∷ 0 ∷ []) ≡ 10
-  -- a repeated node, and a byte left over: 10 before 12
-  file-7 : fileRefusal (71 ∷ 82 ∷ 68 ∷ 1 ∷ 0 ∷ 2 ∷ 0 ∷ 1 ∷ 0 ∷ 1 ∷ 0 ∷ 2 ∷ 0 ∷ 2 ∷ 0 ∷ 0 ∷ []) ≡ 10
+  -- a node above n, and a byte left over: 10 before 12
+  file-7 : fileRefusal (71 ∷ 82 ∷ 68 ∷ 1 ∷ 0 ∷ 2 ∷ 0 ∷ 1 ∷ 0 ∷ 1 ∷ 0 ∷ 2 ∷ 0 ∷ 3 ∷ 0 ∷ 0 ∷ []) ≡ 10
+  -- a node above n twice, and a byte left over: 10 before 12
+  file-8 : fileRefusal (71 ∷ 82 ∷ 68 ∷ 1 ∷ 0 ∷ 2 ∷ 0 ∷ 1 ∷ 0 ∷ 1 ∷ 0 ∷ 3 ∷ 0 ∷ 3 ∷ 0 ∷ 0 ∷ []) ≡ 10
+  -- node 0 twice
+  file-9 : fileRefusal (71 ∷ 82 ∷ 68 ∷ 1 ∷ 0 ∷ 2 ∷ 0 ∷ 1 ∷ 0 ∷ 1 ∷ 0 ∷ 0 ∷ 0 ∷ 0 ∷ 0 ∷ []) ≡ 10
+  -- a repeated node, which is legal, and a byte left over: 12
+  file-10 : fileRefusal (71 ∷ 82 ∷ 68 ∷ 1 ∷ 0 ∷ 2 ∷ 0 ∷ 1 ∷ 0 ∷ 1 ∷ 0 ∷ 2 ∷ 0 ∷ 2 ∷ 0 ∷ 0 ∷ []) ≡ 12
+  -- a repeated node, then an unknown kind
+  file-11 : fileRefusal (71 ∷ 82 ∷ 68 ∷ 1 ∷ 0 ∷ 2 ∷ 0 ∷ 2 ∷ 0 ∷ 1 ∷ 0 ∷ 2 ∷ 0 ∷ 2 ∷ 0 ∷ 11 ∷ 0 ∷ []) ≡ 9
   -- a byte left over
-  file-8 : fileRefusal (71 ∷ 82 ∷ 68 ∷ 1 ∷ 0 ∷ 2 ∷ 0 ∷ 1 ∷ 0 ∷ 1 ∷ 0 ∷ 1 ∷ 0 ∷ 2 ∷ 0 ∷ 0 ∷ []) ≡ 12
+  file-12 : fileRefusal (71 ∷ 82 ∷ 68 ∷ 1 ∷ 0 ∷ 2 ∷ 0 ∷ 1 ∷ 0 ∷ 1 ∷ 0 ∷ 1 ∷ 0 ∷ 2 ∷ 0 ∷ 0 ∷ []) ≡ 12
   -- half a kind word
-  file-9 : fileRefusal (71 ∷ 82 ∷ 68 ∷ 1 ∷ 0 ∷ 2 ∷ 0 ∷ 1 ∷ 0 ∷ 1 ∷ []) ≡ 12
+  file-13 : fileRefusal (71 ∷ 82 ∷ 68 ∷ 1 ∷ 0 ∷ 2 ∷ 0 ∷ 1 ∷ 0 ∷ 1 ∷ []) ≡ 12
   -- none of these
-  file-10 : fileRefusal (71 ∷ 82 ∷ 68 ∷ 1 ∷ 0 ∷ 2 ∷ 0 ∷ 1 ∷ 0 ∷ 1 ∷ 0 ∷ 1 ∷ 0 ∷ 2 ∷ 0 ∷ []) ≡ 0
+  file-14 : fileRefusal (71 ∷ 82 ∷ 68 ∷ 1 ∷ 0 ∷ 2 ∷ 0 ∷ 1 ∷ 0 ∷ 1 ∷ 0 ∷ 1 ∷ 0 ∷ 2 ∷ 0 ∷ []) ≡ 0
+  file-14-starts : startList (fileGraph (71 ∷ 82 ∷ 68 ∷ 1 ∷ 0 ∷ 2 ∷ 0 ∷ 1 ∷ 0 ∷ 1 ∷ 0 ∷ 1 ∷ 0 ∷ 2 ∷ 0 ∷ [])) ≡ (0 ∷ 1 ∷ 2 ∷ [])
+  file-14-neighbours : neighbourList (fileGraph (71 ∷ 82 ∷ 68 ∷ 1 ∷ 0 ∷ 2 ∷ 0 ∷ 1 ∷ 0 ∷ 1 ∷ 0 ∷ 1 ∷ 0 ∷ 2 ∷ 0 ∷ [])) ≡ (2 ∷ 1 ∷ [])
+  -- a bar on one node joins nothing
+  file-15 : fileRefusal (71 ∷ 82 ∷ 68 ∷ 1 ∷ 0 ∷ 2 ∷ 0 ∷ 1 ∷ 0 ∷ 1 ∷ 0 ∷ 2 ∷ 0 ∷ 2 ∷ 0 ∷ []) ≡ 0
+  file-15-starts : startList (fileGraph (71 ∷ 82 ∷ 68 ∷ 1 ∷ 0 ∷ 2 ∷ 0 ∷ 1 ∷ 0 ∷ 1 ∷ 0 ∷ 2 ∷ 0 ∷ 2 ∷ 0 ∷ [])) ≡ (0 ∷ 0 ∷ 0 ∷ [])
+  file-15-neighbours : neighbourList (fileGraph (71 ∷ 82 ∷ 68 ∷ 1 ∷ 0 ∷ 2 ∷ 0 ∷ 1 ∷ 0 ∷ 1 ∷ 0 ∷ 2 ∷ 0 ∷ 2 ∷ 0 ∷ [])) ≡ []
+  -- a triangle
+  file-16 : fileRefusal (71 ∷ 82 ∷ 68 ∷ 1 ∷ 0 ∷ 3 ∷ 0 ∷ 1 ∷ 0 ∷ 2 ∷ 0 ∷ 1 ∷ 0 ∷ 2 ∷ 0 ∷ 3 ∷ 0 ∷ []) ≡ 0
+  file-16-starts : startList (fileGraph (71 ∷ 82 ∷ 68 ∷ 1 ∷ 0 ∷ 3 ∷ 0 ∷ 1 ∷ 0 ∷ 2 ∷ 0 ∷ 1 ∷ 0 ∷ 2 ∷ 0 ∷ 3 ∷ 0 ∷ [])) ≡ (0 ∷ 2 ∷ 4 ∷ 6 ∷ [])
+  file-16-neighbours : neighbourList (fileGraph (71 ∷ 82 ∷ 68 ∷ 1 ∷ 0 ∷ 3 ∷ 0 ∷ 1 ∷ 0 ∷ 2 ∷ 0 ∷ 1 ∷ 0 ∷ 2 ∷ 0 ∷ 3 ∷ 0 ∷ [])) ≡ (2 ∷ 3 ∷ 1 ∷ 3 ∷ 1 ∷ 2 ∷ [])
+  -- a quadrilateral with one corner twice: the lists of the triangle
+  file-17 : fileRefusal (71 ∷ 82 ∷ 68 ∷ 1 ∷ 0 ∷ 3 ∷ 0 ∷ 1 ∷ 0 ∷ 3 ∷ 0 ∷ 1 ∷ 0 ∷ 2 ∷ 0 ∷ 3 ∷ 0 ∷ 3 ∷ 0 ∷ []) ≡ 0
+  file-17-starts : startList (fileGraph (71 ∷ 82 ∷ 68 ∷ 1 ∷ 0 ∷ 3 ∷ 0 ∷ 1 ∷ 0 ∷ 3 ∷ 0 ∷ 1 ∷ 0 ∷ 2 ∷ 0 ∷ 3 ∷ 0 ∷ 3 ∷ 0 ∷ [])) ≡ (0 ∷ 2 ∷ 4 ∷ 6 ∷ [])
+  file-17-neighbours : neighbourList (fileGraph (71 ∷ 82 ∷ 68 ∷ 1 ∷ 0 ∷ 3 ∷ 0 ∷ 1 ∷ 0 ∷ 3 ∷ 0 ∷ 1 ∷ 0 ∷ 2 ∷ 0 ∷ 3 ∷ 0 ∷ 3 ∷ 0 ∷ [])) ≡ (2 ∷ 3 ∷ 1 ∷ 3 ∷ 1 ∷ 2 ∷ [])
+  -- a quadrilateral with two opposite corners the same: the lists of the triangle
+  file-18 : fileRefusal (71 ∷ 82 ∷ 68 ∷ 1 ∷ 0 ∷ 3 ∷ 0 ∷ 1 ∷ 0 ∷ 3 ∷ 0 ∷ 2 ∷ 0 ∷ 1 ∷ 0 ∷ 2 ∷ 0 ∷ 3 ∷ 0 ∷ []) ≡ 0
+  file-18-starts : startList (fileGraph (71 ∷ 82 ∷ 68 ∷ 1 ∷ 0 ∷ 3 ∷ 0 ∷ 1 ∷ 0 ∷ 3 ∷ 0 ∷ 2 ∷ 0 ∷ 1 ∷ 0 ∷ 2 ∷ 0 ∷ 3 ∷ 0 ∷ [])) ≡ (0 ∷ 2 ∷ 4 ∷ 6 ∷ [])
+  file-18-neighbours : neighbourList (fileGraph (71 ∷ 82 ∷ 68 ∷ 1 ∷ 0 ∷ 3 ∷ 0 ∷ 1 ∷ 0 ∷ 3 ∷ 0 ∷ 2 ∷ 0 ∷ 1 ∷ 0 ∷ 2 ∷ 0 ∷ 3 ∷ 0 ∷ [])) ≡ (2 ∷ 3 ∷ 1 ∷ 3 ∷ 1 ∷ 2 ∷ [])
+  -- a pyramid on two nodes
+  file-19 : fileRefusal (71 ∷ 82 ∷ 68 ∷ 1 ∷ 0 ∷ 3 ∷ 0 ∷ 1 ∷ 0 ∷ 5 ∷ 0 ∷ 3 ∷ 0 ∷ 1 ∷ 0 ∷ 1 ∷ 0 ∷ 3 ∷ 0 ∷ 3 ∷ 0 ∷ []) ≡ 0
+  file-19-starts : startList (fileGraph (71 ∷ 82 ∷ 68 ∷ 1 ∷ 0 ∷ 3 ∷ 0 ∷ 1 ∷ 0 ∷ 5 ∷ 0 ∷ 3 ∷ 0 ∷ 1 ∷ 0 ∷ 1 ∷ 0 ∷ 3 ∷ 0 ∷ 3 ∷ 0 ∷ [])) ≡ (0 ∷ 1 ∷ 1 ∷ 2 ∷ [])
+  file-19-neighbours : neighbourList (fileGraph (71 ∷ 82 ∷ 68 ∷ 1 ∷ 0 ∷ 3 ∷ 0 ∷ 1 ∷ 0 ∷ 5 ∷ 0 ∷ 3 ∷ 0 ∷ 1 ∷ 0 ∷ 1 ∷ 0 ∷ 3 ∷ 0 ∷ 3 ∷ 0 ∷ [])) ≡ (3 ∷ 1 ∷ [])
+  -- a brick on one node
+  file-20 : fileRefusal (71 ∷ 82 ∷ 68 ∷ 1 ∷ 0 ∷ 2 ∷ 0 ∷ 1 ∷ 0 ∷ 7 ∷ 0 ∷ 2 ∷ 0 ∷ 2 ∷ 0 ∷ 2 ∷ 0 ∷ 2 ∷ 0 ∷ 2 ∷ 0 ∷ 2 ∷ 0 ∷ 2 ∷ 0 ∷ 2 ∷ 0 ∷ []) ≡ 0
+  file-20-starts : startList (fileGraph (71 ∷ 82 ∷ 68 ∷ 1 ∷ 0 ∷ 2 ∷ 0 ∷ 1 ∷ 0 ∷ 7 ∷ 0 ∷ 2 ∷ 0 ∷ 2 ∷ 0 ∷ 2 ∷ 0 ∷ 2 ∷ 0 ∷ 2 ∷ 0 ∷ 2 ∷ 0 ∷ 2 ∷ 0 ∷ 2 ∷ 0 ∷ [])) ≡ (0 ∷ 0 ∷ 0 ∷ [])
+  file-20-neighbours : neighbourList (fileGraph (71 ∷ 82 ∷ 68 ∷ 1 ∷ 0 ∷ 2 ∷ 0 ∷ 1 ∷ 0 ∷ 7 ∷ 0 ∷ 2 ∷ 0 ∷ 2 ∷ 0 ∷ 2 ∷ 0 ∷ 2 ∷ 0 ∷ 2 ∷ 0 ∷ 2 ∷ 0 ∷ 2 ∷ 0 ∷ 2 ∷ 0 ∷ [])) ≡ []
 
 -- the whole table
 example-table : ExampleTable
@@ -389,4 +425,28 @@ example-table = record {
   file-8 = refl;
   file-9 = refl;
   file-10 = refl;
+  file-11 = refl;
+  file-12 = refl;
+  file-13 = refl;
+  file-14 = refl;
+  file-14-starts = refl;
+  file-14-neighbours = refl;
+  file-15 = refl;
+  file-15-starts = refl;
+  file-15-neighbours = refl;
+  file-16 = refl;
+  file-16-starts = refl;
+  file-16-neighbours = refl;
+  file-17 = refl;
+  file-17-starts = refl;
+  file-17-neighbours = refl;
+  file-18 = refl;
+  file-18-starts = refl;
+  file-18-neighbours = refl;
+  file-19 = refl;
+  file-19-starts = refl;
+  file-19-neighbours = refl;
+  file-20 = refl;
+  file-20-starts = refl;
+  file-20-neighbours = refl;
 }
