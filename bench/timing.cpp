@@ -149,11 +149,19 @@ static void try_refusals(const Given &good, size_t byte_count) {
   refused(mesh_job, 9, [](Given &g, Lent &) { g.elements.insert(g.elements.end(), {11, 1, 2}); });
   refused(mesh_job, 9, [](Given &g, Lent &) { g.elements.insert(g.elements.end(), {1, 1}); });
   refused(mesh_job, 10, [n](Given &g, Lent &) { g.elements.insert(g.elements.end(), {1, 1, u16(n + 1)}); });
-  refused(mesh_job, 10, [](Given &g, Lent &) { g.elements.insert(g.elements.end(), {2, 1, 2, 1}); });
+  refused(mesh_job, 10, [](Given &g, Lent &) { g.elements.insert(g.elements.end(), {2, 0, 2, 0}); });
   refused(mesh_job, 11, [n](Given &g, Lent &) {  // bars from each of twenty nodes to all others
     for (u16 p = 1; p <= 20; p++)
       for (u16 q = u16(p + 1); q <= n; q++) g.elements.insert(g.elements.end(), {1, p, q});
   });
+}
+
+// Elements with a node more than once: the first one, if there is any, with two equal nodes, and a bar on one node.
+static void try_collapsed(const Given &good) {
+  Given given = good;
+  if (!given.elements.empty()) given.elements[2] = given.elements[1];
+  given.elements.insert(given.elements.end(), {1, 1, 1});
+  agreed("collapsed elements", mesh_job, given, Lent(good.n), 0);
 }
 
 static u64 now() {
@@ -272,6 +280,7 @@ static void bench(const std::string &path, bool quick) {
   mesh_name.resize(mesh_name.size() - 4);
   const Case c = compare(words_of(path));
   const size_t n = c.given.n;
+  try_collapsed(c.given);
   if (n < 1500) try_refusals(c.given, (c.measured.figures[1] + 7) / 8);  // larger ones take long and tell no more
   time_lists(c.given, quick);
   Given by_run = c.given;
