@@ -24,7 +24,7 @@
      7   the numbering given is not n words, each of 1..n once
      8   the mark bytes are short
      9   unknown element kind, or a record runs past the end
-     10  an element's node is 0, above n or repeated
+     10  an element's node is 0 or above n
      11  over 32,768 neighbour entries result
 
    12, a broken file, is the refusal of the program ./renumber alone: no call here is given a file. examples/c/grd.c reads one.
@@ -160,6 +160,7 @@ uint16_t wagonepoch_eliminate(const uint16_t *starts, size_t starts_len,
      kind         1    2         3              4            5        6      7      8                9                     10
      nodes        2    3         4              4            5        6      8      6                8                     10
                   bar  triangle  quadrilateral  tetrahedron  pyramid  wedge  brick  6-node triangle  8-node quadrilateral  10-node tetrahedron
+   All nodes of an element adjoin one another. One that repeats counts once, and an element with one distinct node joins nothing.
    Lent: starts n + 1, neighbours 32,768 whatever the mesh needs, scratch n, figures 1.
    Figures: neighbour entries, both directions. So many words of `neighbours` are written, and the length of that list for the calls above is
    this figure.
