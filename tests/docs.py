@@ -25,7 +25,7 @@ LEFT_OUT = ['docs/01-scope.md']
 # The input files that the pages speak of and the repository hasn't.
 FILES = {'arm.msh': mesh(range(1, 21), [(1, 1, 2), (8, 1, 2, 3)]).encode('ascii'),
          'arm.inp': b'*NODE\n1\n2\n4\n9\n*ELEMENT, TYPE=S4\n1, 1, 2, 4, 9\n',
-         'broken.grd': grd_file(3, (2, 1, 2, 1))}
+         'broken.grd': grd_file(3, (2, 1, 2, 4))}
 
 # Commands that run this test or take long: the script that runs them, or their short form, and the line in it.
 ELSEWHERE = {'.ci/run': ('.ci/run', 'tests/run'), 'tests/run': ('tests/run', 'tests/docs.py'),

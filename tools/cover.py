@@ -37,8 +37,10 @@ def filled(block, nodes):
 
 
 def records(nodes):
-    """Pairs of a kind and its nodes, for two nodes or more."""
-    nodes = list(nodes)
+    """Pairs of a kind and its nodes, each node once; a bar on one node, which joins nothing, where there is no second."""
+    nodes = list(dict.fromkeys(nodes))
+    if len(nodes) == 1:
+        return [(KIND[2], nodes * 2)]
     if len(nodes) in KIND:
         return [(KIND[len(nodes)], nodes)]
     groups, blocks = design(len(nodes))

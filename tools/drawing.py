@@ -33,7 +33,7 @@ PARTS = ['#e69f00', '#56b4e9', '#009e73', '#f0e442', '#0072b2', '#d55e00', '#cc7
 DARKEST = 0.66
 WHITE = (255, 255, 255)
 
-# What is drawn in all four panels: faces farthest first, nodes in no face, and the paper.
+# What is drawn in all four panels: faces farthest first, nodes that no element joins to another, and the paper.
 Scene = namedtuple('Scene', 'faces loose view paper')
 
 # colours: by node, a text such as '#5a2a7a'; labels: by node; legend: lines of SVG for a left edge and a height
@@ -105,7 +105,7 @@ def scene(model, numbers):
     place = {number: p for p, number in enumerate(numbers, 1)}
     elements = [(faces.shape_of(grd.KINDS[element.shape][0]), [place[node] for node in element.nodes]) for element in model.elements]
     seen, view = faces.visible(elements, places)
-    used = {p for _, nodes in elements for p in nodes}
+    used = {p for _, nodes in elements if len(set(nodes)) > 1 for p in nodes}
     paper = Paper([view.on_paper(place) for place in places.values()])
     loose = [(p, paper.at(view.on_paper(places[p]))) for p in sorted(places) if p not in used]
     return Scene([face._replace(points=[paper.at(point) for point in face.points]) for face in seen], loose, view, paper)

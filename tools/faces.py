@@ -91,14 +91,19 @@ def shape_of(name):
     return name.split()[-1]
 
 
+def distinct(nodes):
+    """Each node once, in the order in which they are first met."""
+    return list(dict.fromkeys(nodes))
+
+
 def around(shape, face, nodes, places):
-    """The face's nodes around it, with the middle node of each edge where the element has them."""
-    corners = [nodes[i] for i in face]
-    middles = nodes[CORNERS[shape]:]
+    """The face's nodes around it, each once, with the middle node of each edge where the element has them."""
+    corners = distinct(nodes[i] for i in face)
+    middles = [p for p in distinct(nodes[CORNERS[shape]:]) if p not in nodes[:CORNERS[shape]]]
     if not middles:
         return corners
-    if len(face) == 2:
-        return corners[:1] + list(middles[:1]) + corners[1:]
+    if len(corners) < 3:
+        return corners[:1] + middles[:1] + corners[1:]
     found = []
     for p, q in zip(corners, corners[1:] + corners[:1]):
         half = mean([places[p], places[q]])
@@ -111,14 +116,26 @@ def dist(p, q):
     return dot(less(p, q), less(p, q))
 
 
+def element_faces(shape, nodes, places):
+    """The nodes around each face of an element, by its corners. Faces that are collapsed to fewer than three go; an element without others is
+    drawn by the lines that they became, and one with a single node not at all."""
+    rings = {frozenset(nodes[i] for i in face): around(shape, face, nodes, places) for face in FACES[shape]}
+    for least in (3, 2, 1):
+        found = {corners: ring for corners, ring in rings.items() if len(corners) >= least and len(ring) > 1}
+        if found:
+            return found
+    return {}
+
+
 def outer_faces(elements, places):
-    """Shape, nodes around and the middle of the solid behind, None for a bar or a shell: each face once, none between two solids."""
+    """Whether a line, nodes around and the middle of the solid behind, None for a line or a shell: each face once, none between two solids."""
     faces = {}
     for shape, nodes in elements:
-        inside = mean([places[p] for p in nodes]) if shape in SOLID else None
-        for face in FACES[shape]:
-            key = frozenset(nodes[i] for i in face)
-            faces.setdefault(key, []).append((shape, around(shape, face, nodes, places), inside))
+        found = element_faces(shape, nodes, places)
+        # with fewer than four faces a solid is collapsed to a shell or a bar
+        inside = mean([places[p] for p in nodes]) if shape in SOLID and len(found) > 3 else None
+        for corners, ring in found.items():
+            faces.setdefault(corners, []).append((len(corners) < 3, ring, inside))
     for met in faces.values():
         solids = [face for face in met if face[2]]
         if len(solids) < 2:
@@ -129,7 +146,7 @@ def visible(elements, places):
     """The faces that look towards the eye, farthest first; elements are pairs of a shape and its nodes. And the view."""
     view = View(list(places.values()))
     seen = []
-    for shape, nodes, inside in outer_faces(elements, places):
+    for bar, nodes, inside in outer_faces(elements, places):
         points = [places[p] for p in nodes]
         centre = mean(points)
         across = normal(points)
@@ -137,7 +154,7 @@ def visible(elements, places):
             across = tuple(-x for x in across)
         if inside and dot(across, view.eye) < 0:
             continue
-        seen.append(Face(nodes, [view.on_paper(p) for p in points], view.depth(centre), shade(view, across, inside), shape == 'bar'))
+        seen.append(Face(nodes, [view.on_paper(p) for p in points], view.depth(centre), shade(view, across, inside), bar))
     return sorted(seen, key=lambda face: face.depth), view
 
 

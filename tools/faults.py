@@ -51,11 +51,9 @@ def element_at(data, at, name):
 
 def node_faults(n, nodes, name):
     """One for each node that is wrong."""
-    for place, p in enumerate(nodes):
+    for p in dict.fromkeys(nodes):
         if p == 0 or p > n:
             yield Refusal(10, '%s has node %d, and the nodes are 1 to %d' % (name, p, n))
-        elif p in nodes[:place]:
-            yield Refusal(10, '%s has node %d twice' % (name, p))
 
 
 def entry_faults(mesh):
@@ -82,9 +80,8 @@ def of_source(path, options):
 def of_model(model, options, whole):
     """Where something was not read, a missing node may be just that, and is not told."""
     found = attempted(test_nodes, model)
-    for element in model.elements:
-        if whole or all(node in model.nodes for node in element.nodes):
-            found += attempted(test_element, model, element)
+    for element in model.elements if whole else ():
+        found += attempted(test_element, model, element)
     if not options.compact:
         found += attempted(test_gaps, model, sorted(model.nodes))
     return found or attempted(mesh_of, model, options.compact, options.drop_inner) if whole else found

@@ -18,7 +18,8 @@ MOST_ENTRIES = 32768
 KINDS = {1: ('bar', 2), 2: ('triangle', 3), 3: ('quadrilateral', 4), 4: ('tetrahedron', 4), 5: ('pyramid', 5),
          6: ('wedge', 6), 7: ('brick', 8), 8: ('6-node triangle', 6), 9: ('8-node quadrilateral', 8), 10: ('10-node tetrahedron', 10)}
 
-# Document 01's table of refusals in plain words. The program answers 1, 9, 10, 11 and 12; the others are the libraries'.
+# Document 01's table of refusals in plain words, but for a node that repeats within an element, which is legal and counts once. The program
+# answers 1, 9, 10, 11 and 12; the others are the libraries'.
 MEANING = {
     1: 'there are no nodes, or more than 4,096',
     2: 'the start list is broken: it must begin with 0, never fall, and end with the length of the neighbour list, at most 32,768',
@@ -29,7 +30,7 @@ MEANING = {
     7: 'the given numbering does not have n words with each of 1 to n once',
     8: 'the buffer for the marks is too short',
     9: 'an element has an unknown kind, or runs past the end of the element list',
-    10: 'an element has a node that is 0, above n or there twice',
+    10: 'an element has a node that is 0 or above n',
     11: 'the elements give more than 32,768 neighbour entries',
     12: 'this is no GRD file of version 1: wrong first letters or version, more than 65,535 bytes or fewer than 9, or bytes missing or left over',
 }
@@ -96,11 +97,9 @@ def element_at(data, n, at, name):
 
 
 def test_nodes(n, nodes, name):
-    for place, p in enumerate(nodes):
+    for p in nodes:
         if p == 0 or p > n:
             raise Refusal(10, '%s has node %d, and the nodes are 1 to %d' % (name, p, n))
-        if p in nodes[:place]:
-            raise Refusal(10, '%s has node %d twice' % (name, p))
 
 
 def test_entries(mesh):
@@ -110,7 +109,7 @@ def test_entries(mesh):
 
 
 def neighbours(mesh):
-    """The neighbours of each node by number; place 0 is empty. All nodes of an element adjoin one another."""
+    """The neighbours of each node by number; place 0 is empty. All nodes of an element adjoin one another; one that repeats counts once."""
     rows = [set() for _ in range(mesh.n + 1)]
     for _, nodes in mesh.elements:
         for p in nodes:
@@ -143,12 +142,18 @@ def counted(value, name):
 
 
 def summary(mesh):
-    """One line: nodes, elements and how many of each kind."""
+    """One line: nodes, elements, how many of each kind, and how many are collapsed."""
     counts = {}
     for kind, _ in mesh.elements:
         counts[kind] = counts.get(kind, 0) + 1
-    kinds = ', '.join('%s %d' % (KINDS[kind][0], counts[kind]) for kind in sorted(counts))
+    kinds = ', '.join('%s %d' % (KINDS[kind][0], counts[kind]) for kind in sorted(counts)) + collapsed(nodes for _, nodes in mesh.elements)
     return '%s, %s%s' % (counted(mesh.n, 'node'), counted(len(mesh.elements), 'element'), ' (%s)' % kinds if kinds else '')
+
+
+def collapsed(lists):
+    """Such as '; collapsed 2': so many of the elements, given by their nodes, have one more than once."""
+    count = sum(len(set(nodes)) < len(nodes) for nodes in lists)
+    return '; collapsed %d' % count if count else ''
 
 
 def explain(data):

@@ -162,11 +162,9 @@ def test_length(model):
 
 
 def test_element(model, element):
-    for place, number in enumerate(element.nodes):
+    for number in element.nodes:
         if number not in model.nodes:
             raise Fault(element.line, '%s: there is no node %d' % (element.name, number))
-        if number in element.nodes[:place]:
-            raise Fault(element.line, '%s: node %d stands twice' % (element.name, number))
 
 
 def test_gaps(model, numbers):
@@ -181,9 +179,10 @@ def test_gaps(model, numbers):
 def drop_inner(model):
     """Take out each element whose nodes all lie in another one: the same nodes adjoin without it."""
     within, kept = {}, set()
+    distinct = [set(element.nodes) for element in model.elements]
     # the largest first; of two with the same nodes the earlier one stays
-    for place in sorted(range(len(model.elements)), key=lambda i: -len(model.elements[i].nodes)):
-        nodes = set(model.elements[place].nodes)
+    for place in sorted(range(len(distinct)), key=lambda i: -len(distinct[i])):
+        nodes = distinct[place]
         # whatever holds all the nodes holds each of them
         if not any(nodes <= other for other in min((within.get(p, []) for p in nodes), key=len)):
             kept.add(place)

@@ -1,4 +1,4 @@
-"""The parts that a mesh falls into, and the nodes that no element has, in the source's own numbers."""
+"""The parts that a mesh falls into, and the nodes that no element joins to another, in the source's own numbers."""
 
 import grd
 
@@ -25,10 +25,9 @@ def parts_of(rows):
     return parts
 
 
-def loose(mesh):
-    """Nodes that no element has."""
-    used = {p for _, nodes in mesh.elements for p in nodes}
-    return [p for p in range(1, mesh.n + 1) if p not in used]
+def loose(rows):
+    """Nodes without a neighbour: in no element, or in elements without a second distinct node."""
+    return [p for p in range(1, len(rows)) if not rows[p]]
 
 
 def runs(numbers):
@@ -48,9 +47,10 @@ def runs(numbers):
 
 
 def warnings(mesh, numbers):
-    """Lines for a mesh in several parts or with nodes in no element; numbers are the source's, in the order of the mesh's 1 to n."""
-    alone = loose(mesh)
-    parts = [part for part in parts_of(grd.neighbours(mesh)) if len(part) > 1]
+    """Lines for a mesh in several parts or with loose nodes; numbers are the source's, in the order of the mesh's 1 to n."""
+    rows = grd.neighbours(mesh)
+    alone = loose(rows)
+    parts = [part for part in parts_of(rows) if len(part) > 1]
     lines = []
     if len(parts) > 1:
         lines.append('warning: the mesh falls into %d parts that no element joins' % len(parts))
@@ -59,6 +59,6 @@ def warnings(mesh, numbers):
         if len(parts) > MOST_PARTS:
             lines.append('  and %d parts more' % (len(parts) - MOST_PARTS))
     if alone:
-        lines.append('warning: in no element, each a part of its own, %s: %s' % (grd.counted(len(alone), 'node'),
-                                                                                 runs([numbers[p - 1] for p in alone])))
+        lines.append('warning: joined to no other, each a part of its own, %s: %s' % (grd.counted(len(alone), 'node'),
+                                                                                      runs([numbers[p - 1] for p in alone])))
     return lines

@@ -17,15 +17,16 @@ Found = namedtuple('Found', 'mesh numbers model paths')
 
 
 def summary(found):
-    """One line: nodes, elements as the file has them, and how many of each kind."""
+    """One line: nodes, elements as the file has them, how many of each kind, and how many are collapsed."""
     if found.model is None:
         return grd.summary(found.mesh)
     counts = {}
     for element in found.model.elements:
         kind = (element.shape, len(element.nodes))
         counts[kind] = counts.get(kind, 0) + 1
-    kinds = ['%s %d' % (kind_name(*kind), count) for kind, count in sorted(counts.items())]
-    return '%s, %s (%s)' % (grd.counted(found.mesh.n, 'node'), grd.counted(elements(found), 'element'), ', '.join(kinds))
+    kinds = ', '.join('%s %d' % (kind_name(*kind), count) for kind, count in sorted(counts.items()))
+    kinds += grd.collapsed(element.nodes for element in found.model.elements)
+    return '%s, %s (%s)' % (grd.counted(found.mesh.n, 'node'), grd.counted(elements(found), 'element'), kinds)
 
 
 def kind_name(shape, count):

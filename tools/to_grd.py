@@ -16,6 +16,7 @@ import abaqus
 import gmsh
 import grd
 import nastran
+import parts
 from files import GRD, NODES, Output, Source, add_output_options, command, read_text, write_own
 from model import Fault, mesh_of, squeezed
 
@@ -63,9 +64,9 @@ def report(arguments, model, mesh):
     if arguments.compact:
         yield '%s: the numbers before and after closing gaps' % map_path(arguments.output)
     yield from changed(arguments.ignore, model)
-    alone = sum(1 for row in grd.neighbours(mesh)[1:] if not row)
+    alone = len(parts.loose(grd.neighbours(mesh)))
     if alone:
-        yield 'nodes in no element, each a part of its own: %d' % alone
+        yield 'nodes joined to no other, each a part of its own: %d' % alone
 
 
 def changed(ignore, model):

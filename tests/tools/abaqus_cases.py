@@ -188,8 +188,6 @@ def edits(c):
     edit('long on the next line', '5, 6\n*ELEMENT', '5, 6, 7\n*ELEMENT', ':38: element 10 (C3D10): 11 nodes, and it needs 10')
     edit('no number', '6, 6, 1, 5, 2, 4, 3\n', '6, 6, 1, 5.0, 2, 4, 3\n', ":28: element or node number: '5.0' is no whole number")
     edit('no such node', '6, 6, 1, 5, 2, 4, 3\n', '6, 6, 1, 5, 2, 4, 30\n', ':28: element 6 (C3D6): there is no node 30')
-    edit('repeated node', '6, 6, 1, 5, 2, 4, 3\n', '6, 6, 1, 5, 2, 6, 3\n', ':28: element 6 (C3D6): node 6 stands twice')
-    edit('repeated node across lines', '4,3,2,1\n', '4,3,2,8\n', ':31: element 7 (C3D8I): node 8 stands twice')
     edit('element twice', '6, 6, 1, 5, 2, 4, 3\n', '3, 6, 1, 5, 2, 4, 3\n', ':28: element 3 (C3D6) is given twice, first on line 22')
     edit('node twice', '\n12, 0, 3, 0.', '\n11, 0, 3, 0.', ':16: node 11 is given twice, first on line 15')
 

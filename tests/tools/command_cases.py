@@ -80,25 +80,25 @@ def compact(c):
 
 
 def printed(c):
-    """What it prints: kinds, one-node elements left out, nodes in no element."""
+    """What it prints: kinds, one-node elements left out, nodes joined to no other."""
     got = run(to_grd.main, ['kinds22.msh', '-o', 'a.grd'], {'kinds22.msh': data('kinds22.msh')})
     c.equal('to_grd: printed', got[1],
             'a.grd: 12 nodes, 10 elements (bar 1, triangle 1, quadrilateral 1, tetrahedron 1, pyramid 1, wedge 1, brick 1, '
             '6-node triangle 1, 8-node quadrilateral 1, 10-node tetrahedron 1)\n'
             'one-node elements left out, as they join nothing: 1\n')
     got = run(to_grd.main, ['a.bdf', '-o', 'a.grd'], {'a.bdf': 'GRID,1\nGRID,2\nGRID,3\nGRID,4\nCROD,1,1,1,2\n'})
-    c.equal('to_grd: nodes alone', got[1], 'a.grd: 4 nodes, 1 element (bar 1)\nnodes in no element, each a part of its own: 2\n')
+    c.equal('to_grd: nodes alone', got[1], 'a.grd: 4 nodes, 1 element (bar 1)\nnodes joined to no other, each a part of its own: 2\n')
 
 
 def left_behind(c):
     fails(c, 'to_grd: ending', 'a.xyz', '', ": the ending '.xyz' tells no format: say --from gmsh, abaqus or nastran")
     good = {'a.bdf': bars([(1, 2)])}
     c.equal('to_grd: no such folder', run(to_grd.main, ['a.bdf', '-o', 'b/a.grd'], good), (1, '', 'b/a.grd: No such file or directory\n', {}))
-    old = {'a.bdf': bars([(1, 1)]), 'a.grd': b'older', 'a.nodes': b'older'}
+    old = {'a.bdf': 'GRID,1\n' + bars([(1, 2)]), 'a.grd': b'older', 'a.nodes': b'older'}
 
     def main(words):
         status = to_grd.main(words)
         with open('a.grd', 'rb') as file:
             return status, file.read()
     c.equal('to_grd: an older file stays', run(main, ['--compact', 'a.bdf', '-o', 'a.grd'], old),
-            ((1, b'older'), '', 'a.bdf:1: element 1 (CROD): node 1 stands twice\n', {}))
+            ((1, b'older'), '', 'a.bdf:2: element 1 (CROD): there is no node 2\n', {}))

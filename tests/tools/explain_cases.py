@@ -35,11 +35,11 @@ def in_grd(c):
         wanted.append(program.text_for(bytes(data))[:len(got[-1])])
     c.equal('faults: the first is the refusal of tests/reference', got, wanted)
     c.holds('faults: of every kind', {b'nodes', b'refused 1\n', b'refused 9\n', b'refused 10\n', b'refused 12\n'} <= set(got))
-    many = grd_file(4, (2, 1, 0, 7), (1, 3, 3), (3, 1, 2, 3, 4), (1, 5, 4)) + b'\0'
+    many = grd_file(4, (2, 1, 0, 7), (1, 3, 3), (3, 1, 2, 3, 4), (1, 5, 5)) + b'\0'
     c.equal('faults: all of them', [(refusal.number, refusal.where) for refusal in faults.of_grd(many)],
             [(10, 'element 1 (byte 9), a triangle, has node 0, and the nodes are 1 to 4'),
              (10, 'element 1 (byte 9), a triangle, has node 7, and the nodes are 1 to 4'),
-             (10, 'element 2 (byte 17), a bar, has node 3 twice'), (10, 'element 4 (byte 33), a bar, has node 5, and the nodes are 1 to 4'),
+             (10, 'element 4 (byte 33), a bar, has node 5, and the nodes are 1 to 4'),
              (12, 'bytes left over after the last element: 1')])
     c.equal('faults: too many nodes, and an unknown kind',
             [refusal.number for refusal in faults.of_grd(grd_file(5000, (1, 1, 5000), (11, 1), (1, 2, 2)))], [1, 9])
@@ -50,14 +50,18 @@ def in_words(c):
         answer = program.text_for(data)
         return run(lambda words: print('\n'.join(explain.explained('a.grd', answer.decode('ascii').splitlines()))), [],
                    {'a.grd': data})[1].splitlines()
-    lines = told(grd_file(3, (2, 1, 2, 1), (1, 2, 2)))
-    c.equal('explain: the refusal first', lines, ['refused 10: %s; element 1 (byte 9), a triangle, has node 1 twice' % grd.MEANING[10],
-                                                  'also: element 2 (byte 17), a bar, has node 2 twice (10)'])
-    lines = told(grd_file(3, *[(1, 2, 2)] * 60))
+    lines = told(grd_file(3, (2, 1, 2, 4), (1, 0, 2)))
+    c.equal('explain: the refusal first', lines,
+            ['refused 10: %s; element 1 (byte 9), a triangle, has node 4, and the nodes are 1 to 3' % grd.MEANING[10],
+             'also: element 2 (byte 17), a bar, has node 0, and the nodes are 1 to 3 (10)'])
+    lines = told(grd_file(3, *[(1, 2, 4)] * 60))
     c.equal('explain: no more than fifty besides', (len(lines), lines[-1]), (52, 'and 9 faults more'))
     c.equal('explain: a mesh in parts', told(grd_file(6, (1, 1, 3), (1, 2, 5)))[-4:],
             ['warning: the mesh falls into 2 parts that no element joins', '  part 1, 2 nodes: 1, 3', '  part 2, 2 nodes: 2, 5',
-             'warning: in no element, each a part of its own, 2 nodes: 4, 6'])
+             'warning: joined to no other, each a part of its own, 2 nodes: 4, 6'])
+    c.equal('explain: collapsed elements', told(grd_file(5, (3, 1, 2, 3, 3), (1, 3, 4), (1, 5, 5))),
+            ['5 nodes, 3 elements (bar 2, quadrilateral 1; collapsed 2)', 'bandwidth 2 before, 2 after', 'profile 4 before, 4 after',
+             'front 3 before, 3 after', 'warning: joined to no other, each a part of its own, 1 node: 5'])
 
 
 def in_sources(c):
@@ -76,10 +80,10 @@ def in_sources(c):
                 (bool(wanted), name + wanted[0] + '\n' if wanted else ''))
     deck = 'GRID,1\nGRID,2\nGRID,2\nGRID,4\nCROD,1,1,1,2\nCROD,1,1,2,4\nCTRIA3,2,1,1,2,2\nCNOTHING,3,1\n'
     lines = [':3: node 2 is given twice, first on line 2', ':6: element 1 (CROD) is given twice, first on line 5',
-             ':8: card CNOTHING is not known, and might join nodes; --ignore CNOTHING leaves it out', ':7: element 2 (CTRIA3): node 2 stands twice',
+             ':8: card CNOTHING is not known, and might join nodes; --ignore CNOTHING leaves it out',
              ':4: node 4 comes after a gap: no node has number 3; --compact closes gaps']
     found('a.bdf', deck, lines)
-    found('a.bdf', deck, lines[:2] + lines[3:4], True, ['CNOTHING'])
+    found('a.bdf', deck, lines[:2], True, ['CNOTHING'])
     found('a.bdf', 'GRID,1\nGRID,2\nCROD,1,1,1,2\nCROD,2,1,2,3\nCROD,3,1,3,4\n',
           [':4: element 2 (CROD): there is no node 3', ':5: element 3 (CROD): there is no node 3'])
     found('a.bdf', 'GRID,1\nGRID,2\nCROD,1,1,1,2\n', [])
@@ -102,5 +106,5 @@ def in_parts(c):
     c.equal('parts: no more than eight', (len(lines), lines[0], lines[8], lines[9]),
             (11, 'warning: the mesh falls into 10 parts that no element joins', '  part 8, 2 nodes: 220, 230', '  and 2 parts more'))
     c.equal('parts: loose nodes', lines[10],
-            'warning: in no element, each a part of its own, 10 nodes: 30, 60, 90, 120, 150, 180, 210, 240, 270, 300')
+            'warning: joined to no other, each a part of its own, 10 nodes: 30, 60, 90, 120, 150, 180, 210, 240, 270, 300')
     c.equal('parts: one part', parts.warnings(grd.Mesh(2, [(1, [1, 2])]), [1, 2]), [])

@@ -66,7 +66,6 @@ def sections(c):
 def meshes(c):
     """Mistakes of the mesh."""
     fails(c, 'gmsh: no such node', 'a.msh', mesh([1, 2, 3], TRIANGLES), ':13: element 2 (3-node triangle): there is no node 4')
-    fails(c, 'gmsh: repeated node', 'a.msh', mesh([1, 2, 3], [(2, 1, 2, 1)]), ':12: element 1 (3-node triangle): node 1 stands twice')
     fails(c, 'gmsh: node given twice', 'a.msh', mesh([1, 2, 3, 2], [(2, 1, 2, 3)]), ':9: node 2 is given twice, first on line 7')
     fails(c, 'gmsh: node 0', 'a.msh', mesh([0, 1, 2], [(1, 1, 2)]), ':6: node 0: numbers start at 1')
     fails(c, 'gmsh: one number missing', 'a.msh', mesh([1, 2, 4], [(2, 1, 2, 4)]),

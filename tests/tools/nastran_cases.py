@@ -153,9 +153,6 @@ def edits(c):
         fails(c, 'nastran: ' + name, 'a.bdf', edited('small.bdf', (old, new)), message)
     small('no such node', 'CROD    1       1       2       1', 'CROD    1       1       2       13',
           ':20: element 1 (CROD): there is no node 13')
-    small('repeated node', 'CROD    1       1       2       1', 'CROD    1       1       2       2',
-          ':20: element 1 (CROD): node 2 stands twice')
-    small('repeated node across lines', '+C7     2       1', '+C7     2       8', ':26: element 7 (CHEXA): node 8 stands twice')
     small('another card\'s continuation', '+C7     2       1', '+C8     2       1',
           ':27: continuation +C8 does not follow its card, which ends with +C7')
     small('continuation missing', '+C7     2       1\n', '', ':26: card CHEXA ends with +C7, and its continuation does not follow')

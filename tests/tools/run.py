@@ -6,6 +6,7 @@ import sys
 import harness
 import abaqus_cases
 import archive_cases
+import collapsed_cases
 import command_cases
 import cover_cases
 import drawing_cases
@@ -24,8 +25,8 @@ import slip_cases
 
 def main():
     counted = harness.Cases()
-    for module in (grd_cases, cover_cases, gmsh_cases, abaqus_cases, nastran_cases, slip_cases, export_cases, command_cases,
-                   output_cases, seqgp_cases, picture_cases, drawing_cases, page_cases, explain_cases, archive_cases, script_cases):
+    for module in (grd_cases, cover_cases, gmsh_cases, abaqus_cases, nastran_cases, collapsed_cases, slip_cases, export_cases,
+                   command_cases, output_cases, seqgp_cases, picture_cases, drawing_cases, page_cases, explain_cases, archive_cases, script_cases):
         try:
             module.cases(counted)
         # argparse leaves by SystemExit

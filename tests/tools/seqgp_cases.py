@@ -70,8 +70,8 @@ def whole_way(c):
 def listings(c):
     """Listings that are none."""
     head = SAMPLE.splitlines()[0]
-    refused = program.text_for(grd_file(3, (2, 1, 2, 1))).decode('ascii')
-    fails(c, 'refused mesh', refused, 'a.txt:1: the program refused the mesh (10): an element has a node that is 0, above n or there twice')
+    refused = program.text_for(grd_file(3, (2, 1, 2, 4))).decode('ascii')
+    fails(c, 'refused mesh', refused, 'a.txt:1: the program refused the mesh (10): an element has a node that is 0 or above n')
     fails(c, 'empty', '', "a.txt:1: no listing of the program: its first line begins with 'nodes'")
     fails(c, 'cut', SAMPLE[:-6], 'a.txt:5: 5 nodes announced, 4 rows found')
     fails(c, 'long', SAMPLE + '6 6 6\n', 'a.txt:7: 5 nodes announced, 6 rows found')
