@@ -33,7 +33,7 @@ def numbered(drawing):
     corners, meets = set(), {}
     for kind, points in drawing:
         corners.update(points[:CORNERS.get(kind, len(points))])
-        for point in points:
+        for point in set(points):
             meets[point] = meets.get(point, 0) + 1
     order = sorted(meets, key=lambda point: (point not in corners, meets[point], point))
     number = {point: i for i, point in enumerate(order, 1)}
@@ -64,6 +64,11 @@ def square(x, y):
     return [(x, y), (x + 1, y), (x + 1, y + 1), (x, y + 1)]
 
 
+def collapsed(points, gone):
+    """A quadrilateral made a triangle as the drawing office does it: the corner that is gone stands at the one before, which is given twice."""
+    return QUADRILATERAL, [points[gone - 1] if i == gone else point for i, point in enumerate(points)]
+
+
 def around(drawing, axis, count):
     """The drawing closed to a ring: places along one axis counted modulo this many."""
     def turned(point):
@@ -71,7 +76,7 @@ def around(drawing, axis, count):
     return [(kind, [turned(point) for point in points]) for kind, points in drawing]
 
 
-# The six meshes.
+# The seven meshes.
 
 def bracket():
     """An angle bracket: foot with two bolt holes, upright, and a rib whose slope is made of wedges."""
@@ -126,6 +131,25 @@ def switch_arm():
     return drawing + [(BAR, pair) for pair in zip(spring, spring[1:])]
 
 
+def lug_plate():
+    """A lug with a round bolt hole and a tapered end, of quadrilaterals alone: the slants at hole, corners and taper are collapsed ones."""
+    above = [4] * 9 + [3] * 3 + [2] * 3 + [1] * 3
+    # the cells on slants, and the corner that each has lost: 0 lower left, 1 lower right, 2 upper right, 3 upper left
+    hole = {(2, -2): 2, (5, -2): 3, (5, 1): 0, (2, 1): 1}
+    slants = {(0, -4): 0, (0, 3): 3, **hole}
+    for x in range(1, len(above)):
+        if above[x] < above[x - 1]:
+            slants.update({(x - 1, above[x]): 2, (x - 1, -above[x - 1]): 1})
+    drawing = []
+    for x, half in enumerate(above):
+        for y in range(-half, half):
+            if (x, y) in slants:
+                drawing.append(collapsed(square(x, y), slants[x, y]))
+            elif not (2 <= x < 6 and -2 <= y < 2):
+                drawing.append((QUADRILATERAL, square(x, y)))
+    return drawing
+
+
 def ring():
     """A closed ring of 8-node quadrilaterals, two across."""
     edges = ((0, 1), (1, 2), (2, 3), (3, 0))
@@ -159,13 +183,14 @@ MESHES = [
     ('encoder_plate', encoder_plate, 'round plate with a ring of windows; quadrilaterals, triangles at the bore'),
     ('hub_sector', hub_sector, 'sixth of a hub casting, barrel and flange; 10-node tetrahedra'),
     ('switch_arm', switch_arm, 'arm of a limit switch with its return spring; 6-node triangles and bars'),
+    ('lug_plate', lug_plate, 'lug with a round hole and a tapered end; quadrilaterals, twelve of them collapsed to triangles'),
     ('ring', ring, 'closed ring, two elements across; 8-node quadrilaterals'),
     ('two_parts', two_parts, 'cover plate and a pin that do not touch; quadrilaterals, bars, pyramids, tetrahedra'),
 ]
 
 PAGE = '''# Examples
 
-Six small meshes, their listings and their pictures. `make.py` makes them all, this page too; `make.py --check` says whether they are what it makes.
+Seven small meshes, their listings and their pictures. `make.py` makes them all, this page too; `make.py --check` says whether they are what it makes.
 Old numbers are given as a mesh tool gives them: corners first, then edges, then the inside, middle nodes last.
 
 | Mesh | What it is | Nodes | Elements | Bandwidth | Profile | Front | Parts | Levels | Width |
@@ -179,6 +204,12 @@ for it, and `NAME.svg` the matrix before and after. The listings come from `test
     nodes 152 parts 2 bandwidth 17 profile 1447 front 17 levels 18 width 13 passes 2
     1 1 1
     ..
+
+`lug_plate` is made as the drawing office makes its plates: a triangle is a quadrilateral with one corner given twice. A node that repeats within
+an element counts once, so the graph and the listing are those of the same plate with triangles.
+
+    $ tools/grd.py examples/lug_plate.grd
+    examples/lug_plate.grd: 118 nodes, 96 elements (quadrilateral 96; collapsed 12)
 
 `tools/README.md` says how a picture is made, and how meshes come from other formats.
 

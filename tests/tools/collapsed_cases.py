@@ -1,11 +1,12 @@
 """Collapsed elements: a node that repeats counts once. Each is held against the element of its distinct nodes, in every format and drawing."""
 
+import os
 import re
 
 from converting import adjoins, converts
 from drawing_cases import CUBE, area, drawn, polygons, visible
 from gmsh_cases import mesh
-from harness import edited, grd_file, run
+from harness import TOP, edited, grd_file, run
 from nastran_cases import free
 
 import cover
@@ -37,6 +38,7 @@ def cases(c):
     inner(c)
     seen(c)
     pictures(c)
+    example(c)
 
 
 # Files.
@@ -143,3 +145,13 @@ def pictures(c):
     halves = sum(path.count('M') for path in re.findall('<path class="b" color="#[0-9a-f]+" d="([^"]*)"/>', text))
     c.equal('collapsed: a quadrilateral made a line is a bar: two bars, by halves', (edges(text), halves, text.count('<circle ')),
             ([10] * 4, 16, 0))
+
+
+def example(c):
+    """The drawing office's plate, and the same one with triangles."""
+    with open(os.path.join(TOP, 'examples', 'lug_plate.grd'), 'rb') as file:
+        data = file.read()
+    elements = [(2 if len(set(nodes)) == 3 else kind, list(dict.fromkeys(nodes))) for kind, nodes in grd.read(data).elements]
+    c.equal('collapsed: the example has twelve', sum(kind == 2 for kind, _ in elements), 12)
+    c.equal('collapsed: the example is listed as with triangles', program.text_for(data),
+            program.text_for(grd_file(grd.read(data).n, *[[kind] + nodes for kind, nodes in elements])))
