@@ -14,7 +14,7 @@ from harness import Cases
 BEFORE = {
     'crates.txt': '# two chapters\nwords: basis\ncombining: basis\npiecing: basis combining\nrows: basis words piecing combining\n',
     'crates/words/src/lib.rt': 'fn clear(words: &mut [u16]) {}\n',
-    'crates/rows/src/legal.rt': 'ghost use Rattle.words.specs.Clear.{clear};\nuse words::wide;\nlet a = incidence::legal::listing::row_of(rows[0], words);\n',
+    'crates/rows/src/legal.rt': 'ghost use Rattle.words.specs.Clear.{clear};\nuse words::wide;\nlet a = incidence::legal::listing::row_of(rows[0], words);\nturn_round(a);\n',
     'crates/rows/must-fail/one.edit': 'old:     words::legal::clear(lists, n);\nnew:     words::legal::clear(lists, 0);\n',
     'crates/combining/specs/Lib.antt': 'pub mod Areas\n',
     'crates/piecing/specs/Lib.antt': 'pub mod Sizes\n',
@@ -25,7 +25,7 @@ AFTER = {
     'crates.txt': '# two chapters\ngraph_words: basis\nlevels_laws: basis\nmesh_rows: basis graph_words levels_laws\n',
     'crates/graph_words/src/lib.rt': BEFORE['crates/words/src/lib.rt'],
     'crates/mesh_rows/src/legal.rt':
-        'ghost use Rattle.graph_words.specs.Clear.{clear};\nuse graph_words::wide;\nlet a = mesh_incidence::legal::listing::row_of(rows[0], words);\n',
+        'ghost use Rattle.graph_words.specs.Clear.{clear};\nuse graph_words::wide;\nlet a = mesh_incidence::legal::listing::row_of(rows[0], words);\nreverse(a);\n',
     'crates/mesh_rows/must-fail/one.edit': 'old:     graph_words::legal::clear(lists, n);\nnew:     graph_words::legal::clear(lists, 0);\n',
     'crates/levels_laws/specs/Lib.antt': 'pub mod Areas\npub mod Sizes\n',
     'crates/levels_laws/proofs/Start.antt': 'use Rattle.levels_laws.specs.Areas.{swapped}\nuse Rattle.levels_laws.specs.Sizes.{sizes}\n',

@@ -5,7 +5,7 @@
 
 FOLDER is a copy of prepared files, with folders crates/OLD in it or patches of them. Folders are moved, and in every text file each old name
 is replaced where it stands for a crate: in a module's path (Rattle.OLD), in a path of code (OLD::), in a path of files (crates/OLD), in crates.txt, and
-in the pages where it stands alone in backticks or in bold or before a slash. The folder is changed in place, so give a copy. It says how many files it changed, and stops at a crate
+in the pages where it stands alone in backticks or in bold or before a slash; and a few names within crates. The folder is changed in place, so give a copy. It says how many files it changed, and stops at a crate
 that stands under both names.
 """
 
@@ -25,6 +25,8 @@ NEW = {'words': 'graph_words', 'envelope': 'graph_envelope',
        'vectors': 'test_vectors', 'graph_test': 'test_graph', 'reading_test': 'test_reading', 'calls_test': 'test_calls'}
 # the two crates that became one
 MERGED = ('combining', 'piecing')
+# names within crates that changed besides
+NAMES = {'turn_round': 'reverse', 'turnedAt': 'mirroredAt', 'Turnable': 'Mirrorable'}
 OLD = '|'.join(sorted(NEW, key=len, reverse=True))
 TEXT = ('.antt', '.rt', '.edit', '.patch', '.md', '.txt', '.py')
 
@@ -35,6 +37,7 @@ def new(match):
 
 def code(text):
     """Names in modules, code, paths of files."""
+    text = re.sub(r'\b(%s)\b' % '|'.join(NAMES), lambda match: NAMES[match.group(1)], text)
     text = re.sub(r'Rattle·(?P<old>%s)(?=[·.])' % OLD, new, text)
     text = re.sub(r'(?<![\w:.])(?P<old>%s)(?=::)' % OLD, new, text)
     return re.sub(r'crates/(?P<old>%s)\b' % OLD, new, text)
