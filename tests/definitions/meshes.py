@@ -58,7 +58,8 @@ def file_bytes(rng, n):
     file = list(b'GRD') + of_bytes(words)
     way = rng.random()
     if way < 0.1:
-        file[rng.randrange(len(file))] = rng.randint(0, 255)
+        # any byte but the two of n: for hundreds of nodes the output is more than the checker computes
+        file[rng.choice([i for i in range(len(file)) if i not in (5, 6)])] = rng.randint(0, 255)
     elif way < 0.2:
         file = file[:rng.randrange(len(file))]
     elif way < 0.25:
