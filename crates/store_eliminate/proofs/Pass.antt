@@ -1,6 +1,6 @@
--- The pass over the rows: for q rising, the lower neighbours of q are due. A number p that is due and below q is joined to q: where (p, q) is not marked
--- yet it is, and then q becomes the parent of p where it has none, else that parent is due. A lemma for each step; at the end the marks are the joined
--- pairs. Assumes nothing.
+-- The pass over the rows: for q rising, the lower neighbours of q are due. A number p that is due and below q is joined to q: (p, q) is marked, and
+-- q becomes the parent of p where it has none, else that parent is due; where (p, q) was marked before, p is no longer due. A lemma for each step;
+-- at the end the marks are the joined pairs. Assumes nothing.
 use mathlib.Core.Path.{_≡_, refl, ap}
 use mathlib.Core.Logic.{_⊎_, inl, inr, ⊎-elim}
 use mathlib.Core.Bool.{Bool, true, false}
@@ -99,21 +99,20 @@ module _ {h : Graph} (H : LegalGraph h) where
     pub met-low : firstIn h q ≤ p
     met-low = joined-low p q less here-joined
 
-    -- a parent of p, where the pair is not marked yet, is above p and below q
-    module _ (free : M p q ≡ false) (r : ℕ) (pr : par p ≡ r) (some : 1 ≤ r) where
+    -- a parent of p is above p and at most q
+    module _ (r : ℕ) (pr : par p ≡ r) (some : 1 ≤ r) where
       known : (p < r) × (M p r ≡ true)
       known = rw pr at (v .parent p (rw pr some))
 
       pub met-above : p < r
       met-above = known .0
 
-      pub met-below : r < q
-      met-below =
-          ⊎-elim (λ (e : r ≡ q). clash (known .1) (rw e free)) (λ (l : r < q). l) (eq-or-lt-of-le (v .within p r (known .0) (known .1)))
+      pub met-below : r ≤ q
+      met-below = v .within p r (known .0) (known .1)
 
-      -- and joined to q at the end
-      next-joined : 1 ≤ p → adjoins (joined h) r q ≡ true
-      next-joined low = joined-shut H p r q low (known .0) met-below (joined-high p q here-joined) (v .sound p r (known .0) (known .1)) here-joined
+      -- and, where it is lower, joined to q at the end
+      next-joined : 1 ≤ p → r < q → adjoins (joined h) r q ≡ true
+      next-joined low l = joined-shut H p r q low (known .0) l (joined-high p q here-joined) (v .sound p r (known .0) (known .1)) here-joined
 
     -- the pair is marked
     module _ (M′ : ℕ → ℕ → Bool) (A : Added M M′ p q) where
@@ -158,11 +157,11 @@ module _ {h : Graph} (H : LegalGraph h) where
           shut′ i k a b l d (inr s) = absurd (omega (arith, ap par′ (s .0)))
 
       -- p has the parent r: that is due
-      pub met-climb : 1 ≤ p → M p q ≡ false → (r : ℕ) → par p ≡ r → 1 ≤ r → Met h M′ par q (r ∷ due)
-      met-climb low free r pr some = record {
+      pub met-climb : 1 ≤ p → (r : ℕ) → par p ≡ r → 1 ≤ r → Met h M′ par q (r ∷ due)
+      met-climb low r pr some = record {
         edges = λ i k l m a. more i k (v .edges i k l m a);
         sound = sound′;
-        owed = λ i l m. ⊎-elim (λ (e : i ≡ r). rw e (next-joined free r pr some low)) (λ d. v .owed i l (or-right (eqb i p) d)) (due-cases i r due m);
+        owed = λ i l m. ⊎-elim (λ (e : i ≡ r). rw e (next-joined r pr some low (omega arith))) (λ d. v .owed i l (or-right (eqb i p) d)) (due-cases i r due m);
         within = within′;
         seen = λ i k a b e. seen′ i k a b (A .only i k e);
         parent = λ i a. let s = v .parent i a in (s .0, A .grow i (par i) (s .1));
@@ -174,7 +173,7 @@ module _ {h : Graph} (H : LegalGraph h) where
 
           seen′ : (i k : ℕ) → 1 ≤ i → i < k → (M i k ≡ true) ⊎ ((i ≡ p) × (k ≡ q)) → (1 ≤ par i) × (par i ≤ k)
           seen′ i k a b (inl o) = v .seen i k a b o
-          seen′ i k a b (inr s) = (omega (arith, ap par (s .0)), omega (arith, ap par (s .0), met-below free r pr some))
+          seen′ i k a b (inr s) = (omega (arith, ap par (s .0)), omega (arith, ap par (s .0), met-below r pr some))
 
           shut′ : (i k : ℕ) → 1 ≤ i → i < k → par i < k → (M i k ≡ true) ⊎ ((i ≡ p) × (k ≡ q)) → Held M′ q (r ∷ due) (par i) k
           shut′ i k a b l (inl o) = more (par i) k (v .shut i k a b o l)

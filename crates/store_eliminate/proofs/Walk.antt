@@ -1,7 +1,7 @@
 -- A step of the pass on the lent words and bytes keeps what holds of them. Assumes nothing.
 use mathlib.Core.Path.{_≡_, refl, sym, ap, ap₂, _∙_}
 use mathlib.Core.Logic.{_⊎_, inl, inr, ⊎-elim}
-use mathlib.Core.Bool.{true, false}
+use mathlib.Core.Bool.{true}
 use mathlib.Core.List.{List, [], _∷_, map}
 use Prim.Native.Nat.{ℕ, zero, suc, _+_, _-_, _*_, _/_, _≤_, _<_}
 use native.Mathlib.Nat.{pos-of-ne-zero}
@@ -19,9 +19,8 @@ use Rattle.laws.specs.Legal.{LegalGraph}
 use Rattle.laws.proofs.Legal.{ofNode-at}
 use Rattle.laws.proofs.Marks.{profile-fits}
 use Rattle.laws.proofs.Places.{first-le, start-next, start-profile, place-make, place-below, place-inj}
-use Rattle.store_marks.specs.Marks.{marked, withMark, ones}
+use Rattle.store_marks.specs.Marks.{marked, withMark, Countable}
 use Rattle.store_marks.proofs.Marks.{mark-length, mark-other, mark-set}
-use Rattle.store_marks.proofs.Ones.{ones-more, ones-most}
 use Rattle.store_eliminate.specs.Walk.{pair, stored, parentIn, placeIn, Room, IsRow, Walk, InRow}
 use Rattle.store_eliminate.specs.Pass.{Met}
 use Rattle.store_eliminate.specs.declared.legal.Row.{Row}
@@ -119,10 +118,10 @@ walk-due w v = record {
   met = v;
 }
 
--- so many marks are a number of 32 bits, with room for one more
-pub marks-few : {h : Graph} {o words bytes due : List ℕ} {b q : ℕ} → Walk h o words bytes b q due → ones bytes < 4294967295
+-- the bytes of a store are few enough to be counted
+pub bytes-few : {h : Graph} {o words bytes due : List ℕ} {b q : ℕ} → Walk h o words bytes b q due → Countable bytes
 unfolding markByteCount
-marks-few {h} {bytes = bytes} w = omega (arith, ones-most bytes, w .room, profile-small h (w .few))
+bytes-few {h} w = omega (arith, w .room, profile-small h (w .few))
 
 -- p is due
 module _ {h : Graph} {o words bytes due : List ℕ} {row : Row} {p : ℕ} (R : IsRow h row) (w : Walk h o words bytes (row .q) (row .q) (p ∷ due)) where
@@ -158,56 +157,52 @@ module _ {h : Graph} {o words bytes due : List ℕ} {row : Row} {p : ℕ} (R : I
     pub climbed-joined : marked bytes (placeIn row p) ≡ true → Walk h o words bytes (row .q) (row .q) due
     climbed-joined e = walk-due w (met-drop (w .legal) p (w .met) (λ l. here ∙ e))
 
-    module _ (e : marked bytes (placeIn row p) ≡ false) where
-      -- one mark more
-      pub one-more : ones (withMark bytes (placeIn row p)) ≡ suc (ones bytes)
-      one-more = ones-more bytes (placeIn row p) (room .fits) e
+    -- p is joined now
+    has : hasPlace h (pair p (row .q)) ≡ true
+    has = row-has R p inside
 
-      has : hasPlace h (pair p (row .q)) ≡ true
-      has = row-has R p inside
+    fits : place h (pair p (row .q)) / 8 < length bytes
+    fits = rw (place-in R p) at (room .fits)
 
-      fits : place h (pair p (row .q)) / 8 < length bytes
-      fits = rw (place-in R p) at (room .fits)
+    spare-after : (t : ℕ) → profile h ≤ t → markAt (withMark bytes (place h (pair p (row .q)))) t ≡ 0
+    spare-after t l =
+        mark-other bytes (place h (pair p (row .q))) fits t (omega (arith, place-below h (pair p (row .q)) has (R .high))) ∙ w .spare t l
 
-      spare-after : (t : ℕ) → profile h ≤ t → markAt (withMark bytes (place h (pair p (row .q)))) t ≡ 0
-      spare-after t l =
-          mark-other bytes (place h (pair p (row .q))) fits t (omega (arith, place-below h (pair p (row .q)) has (R .high))) ∙ w .spare t l
+    -- p has no parent
+    pub risen-adopt : getD words (p - 1) 0 ≡ 0
+        → Walk h o (set words (p - 1) (row .q)) (withMark bytes (placeIn row p)) (row .q) (row .q) (row .q ∷ due)
+    unfolding parentIn
+    risen-adopt z = rw (place-in R p) (record {
+      legal = w .legal;
+      few = w .few;
+      size = simp length-set (w .size);
+      room = mark-length bytes (place h (pair p (row .q))) ∙ w .room;
+      spare = spare-after;
+      ahead = λ j l. word-other words p (row .q) low j (omega arith) ∙ w .ahead j l;
+      met = met-idle (w .legal) (row .q) (omega arith)
+          (met-adopt (w .legal) (w .met) less _ (stored-added h bytes p (row .q) has fits) (parent-at ∙ z) (parentIn (row .q) (set words (p - 1) (row .q)))
+          (rw (lt-ltb p (row .q) less) (word-set words p (row .q) low (omega (arith, index))))
+          (λ i d. rw (word-other words p (row .q) low i d)));
+    })
 
-      -- p has no parent
-      pub risen-adopt : getD words (p - 1) 0 ≡ 0
-          → Walk h o (set words (p - 1) (row .q)) (withMark bytes (placeIn row p)) (row .q) (row .q) (row .q ∷ due)
-      unfolding parentIn
-      risen-adopt z = rw (place-in R p) (record {
+    -- p has a parent
+    module _ (z : getD words (p - 1) 0 ≡ 0 → ⊥) where
+      pub parent-above : p < getD words (p - 1) 0
+      parent-above = met-above (w .legal) (w .met) less (getD words (p - 1) 0) parent-at (pos-of-ne-zero z)
+
+      pub parent-below : getD words (p - 1) 0 ≤ row .q
+      parent-below = met-below (w .legal) (w .met) less (getD words (p - 1) 0) parent-at (pos-of-ne-zero z)
+
+      pub risen-climb : Walk h o words (withMark bytes (placeIn row p)) (row .q) (row .q) (getD words (p - 1) 0 ∷ due)
+      risen-climb = rw (place-in R p) (record {
         legal = w .legal;
         few = w .few;
-        size = simp length-set (w .size);
+        size = w .size;
         room = mark-length bytes (place h (pair p (row .q))) ∙ w .room;
         spare = spare-after;
-        ahead = λ j l. word-other words p (row .q) low j (omega arith) ∙ w .ahead j l;
-        met = met-idle (w .legal) (row .q) (omega arith)
-            (met-adopt (w .legal) (w .met) less _ (stored-added h bytes p (row .q) has fits) (parent-at ∙ z) (parentIn (row .q) (set words (p - 1) (row .q)))
-            (rw (lt-ltb p (row .q) less) (word-set words p (row .q) low (omega (arith, index))))
-            (λ i d. rw (word-other words p (row .q) low i d)));
+        ahead = w .ahead;
+        met = met-climb (w .legal) (w .met) less _ (stored-added h bytes p (row .q) has fits) low (getD words (p - 1) 0) parent-at (pos-of-ne-zero z);
       })
-
-      -- p has a parent
-      module _ (z : getD words (p - 1) 0 ≡ 0 → ⊥) where
-        pub parent-above : p < getD words (p - 1) 0
-        parent-above = met-above (w .legal) (w .met) less (here ∙ e) (getD words (p - 1) 0) parent-at (pos-of-ne-zero z)
-
-        pub parent-below : getD words (p - 1) 0 < row .q
-        parent-below = met-below (w .legal) (w .met) less (here ∙ e) (getD words (p - 1) 0) parent-at (pos-of-ne-zero z)
-
-        pub risen-climb : Walk h o words (withMark bytes (placeIn row p)) (row .q) (row .q) (getD words (p - 1) 0 ∷ due)
-        risen-climb = rw (place-in R p) (record {
-          legal = w .legal;
-          few = w .few;
-          size = w .size;
-          room = mark-length bytes (place h (pair p (row .q))) ∙ w .room;
-          spare = spare-after;
-          ahead = w .ahead;
-          met = met-climb (w .legal) (w .met) less _ (stored-added h bytes p (row .q) has fits) low (here ∙ e) (getD words (p - 1) 0) parent-at (pos-of-ne-zero z);
-        })
 
 -- the neighbours from the i-th on are due: one more is done, or none is left
 module _ (x l : List ℕ) (i : ℕ) where

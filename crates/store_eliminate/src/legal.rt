@@ -1,6 +1,5 @@
 // Functions on a legal adjacency and numbering: their callers have tested them, and the room.
 ghost use mathlib.Core.Path.{_≡_};
-ghost use mathlib.Core.Bool.{false};
 ghost use mathlib.Core.List.{List, _∷_, map};
 ghost use Prim.Native.Nat.{ℕ, suc, _≤_, _<_};
 ghost use lib.ListN.{length, replicate};
@@ -9,7 +8,7 @@ ghost use Rattle.spec.specs.Graph.{Graph, ofNode, sizeOf, graphOf};
 ghost use Rattle.spec.specs.Measures.{orderOf};
 ghost use Rattle.spec.specs.Store.{startOf, markByteCount, markBytes};
 ghost use Rattle.laws.specs.Legal.{Node};
-ghost use Rattle.store_marks.specs.Marks.{marked, withMark, ones};
+ghost use Rattle.store_marks.specs.Marks.{marked, withMark, ones, Countable};
 ghost use Rattle.store_eliminate.specs.Walk.{placeIn, Room, IsRow, Walk, Risen, Climbed, Joined, Reach, Given, newGraph, rowAt, Done};
 use graph_envelope::legal::first;
 use graph_envelope::legal::number;
@@ -20,12 +19,6 @@ struct Row {
     q: usize,
     first: usize,
     start: u32,
-}
-
-// How far the pass has come: where the next row starts in the store, and how many pairs are marked.
-struct Progress {
-    start: u32,
-    count: u32,
 }
 
 // The place of the pair p < q.
@@ -52,13 +45,11 @@ fn join(bytes: &mut [u8], row: Row, p: usize)
     store_marks::legal::set(bytes, place(row, p));
 }
 
-// Joins p < q to q, which it is not yet: the pair is marked, and q becomes the parent of p where it has none. Returns what is to be joined to q next: the
-// parent of p, or q, for nothing, where p had no parent.
+// Joins p < q to q: the pair is marked, and q becomes the parent of p where it has none. Returns what is to be joined to q next: the parent of p,
+// or q, for nothing, where p had no parent.
 fn rise(scratch: &mut [u16], bytes: &mut [u8], row: Row, p: usize) -> usize
     requires { ⌜ ((h : Graph) × (o : List ℕ) × (due : List ℕ) × IsRow h row × Walk h o (now scratch) (now bytes) (row .q) (row .q) (p ∷ due)) × (p < row .q) ⌝ }
-    requires { ⌜ marked (now bytes) (placeIn row p) ≡ false ⌝ }
     ensures { λ r. ⌜ (p < r) × (r ≤ row .q) × Risen row p r (was scratch) (was bytes) (left scratch) (left bytes) ⌝ }
-    ensures { λ _. ⌜ left bytes ≡ withMark (was bytes) (placeIn row p) ⌝ }
 {
     join(bytes, row, p);
     let at = p - 1;
@@ -70,49 +61,32 @@ fn rise(scratch: &mut [u16], bytes: &mut [u8], row: Row, p: usize) -> usize
     parent
 }
 
-// Joins to q, where it is lower, the number `from`, its parent, the parent of that, and so on up to what is joined already. `count` pairs are marked;
-// returns how many are then.
-fn climb(scratch: &mut [u16], bytes: &mut [u8], row: Row, from: usize, count: u32) -> u32
+// Joins to q, where it is lower, the number `from`, its parent, the parent of that, and so on up to what is joined already.
+fn climb(scratch: &mut [u16], bytes: &mut [u8], row: Row, from: usize)
     requires { ⌜ ((h : Graph) × (o : List ℕ) × (due : List ℕ) × IsRow h row × Walk h o (now scratch) (now bytes) (row .q) (row .q) (from ∷ due)) ⌝ }
-    requires { ⌜ count ≡ ones (now bytes) ⌝ }
-    ensures { λ r. ⌜ r ≡ ones (left bytes) ⌝ }
     ensures { λ _. ⌜ Climbed row from (was scratch) (was bytes) (left scratch) (left bytes) ⌝ }
 {
     let mut p = from;
-    let mut total = count;
     while p < row.q {
         if joined(bytes, row, p) {
-            return total;
+            return;
         }
         p = rise(scratch, bytes, row, p);
-        total += 1;
     }
-    total
 }
 
-// Joins to q all of its lower neighbours; `adjacent` are the neighbours of the node that has the number q. Returns how many pairs are marked then.
-fn join_edges(
-    adjacent: &[u16],
-    numbering: &[u16],
-    scratch: &mut [u16],
-    bytes: &mut [u8],
-    row: Row,
-    count: u32,
-) -> u32
+// Joins to q all of its lower neighbours; `adjacent` are the neighbours of the node that has the number q.
+fn join_edges(adjacent: &[u16], numbering: &[u16], scratch: &mut [u16], bytes: &mut [u8], row: Row)
     requires { ⌜ Reach (now numbering) (now adjacent)
         × ((h : Graph) × (o : List ℕ) × IsRow h row × Walk h o (now scratch) (now bytes) (row .q) (row .q) (map (ofNode (now numbering)) (now adjacent))) ⌝ }
-    requires { ⌜ count ≡ ones (now bytes) ⌝ }
-    ensures { λ r. ⌜ r ≡ ones (left bytes) ⌝ }
     ensures { λ _. ⌜ Joined row (map (ofNode (was numbering)) (was adjacent)) (was scratch) (was bytes) (left scratch) (left bytes) ⌝ }
 {
-    let mut total = count;
     let mut i = 0;
     while i < adjacent.len() {
         let b = wide(adjacent[i]);
-        total = climb(scratch, bytes, row, number(numbering, b), total);
+        climb(scratch, bytes, row, number(numbering, b));
         i += 1;
     }
-    total
 }
 
 // The row of a node's number.
@@ -127,7 +101,7 @@ fn row_of(starts: &[u16], neighbours: &[u16], numbering: &[u16], node: usize, st
     }
 }
 
-// Row q = done + 1: the lower neighbours of q are joined to it, and what they bring.
+// Row q = done + 1, which starts at `start`: the lower neighbours of q are joined to it, and what they bring. Returns where the next row starts.
 fn eliminate_row(
     starts: &[u16],
     neighbours: &[u16],
@@ -135,30 +109,46 @@ fn eliminate_row(
     scratch: &mut [u16],
     bytes: &mut [u8],
     done: usize,
-    from: Progress,
-) -> Progress
+    start: u32,
+) -> u32
     requires { ⌜ Given (now starts) (now neighbours) (now numbering)
         × Done (now starts) (now neighbours) (now numbering) (now scratch) (now bytes) done
         × (done < sizeOf (now starts))
-        × (from .start ≡ startOf (newGraph (now starts) (now neighbours) (now numbering)) (suc done)) ⌝ }
-    requires { ⌜ from .count ≡ ones (now bytes) ⌝ }
-    ensures { λ r. ⌜ r .start ≡ startOf (newGraph (was starts) (was neighbours) (was numbering)) (suc (suc done)) ⌝ }
-    ensures { λ r. ⌜ r .count ≡ ones (left bytes) ⌝ }
+        × (start ≡ startOf (newGraph (now starts) (now neighbours) (now numbering)) (suc done)) ⌝ }
+    ensures { λ r. ⌜ r ≡ startOf (newGraph (was starts) (was neighbours) (was numbering)) (suc (suc done)) ⌝ }
     ensures { λ _. ⌜ Done (was starts) (was neighbours) (was numbering) (left scratch) (left bytes) (suc done) ⌝ }
 {
     let node = wide(scratch[done]);
-    let row = row_of(starts, neighbours, numbering, node, from.start);
+    let row = row_of(starts, neighbours, numbering, node, start);
     let adjacent = graph::legal::row(starts, neighbours, node);
-    let count = join_edges(adjacent, numbering, scratch, bytes, row, from.count);
+    join_edges(adjacent, numbering, scratch, bytes, row);
     scratch[done] = 0;
-    Progress {
-        start: place(row, row.q),
-        count,
+    place(row, row.q)
+}
+
+// All rows in turn, where no pair is marked.
+fn pass(
+    starts: &[u16],
+    neighbours: &[u16],
+    numbering: &[u16],
+    scratch: &mut [u16],
+    bytes: &mut [u8],
+)
+    requires { ⌜ Given (now starts) (now neighbours) (now numbering)
+        × Done (now starts) (now neighbours) (now numbering) (now scratch) (now bytes) 0 ⌝ }
+    ensures { λ _. ⌜ Done (was starts) (was neighbours) (was numbering) (left scratch) (left bytes) (sizeOf (was starts)) ⌝ }
+{
+    let n = numbering.len();
+    let mut start: u32 = 0;
+    let mut done = 0;
+    while done < n {
+        start = eliminate_row(starts, neighbours, numbering, scratch, bytes, done, start);
+        done += 1;
     }
 }
 
-// All rows in turn, where no pair is marked. Returns how many are then.
-fn pass(
+// The pass, and then the count of its marks in the finished bytes. Returns how many are 1.
+fn pass_and_count(
     starts: &[u16],
     neighbours: &[u16],
     numbering: &[u16],
@@ -167,21 +157,15 @@ fn pass(
 ) -> u32
     requires { ⌜ Given (now starts) (now neighbours) (now numbering)
         × Done (now starts) (now neighbours) (now numbering) (now scratch) (now bytes) 0 ⌝ }
-    requires { ⌜ ones (now bytes) ≡ 0 ⌝ }
+    requires { ⌜ Countable (now bytes) ⌝ }
     ensures { λ r. ⌜ r ≡ ones (left bytes) ⌝ }
     ensures { λ _. ⌜ Done (was starts) (was neighbours) (was numbering) (left scratch) (left bytes) (sizeOf (was starts)) ⌝ }
 {
-    let n = numbering.len();
-    let mut so_far = Progress { start: 0, count: 0 };
-    let mut done = 0;
-    while done < n {
-        so_far = eliminate_row(starts, neighbours, numbering, scratch, bytes, done, so_far);
-        done += 1;
-    }
-    so_far.count
+    pass(starts, neighbours, numbering, scratch, bytes);
+    store_marks::counting::count(bytes)
 }
 
-// The marks of the store of a numbering, whose order is in scratch; that ends as zeros. Returns how many are 1: they are counted as they are set.
+// The marks of the store of a numbering, whose order is in scratch; that ends as zeros. Returns how many are 1.
 pub fn mark(
     starts: &[u16],
     neighbours: &[u16],
@@ -197,7 +181,7 @@ pub fn mark(
     ensures { λ _. ⌜ left scratch ≡ replicate (sizeOf (was starts)) 0 ⌝ }
 {
     store_marks::legal::clear(bytes, bytes.len());
-    let count = pass(starts, neighbours, numbering, scratch, bytes);
+    let count = pass_and_count(starts, neighbours, numbering, scratch, bytes);
     graph_words::legal::clear(scratch, scratch.len());
     count
 }

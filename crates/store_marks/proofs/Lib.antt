@@ -1,3 +1,3 @@
 pub mod Bits
 pub mod Marks
-pub mod Ones
+pub mod Words

@@ -1,35 +1,35 @@
--- `store_eliminate::legal::mark` meets its contract: bytes cleared, rows done, words cleared. Assumes nothing.
+-- `store_eliminate::legal::mark` meets its contract: bytes cleared, rows done and their marks counted, words cleared. Assumes nothing.
 use mathlib.Core.Path.{refl, ap, _∙_}
 use Prim.Native.Nat.{ℕ}
 use native.Mathlib.Omega.{arith}
 use borrow.Author.Needs.{needs}
-use lib.ListN.{length, replicate}
+use lib.ListN.{replicate}
 use Rattle.store_eliminate.proofs.Rows.{rows-none, rows-words, rows-bytes}
+use Rattle.store_eliminate.proofs.Walk.{bytes-few}
 use Rattle.store_eliminate.proofs.legal.mark.Statement.{statement}
 use Rattle.store_eliminate.proofs.legal.mark.Tie as tie
 use Rattle.laws.proofs.Lent.{zeroed-all}
-use Rattle.store_marks.specs.Marks.{ones}
-use Rattle.store_marks.proofs.Ones.{ones-none}
 
-pass-requires : tie.Need-pass-requires
-pass-requires c κs =
+pass-and-count-requires : tie.Need-pass-and-count-requires
+pass-and-count-requires c κs =
     let k = c .before .before .before .before .before .before .before .before .before .before .before .pre in
     let b = c .before .before .before .before .before .before .before .before .before .before .before .args .bytes .now in
     let e = c .before .before .before .before .clear .ensures ∙ zeroed-all _ b refl in
-    ((k .0, rows-none (k .0) _ _ (k .1) (e ∙ ap (λ (m : ℕ). replicate m 0) (k .2))), ap ones e ∙ ones-none (length b))
+    let w = rows-none (k .0) _ _ (k .1) (e ∙ ap (λ (m : ℕ). replicate m 0) (k .2)) in
+    ((k .0, w), bytes-few w)
 
 returns : tie.Need-returns
 returns c =
     let k = c .before .before .before .before .before .before .before .before .before .before .before .before .before .before .before .before .before .before .before .before .pre in
-    let e = c .before .before .before .before .before .before .before .before .pass .ensures in (
+    let e = c .before .before .before .before .before .before .before .before .pass-and-count .ensures in (
       e .0,
       (
         rows-bytes (k .0) (e .1) (λ i. omega (arith, c .before .before .before .before .slice-known5 .given i)),
-        c .before .before .clear2 .ensures ∙ zeroed-all _ (c .before .before .before .before .before .before .before .before .pass .last .1 .1 .1 .0) refl ∙ ap (λ (m : ℕ). replicate m 0) (rows-words (k .0) (e .1)),
+        c .before .before .clear2 .ensures ∙ zeroed-all _ (c .before .before .before .before .before .before .before .before .pass-and-count .last .1 .1 .1 .0) refl ∙ ap (λ (m : ℕ). replicate m 0) (rows-words (k .0) (e .1)),
       ),
     )
 
 pub mark-spec : {M : Type 1} → statement M
 mark-spec =
     tie.close
-    (tie.spec (λ c κs. search needs) pass-requires (λ c κs. search needs) (λ c. search needs) (λ c. search needs) returns)
+    (tie.spec (λ c κs. search needs) pass-and-count-requires (λ c κs. search needs) (λ c. search needs) (λ c. search needs) returns)
