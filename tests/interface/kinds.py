@@ -6,7 +6,7 @@ import shapes
 from cases import CALLS, Case, fields
 from graph import from_edges
 from library import FIGURES
-from trials import FILLS, FUNCTIONS, PAIR, Trial
+from trials import FILLS, FUNCTIONS, ONES, PAIR, STAR, ZEROS, Trial
 
 
 def length_of_figures(draw, need):
@@ -90,6 +90,21 @@ def pairs(draw, count):
         yield Case('random graph', 'run and eliminate', *lists, [], 0, *sizes, cases.lent(draw, cases.run_byte_count(lists)))
 
 
+def among_ones(draw, count):
+    """Stores of a few bytes where all that is lent holds ones: the bytes behind the store stay so and are not counted."""
+    for c in cases.store_sizes(draw, count):
+        yield of_case(draw, c)._replace(fill=ONES)
+
+
+def stars():
+    """The largest store, of 1,048,320 bytes: 4,096 nodes about a centre with number 1; in all the bytes that it needs, in more, and in one less."""
+    lists, numbering = from_edges(*shapes.star(4096)), list(range(1, 4097))
+    need = cases.byte_count(lists, numbering)
+    for more, fill in ((0, ZEROS), (1, ONES), (17, ONES)):
+        yield Trial(STAR, 'elimination', [*lists, numbering], [4096, need + more], [2], fill)
+    yield Trial('star, bytes short', 'elimination', [*lists, numbering], [4096, need - 1], [2], ONES)
+
+
 # All kinds.
 
 def at_random(draw, count):
@@ -109,6 +124,8 @@ def some(draw, count):
                  cases.of_many_parts(), cases.collapsed_meshes(), cases.full_meshes(), cases.long_meshes(), full_size(draw)):
         for c in made:
             yield of_case(draw, c)
+    yield from among_ones(draw, 12)
+    yield from stars()
 
 
 def more(draw, count):
@@ -116,3 +133,4 @@ def more(draw, count):
     for made in (cases.some_of_five(draw, count), at_random(draw, count), cases.of_full_size(draw)):
         for c in made:
             yield of_case(draw, c)
+    yield from among_ones(draw, 12)

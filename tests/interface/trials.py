@@ -8,6 +8,7 @@ from array import array
 from collections import namedtuple
 
 import calls
+import worked
 from cases import CALLS as CASE_CALLS
 from graph import adjacency_refusal, wrong_node_count
 from library import CODE_OF, FIGURES, PARAMETERS, Span, guarded
@@ -25,10 +26,13 @@ FUNCTIONS = {
     'measures': ('measures',), 'part report': ('part_report',), 'whole run': ('run',), 'elimination': ('eliminate',), PAIR: ('run', 'eliminate'),
     'mesh': ('mesh',),
 }
+# Eliminations of a star whose centre has number 1, with enough of everything lent: by sums, where the reference would take hours.
+STAR = 'star, centre first'
 REFERENCE = {functions[0]: CASE_CALLS[call].reference for call, functions in FUNCTIONS.items() if call != PAIR}
 
 # What a lent list holds before the call, by place, below the modulus of its elements: falling from the top, zeros, ones, small numbers.
 FILLS = (lambda i: -1 - i % 5000, lambda i: 0, lambda i: -1, lambda i: 1 + i % 7)
+ZEROS, ONES = 1, 2
 MODULUS = {'B': 256, 'H': 65536, 'Q': 2 ** 64}
 patterns = {}
 
@@ -115,8 +119,21 @@ def reference_answer(function, values, arguments):
     return 0
 
 
+def wanted_of_star(trial):
+    """The same as `wanted`, of a star."""
+    values = before(trial)
+    n = len(values['starts']) - 1
+    mark_bytes, marks, new = worked.star_store(n)
+    calls.put(values['scratch'], [0] * n)
+    calls.put(values['bytes'], mark_bytes)
+    calls.put(values['figures'], [marks, new])
+    return [(0, list(in_memory(values).values()))]
+
+
 def wanted(trial):
     """Of each call that is made its answer, and every list with what is behind it; none is made after a refusal."""
+    if trial.kind == STAR:
+        return wanted_of_star(trial)
     values, made = before(trial), []
     for function, arguments in steps(trial, values):
         answer = reference_answer(function, values, arguments)

@@ -1,4 +1,4 @@
-"""Graphs worked with pencil from document 01's steps: its slips, ties, names, passes; and each kind."""
+"""Graphs worked with pencil from document 01's steps: its slips, ties, names, passes; each kind; and stars by sums."""
 
 import sys
 
@@ -101,12 +101,36 @@ def kinds(checks):
         checks.equal('kind %d' % kind, answer, ('accepted', (count * (count - 1),)))
 
 
+def star_store(n):
+    """Mark bytes, marks and new pairs of a star whose centre has number 1."""
+    # f_q is 1 for every q, so all pairs have places, 1 + 2 + .. + (n - 1) of them. Eliminating 1 joins
+    # all others two by two: every place is marked, and new are all pairs but the n - 1 edges.
+    places = n * (n - 1) // 2
+    last = [2 ** (places % 8) - 1] if places % 8 else []
+    return [255] * (places // 8) + last, places, places - (n - 1)
+
+
+def stars(checks):
+    """By the sums above; at 4,096 nodes the reference's set of pairs would be too large."""
+    for n in range(1, 41):
+        mark_bytes, marks, new = star_store(n)
+        # Ones behind the store stay and are not counted.
+        got = [255] * (len(mark_bytes) + 9)
+        answer = calls.elimination(*calls.from_edges(n, [(1, q) for q in range(2, n + 1)]), list(range(1, n + 1)), [0] * n, got)
+        checks.equal('star of %d: figures' % n, answer, ('accepted', (marks, new)))
+        checks.equal('star of %d: bytes' % n, got, mark_bytes + [255] * 9)
+    mark_bytes, marks, new = star_store(4096)
+    checks.equal('star of 4,096: bytes', (len(mark_bytes), set(mark_bytes)), (1048320, {255}))
+    checks.equal('star of 4,096: marks, new pairs', (marks, new), (8386560, 8382465))
+
+
 def main():
     checks = Checks('worked graphs')
     for case in WORKED:
         worked_graph(checks, *case)
     both_directions(checks)
     kinds(checks)
+    stars(checks)
     return checks.report()
 
 

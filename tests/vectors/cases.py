@@ -229,6 +229,48 @@ def every_numbering(least, most):
                 yield Case('every numbering', 'elimination', *lists, list(numbering), 0, n, 0, 0, need)
 
 
+# Bytes of a store, about the ends of the eight-byte words that marks are counted by.
+STORE_BYTES = (0, 1, 7, 8, 9, 15, 16)
+
+
+def paths_of(size):
+    """Paths whose stores have this many bytes, the last with one place and with eight; each place is marked."""
+    for places in (max(0, 8 * size - 7), 8 * size):
+        yield from_edges(*shapes.path(places + 1)), list(range(1, places + 2))
+
+
+def stores_of(draw, size, count):
+    """Random graphs of up to 40 nodes and numberings whose stores have this many bytes."""
+    while count > 0:
+        n = 1 + draw.below(40)
+        lists, numbering = random_graph(draw, n), draw.some(range(1, n + 1), n)
+        if byte_count(lists, numbering) == size:
+            count -= 1
+            yield lists, numbering
+
+
+def run_of(draw, size):
+    """A random graph of up to 60 nodes whose run has a store of this many bytes."""
+    while True:
+        lists = random_graph(draw, 1 + draw.below(60))
+        if run_byte_count(lists) == size:
+            return lists
+
+
+def store_sizes(draw, count):
+    """Stores of each of these sizes; bytes are lent as many as they need, and more, which stay and are not counted."""
+    for size in STORE_BYTES:
+        kind = 'store of %d bytes' % size
+        for made, more in ((paths_of(size), (0, 8)), (stores_of(draw, size, count), (0, 1, 8, 17))):
+            for lists, numbering in made:
+                for excess in more:
+                    yield Case(kind, 'elimination', *lists, numbering, 0, len(numbering), 0, 0, size + excess)
+        lists = run_of(draw, size)
+        n = len(lists[0]) - 1
+        for excess in (0, 9):
+            yield Case(kind, 'run and eliminate', *lists, [], 0, n, n, 8 * n, size + excess)
+
+
 def at_random(draw, count, nodes):
     """Random graphs of up to 40 nodes, at so many of their nodes."""
     for _ in range(count):
