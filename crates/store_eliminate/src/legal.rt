@@ -4,9 +4,10 @@ ghost use mathlib.Core.List.{List, _∷_, map};
 ghost use Prim.Native.Nat.{ℕ, suc, _≤_, _<_};
 ghost use lib.ListN.{length, replicate};
 ghost use Rattle.basis.specs.Moments.{was, left};
-ghost use Rattle.spec.specs.Graph.{Graph, ofNode, sizeOf, graphOf};
+ghost use Rattle.spec.specs.Graph.{Graph, ofNode};
 ghost use Rattle.spec.specs.Measures.{orderOf};
 ghost use Rattle.spec.specs.Store.{startOf, markByteCount, markBytes};
+ghost use Rattle.laws.specs.Handed.{graphNow, sizeNow, sizeWas};
 ghost use Rattle.laws.specs.Legal.{Node};
 ghost use Rattle.store_marks.specs.Marks.{marked, withMark, ones, Countable};
 ghost use Rattle.store_eliminate.specs.Walk.{placeIn, Room, IsRow, Walk, Risen, Climbed, Joined, Reach, Given, newGraph, rowAt, Done};
@@ -91,7 +92,7 @@ fn join_edges(adjacent: &[u16], numbering: &[u16], scratch: &mut [u16], bytes: &
 
 // The row of a node's number.
 fn row_of(starts: &[u16], neighbours: &[u16], numbering: &[u16], node: usize, start: u32) -> Row
-    requires { ⌜ Given (now starts) (now neighbours) (now numbering) × Node (graphOf (now starts) (now neighbours)) node ⌝ }
+    requires { ⌜ Given (now starts) (now neighbours) (now numbering) × Node (graphNow starts neighbours) node ⌝ }
     ensures { λ r. ⌜ r ≡ rowAt (newGraph (was starts) (was neighbours) (was numbering)) (ofNode (was numbering) node) start ⌝ }
 {
     Row {
@@ -113,7 +114,7 @@ fn eliminate_row(
 ) -> u32
     requires { ⌜ Given (now starts) (now neighbours) (now numbering)
         × Done (now starts) (now neighbours) (now numbering) (now scratch) (now bytes) done
-        × (done < sizeOf (now starts))
+        × (done < sizeNow starts)
         × (start ≡ startOf (newGraph (now starts) (now neighbours) (now numbering)) (suc done)) ⌝ }
     ensures { λ r. ⌜ r ≡ startOf (newGraph (was starts) (was neighbours) (was numbering)) (suc (suc done)) ⌝ }
     ensures { λ _. ⌜ Done (was starts) (was neighbours) (was numbering) (left scratch) (left bytes) (suc done) ⌝ }
@@ -136,7 +137,7 @@ fn pass(
 )
     requires { ⌜ Given (now starts) (now neighbours) (now numbering)
         × Done (now starts) (now neighbours) (now numbering) (now scratch) (now bytes) 0 ⌝ }
-    ensures { λ _. ⌜ Done (was starts) (was neighbours) (was numbering) (left scratch) (left bytes) (sizeOf (was starts)) ⌝ }
+    ensures { λ _. ⌜ Done (was starts) (was neighbours) (was numbering) (left scratch) (left bytes) (sizeWas starts) ⌝ }
 {
     let n = numbering.len();
     let mut start: u32 = 0;
@@ -159,7 +160,7 @@ fn pass_and_count(
         × Done (now starts) (now neighbours) (now numbering) (now scratch) (now bytes) 0 ⌝ }
     requires { ⌜ Countable (now bytes) ⌝ }
     ensures { λ r. ⌜ r ≡ ones (left bytes) ⌝ }
-    ensures { λ _. ⌜ Done (was starts) (was neighbours) (was numbering) (left scratch) (left bytes) (sizeOf (was starts)) ⌝ }
+    ensures { λ _. ⌜ Done (was starts) (was neighbours) (was numbering) (left scratch) (left bytes) (sizeWas starts) ⌝ }
 {
     pass(starts, neighbours, numbering, scratch, bytes);
     store_marks::counting::count(bytes)
@@ -178,7 +179,7 @@ pub fn mark(
         × (length (now bytes) ≡ markByteCount (newGraph (now starts) (now neighbours) (now numbering))) ⌝ }
     ensures { λ r. ⌜ r ≡ ones (left bytes) ⌝ }
     ensures { λ _. ⌜ left bytes ≡ markBytes (newGraph (was starts) (was neighbours) (was numbering)) ⌝ }
-    ensures { λ _. ⌜ left scratch ≡ replicate (sizeOf (was starts)) 0 ⌝ }
+    ensures { λ _. ⌜ left scratch ≡ replicate (sizeWas starts) 0 ⌝ }
 {
     store_marks::legal::clear(bytes, bytes.len());
     let count = pass_and_count(starts, neighbours, numbering, scratch, bytes);
