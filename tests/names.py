@@ -10,7 +10,7 @@ import re
 import sys
 
 TOP = os.path.dirname(os.path.dirname(os.path.abspath(__file__)))
-NAME = re.compile(r'`([a-z0-9_]+)/([A-Za-z0-9_]+)\.([^\s`]+)`')
+NAME = re.compile(r'`([a-z0-9_]+)/((?:[a-z_]+/)*[A-Za-z0-9_]+)\.([^\s`]+)`')
 EDIT = re.compile(r'`([a-z0-9_]+)/([a-z0-9_]+)`', re.I)
 PAGES = ('docs/SPEC.md', 'docs/PROOFS.md')
 # what a path to a file ends with

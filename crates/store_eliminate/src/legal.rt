@@ -163,7 +163,7 @@ fn pass_and_count(
     ensures { λ _. ⌜ Done (was starts) (was neighbours) (was numbering) (left scratch) (left bytes) (sizeWas starts) ⌝ }
 {
     pass(starts, neighbours, numbering, scratch, bytes);
-    store_marks::counting::count(bytes)
+    store_marks::legal::counting::count(bytes)
 }
 
 // The marks of the store of a numbering, whose order is in scratch; that ends as zeros. Returns how many are 1.

@@ -35,3 +35,5 @@ pub fn set(bytes: &mut [u8], t: u32)
     let at = (t / 8) as usize;
     bytes[at] = bytes[at] | (1u8 << (t % 8));
 }
+
+pub mod counting;

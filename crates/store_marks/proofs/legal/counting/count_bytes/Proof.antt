@@ -1,4 +1,4 @@
--- `store_marks::counting::count_bytes` meets its contract: the places of the bytes passed are counted. Assumes nothing.
+-- `store_marks::legal::counting::count_bytes` meets its contract: the places of the bytes passed are counted. Assumes nothing.
 use Prim.Native.Nat.{ℕ, _+_, _-_, _≤_}
 use mathlib.Core.Path.{_≡_, sym, ap, ap₂, _∙_}
 use native.Mathlib.Omega.{arith}
@@ -7,8 +7,8 @@ use lib.Count as Count
 use lib.ListN.{length, getD}
 use Rattle.store_marks.specs.Marks.{onesIn}
 use Rattle.store_marks.proofs.Words.{in-next, in-most, in-none, one-byte}
-use Rattle.store_marks.proofs.counting.count_bytes.Statement.{statement}
-use Rattle.store_marks.proofs.counting.count_bytes.Tie as tie
+use Rattle.store_marks.proofs.legal.counting.count_bytes.Statement.{statement}
+use Rattle.store_marks.proofs.legal.counting.count_bytes.Tie as tie
 
 abbrev Inv-loop : tie.InvT-loop
 Inv-loop bytes from total₀ i₀ total i = (from ≤ i) × (i ≤ length bytes) × (total ≡ onesIn bytes from (i - from))

@@ -1,4 +1,4 @@
--- `store_marks::counting::count` meets its contract: the words and the odd bytes are all bytes. Assumes nothing.
+-- `store_marks::legal::counting::count` meets its contract: the words and the odd bytes are all bytes. Assumes nothing.
 use Prim.Native.Nat.{_+_, _-_, _%_}
 use mathlib.Core.Path.{_≡_, ap, ap₂, _∙_}
 use native.Mathlib.Omega.{arith}
@@ -6,8 +6,8 @@ use denote.Ref.{now}
 use lib.ListN.{length}
 use Rattle.store_marks.specs.Marks.{onesIn}
 use Rattle.store_marks.proofs.Words.{in-first, in-most, in-all}
-use Rattle.store_marks.proofs.counting.count.Statement.{statement}
-use Rattle.store_marks.proofs.counting.count.Tie as tie
+use Rattle.store_marks.proofs.legal.counting.count.Statement.{statement}
+use Rattle.store_marks.proofs.legal.counting.count.Tie as tie
 
 add-result : tie.Need-add-result
 add-result c =

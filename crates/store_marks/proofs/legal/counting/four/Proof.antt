@@ -1,11 +1,11 @@
--- `store_marks::counting::four` meets its contract: of the two halves the later stands above the earlier. Assumes nothing.
+-- `store_marks::legal::counting::four` meets its contract: of the two halves the later stands above the earlier. Assumes nothing.
 use mathlib.Core.Path.{ap₂, _∙_}
 use Prim.Native.Nat.{ℕ, _+_, _*_}
 use denote.Ref.{now}
 use native.Mathlib.Omega.{arith}
 use Rattle.store_marks.proofs.Words.{gathered-append}
-use Rattle.store_marks.proofs.counting.four.Statement.{statement}
-use Rattle.store_marks.proofs.counting.four.Tie as tie
+use Rattle.store_marks.proofs.legal.counting.four.Statement.{statement}
+use Rattle.store_marks.proofs.legal.counting.four.Tie as tie
 
 returns : tie.Need-returns
 returns c =

@@ -1,10 +1,10 @@
--- `store_marks::counting::two` meets its contract. Assumes nothing.
+-- `store_marks::legal::counting::two` meets its contract. Assumes nothing.
 use Prim.Native.Nat.{_+_}
 use denote.Ref.{now}
 use native.Mathlib.Omega.{arith}
 use Rattle.store_marks.proofs.Words.{gathered-two}
-use Rattle.store_marks.proofs.counting.two.Statement.{statement}
-use Rattle.store_marks.proofs.counting.two.Tie as tie
+use Rattle.store_marks.proofs.legal.counting.two.Statement.{statement}
+use Rattle.store_marks.proofs.legal.counting.two.Tie as tie
 
 -- a byte is below 256
 later-cast : tie.Need-cast-result

@@ -1,4 +1,4 @@
--- `store_marks::counting::count_words` meets its contract: the places of the bytes passed are counted. Assumes nothing.
+-- `store_marks::legal::counting::count_words` meets its contract: the places of the bytes passed are counted. Assumes nothing.
 use Prim.Native.Nat.{_+_, _-_, _%_, _≤_}
 use mathlib.Core.Path.{_≡_, refl, sym, ap, ap₂, _∙_}
 use native.Mathlib.Omega.{arith}
@@ -6,8 +6,8 @@ use denote.Ref.{now}
 use lib.Count as Count
 use Rattle.store_marks.specs.Marks.{onesIn}
 use Rattle.store_marks.proofs.Words.{in-first, in-most, in-none, gathered-ones}
-use Rattle.store_marks.proofs.counting.count_words.Statement.{statement}
-use Rattle.store_marks.proofs.counting.count_words.Tie as tie
+use Rattle.store_marks.proofs.legal.counting.count_words.Statement.{statement}
+use Rattle.store_marks.proofs.legal.counting.count_words.Tie as tie
 
 abbrev Inv-loop : tie.InvT-loop
 Inv-loop bytes to total₀ i₀ total i = (i ≤ to) × (i % 8 ≡ 0) × (total ≡ onesIn bytes 0 i)
