@@ -23,8 +23,8 @@ use levels_ends::legal::first_in_e;
 use levels_search::legal::search;
 use levels_search::legal::wipe;
 
-// "scratch 8n words"
-pub const WORDS_PER_NODE: usize = 8;
+// "6n words of scratch" (document 02, A.7)
+pub const WORDS_PER_NODE: usize = 6;
 
 // 6: a given node is 0 or above n.
 pub fn no_node(n: usize, p: u16) -> bool

@@ -13,7 +13,7 @@ fn text(
     words: &mut [u16; 32763],
     starts: &mut [u16; 4097],
     neighbours: &mut [u16; 32768],
-    scratch: &mut [u16; 32768],
+    scratch: &mut [u16; 24576],
     numbers: &mut [u16; 4096],
     levels: &mut [u16; 4096],
     output: &mut [u8; 61539],
@@ -40,7 +40,7 @@ fn main() {
     let mut words = [0u16; 32763];
     let mut starts = [0u16; 4097];
     let mut neighbours = [0u16; 32768];
-    let mut scratch = [0u16; 32768];
+    let mut scratch = [0u16; 24576];
     let mut numbers = [0u16; 4096];
     let mut levels = [0u16; 4096];
     let mut output = [0u8; 61539];

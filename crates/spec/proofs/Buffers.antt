@@ -86,31 +86,40 @@ star = record { starts = 0 ∷ 4 ∷ 5 ∷ 6 ∷ 7 ∷ 8 ∷ []; neighbours = 2 
 record BufferTable : Type 0 where
   -- accepted: "Longer buffers keep their excess untouched", "Scratch ends as zeros when accepted"
   rooted-accepted : rooted pair 1 3 ≡ leaves 0 ((1 ∷ 2 ∷ 9 ∷ []) ∷ [])
-  ends-accepted : ends pair 1 17 ≡ leaves 0 (cleared 16 ∷ [])
-  combined-accepted : combined pair 1 3 17 ≡ leaves 0 ((1 ∷ 2 ∷ 9 ∷ []) ∷ cleared 16 ∷ [])
-  report-accepted : report pair 1 17 ≡ leaves 0 (cleared 16 ∷ [])
-  run-accepted : wholeRun pair 3 3 17 ≡ leaves 0 ((1 ∷ 2 ∷ 9 ∷ []) ∷ (1 ∷ 2 ∷ 9 ∷ []) ∷ cleared 16 ∷ [])
+  ends-accepted : ends pair 1 13 ≡ leaves 0 (cleared 12 ∷ [])
+  combined-accepted : combined pair 1 3 13 ≡ leaves 0 ((1 ∷ 2 ∷ 9 ∷ []) ∷ cleared 12 ∷ [])
+  report-accepted : report pair 1 13 ≡ leaves 0 (cleared 12 ∷ [])
+  run-accepted : wholeRun pair 3 3 13 ≡ leaves 0 ((1 ∷ 2 ∷ 9 ∷ []) ∷ (1 ∷ 2 ∷ 9 ∷ []) ∷ cleared 12 ∷ [])
   measures-accepted : measured pair (1 ∷ 2 ∷ []) 3 ≡ leaves 0 (cleared 2 ∷ [])
   elimination-accepted : eliminated pair (1 ∷ 2 ∷ []) 3 2 ≡ leaves 0 (cleared 2 ∷ (1 ∷ 9 ∷ []) ∷ [])
   mesh-accepted : meshed 2 (1 ∷ 1 ∷ 2 ∷ []) 4 32768 3 ≡ leaves 0 ((0 ∷ 1 ∷ 2 ∷ 9 ∷ []) ∷ (2 ∷ 1 ∷ 9 ∷ 9 ∷ []) ∷ cleared 2 ∷ [])
+  -- "6n words of scratch where it had 8n" (document 02, A.7): just so many are enough, and of 8n the last 2n are excess
+  ends-exact : ends pair 1 12 ≡ leaves 0 (replicate 12 0 ∷ [])
+  combined-exact : combined pair 1 2 12 ≡ leaves 0 ((1 ∷ 2 ∷ []) ∷ replicate 12 0 ∷ [])
+  report-exact : report pair 1 12 ≡ leaves 0 (replicate 12 0 ∷ [])
+  run-exact : wholeRun pair 2 2 12 ≡ leaves 0 ((1 ∷ 2 ∷ []) ∷ (1 ∷ 2 ∷ []) ∷ replicate 12 0 ∷ [])
+  ends-eight : ends pair 1 16 ≡ leaves 0 ((replicate 12 0 ++ lent 4) ∷ [])
+  combined-eight : combined pair 1 2 16 ≡ leaves 0 ((1 ∷ 2 ∷ []) ∷ (replicate 12 0 ++ lent 4) ∷ [])
+  report-eight : report pair 1 16 ≡ leaves 0 ((replicate 12 0 ++ lent 4) ∷ [])
+  run-eight : wholeRun pair 2 2 16 ≡ leaves 0 ((1 ∷ 2 ∷ []) ∷ (1 ∷ 2 ∷ []) ∷ (replicate 12 0 ++ lent 4) ∷ [])
   -- 1 to 4 leave everything
   rooted-4 : rooted unpaired 1 3 ≡ leaves 4 (lent 3 ∷ [])
-  ends-4 : ends unpaired 1 17 ≡ leaves 4 (lent 17 ∷ [])
-  combined-4 : combined unpaired 1 3 17 ≡ leaves 4 (lent 3 ∷ lent 17 ∷ [])
-  report-4 : report unpaired 1 17 ≡ leaves 4 (lent 17 ∷ [])
-  run-4 : wholeRun unpaired 3 3 17 ≡ leaves 4 (lent 3 ∷ lent 3 ∷ lent 17 ∷ [])
+  ends-4 : ends unpaired 1 13 ≡ leaves 4 (lent 13 ∷ [])
+  combined-4 : combined unpaired 1 3 13 ≡ leaves 4 (lent 3 ∷ lent 13 ∷ [])
+  report-4 : report unpaired 1 13 ≡ leaves 4 (lent 13 ∷ [])
+  run-4 : wholeRun unpaired 3 3 13 ≡ leaves 4 (lent 3 ∷ lent 3 ∷ lent 13 ∷ [])
   measures-4 : measured unpaired (1 ∷ 2 ∷ []) 3 ≡ leaves 4 (lent 3 ∷ [])
   elimination-4 : eliminated unpaired (1 ∷ 2 ∷ []) 3 2 ≡ leaves 4 (lent 3 ∷ lent 2 ∷ [])
   mesh-1 : meshed 0 [] 4 32768 3 ≡ leaves 1 (lent 4 ∷ lent 4 ∷ lent 3 ∷ [])
   -- 5 leaves everything, whichever buffer is short, and comes before 6, 7, 9 and 8: node 0, a number twice, an unknown kind, no byte
   rooted-5 : rooted pair 0 1 ≡ leaves 5 (lent 1 ∷ [])
-  ends-5 : ends pair 0 15 ≡ leaves 5 (lent 15 ∷ [])
-  combined-5 : combined pair 0 1 17 ≡ leaves 5 (lent 1 ∷ lent 17 ∷ [])
-  combined-5-scratch : combined pair 0 3 15 ≡ leaves 5 (lent 3 ∷ lent 15 ∷ [])
-  report-5 : report pair 0 15 ≡ leaves 5 (lent 15 ∷ [])
-  run-5-numbers : wholeRun pair 1 3 17 ≡ leaves 5 (lent 1 ∷ lent 3 ∷ lent 17 ∷ [])
-  run-5-levels : wholeRun pair 3 1 17 ≡ leaves 5 (lent 3 ∷ lent 1 ∷ lent 17 ∷ [])
-  run-5-scratch : wholeRun pair 3 3 15 ≡ leaves 5 (lent 3 ∷ lent 3 ∷ lent 15 ∷ [])
+  ends-5 : ends pair 0 11 ≡ leaves 5 (lent 11 ∷ [])
+  combined-5 : combined pair 0 1 13 ≡ leaves 5 (lent 1 ∷ lent 13 ∷ [])
+  combined-5-scratch : combined pair 0 3 11 ≡ leaves 5 (lent 3 ∷ lent 11 ∷ [])
+  report-5 : report pair 0 11 ≡ leaves 5 (lent 11 ∷ [])
+  run-5-numbers : wholeRun pair 1 3 13 ≡ leaves 5 (lent 1 ∷ lent 3 ∷ lent 13 ∷ [])
+  run-5-levels : wholeRun pair 3 1 13 ≡ leaves 5 (lent 3 ∷ lent 1 ∷ lent 13 ∷ [])
+  run-5-scratch : wholeRun pair 3 3 11 ≡ leaves 5 (lent 3 ∷ lent 3 ∷ lent 11 ∷ [])
   measures-5 : measured pair (1 ∷ 1 ∷ []) 1 ≡ leaves 5 (lent 1 ∷ [])
   elimination-5 : eliminated pair (1 ∷ 1 ∷ []) 1 0 ≡ leaves 5 (lent 1 ∷ [] ∷ [])
   mesh-5-starts : meshed 2 (11 ∷ []) 2 32768 3 ≡ leaves 5 (lent 2 ∷ lent 4 ∷ lent 3 ∷ [])
@@ -118,9 +127,9 @@ record BufferTable : Type 0 where
   mesh-5-scratch : meshed 2 (11 ∷ []) 4 32768 1 ≡ leaves 5 (lent 4 ∷ lent 4 ∷ lent 1 ∷ [])
   -- 6, 9 and 10 leave everything
   rooted-6 : rooted pair 3 3 ≡ leaves 6 (lent 3 ∷ [])
-  ends-6 : ends pair 0 17 ≡ leaves 6 (lent 17 ∷ [])
-  combined-6 : combined pair 3 3 17 ≡ leaves 6 (lent 3 ∷ lent 17 ∷ [])
-  report-6 : report pair 3 17 ≡ leaves 6 (lent 17 ∷ [])
+  ends-6 : ends pair 0 13 ≡ leaves 6 (lent 13 ∷ [])
+  combined-6 : combined pair 3 3 13 ≡ leaves 6 (lent 3 ∷ lent 13 ∷ [])
+  report-6 : report pair 3 13 ≡ leaves 6 (lent 13 ∷ [])
   mesh-9 : meshed 2 (11 ∷ []) 4 32768 3 ≡ leaves 9 (lent 4 ∷ lent 4 ∷ lent 3 ∷ [])
   mesh-10 : meshed 2 (1 ∷ 2 ∷ 0 ∷ []) 4 32768 3 ≡ leaves 10 (lent 4 ∷ lent 4 ∷ lent 3 ∷ [])
   -- 7 and 8: "the n scratch words 0, the rest untouched"; 7 comes before 8, and 8 goes by the profile
@@ -143,6 +152,14 @@ buffer-table = record {
   measures-accepted = refl;
   elimination-accepted = refl;
   mesh-accepted = refl;
+  ends-exact = refl;
+  combined-exact = refl;
+  report-exact = refl;
+  run-exact = refl;
+  ends-eight = refl;
+  combined-eight = refl;
+  report-eight = refl;
+  run-eight = refl;
   rooted-4 = refl;
   ends-4 = refl;
   combined-4 = refl;

@@ -26,15 +26,15 @@ words l k = replicate (k * sizeOf (l .starts)) 9
 
 -- the numbers that the run writes
 abbrev pub numbersFor : Lists → List ℕ
-numbersFor l = runNumbers (l .starts) (l .neighbours) (words l 1) (words l 1) (words l 8)
+numbersFor l = runNumbers (l .starts) (l .neighbours) (words l 1) (words l 1) (words l 6)
 
 -- the levels that the run writes
 abbrev pub levelsFor : Lists → List ℕ
-levelsFor l = runLevels (l .starts) (l .neighbours) (words l 1) (words l 1) (words l 8)
+levelsFor l = runLevels (l .starts) (l .neighbours) (words l 1) (words l 1) (words l 6)
 
 -- what the run answers
 abbrev pub figuresFor : Lists → Outcome Figures
-figuresFor l = runAnswer (l .starts) (l .neighbours) (words l 1) (words l 1) (words l 8)
+figuresFor l = runAnswer (l .starts) (l .neighbours) (words l 1) (words l 1) (words l 6)
 
 -- the levels rooted at r
 abbrev pub rootedFor : Lists → ℕ → Outcome LevelFigures
@@ -42,15 +42,15 @@ rootedFor l r = rootedAnswer (l .starts) (l .neighbours) r (words l 1)
 
 -- the ends of z's part
 abbrev pub endsFor : Lists → ℕ → Outcome Ends
-endsFor l z = endsAnswer (l .starts) (l .neighbours) z (words l 8)
+endsFor l z = endsAnswer (l .starts) (l .neighbours) z (words l 6)
 
 -- the combined levels of z's part, before any change of names
 abbrev pub combinedFor : Lists → ℕ → List ℕ
-combinedFor l z = combinedLevels (l .starts) (l .neighbours) z (words l 1) (words l 8)
+combinedFor l z = combinedLevels (l .starts) (l .neighbours) z (words l 1) (words l 6)
 
 -- the report of z's part
 abbrev pub reportFor : Lists → ℕ → Outcome PartReport
-reportFor l z = reportAnswer (l .starts) (l .neighbours) z (words l 8)
+reportFor l z = reportAnswer (l .starts) (l .neighbours) z (words l 6)
 
 -- the measures of a numbering
 abbrev pub measuresFor : Lists → List ℕ → Outcome MeasureFigures

@@ -46,7 +46,7 @@ module _ (starts neighbours : List ℕ) (root : ℕ) (levelsBuffer : List ℕ) w
   unfoldable pub rootedLevels : List ℕ
   rootedLevels = let g : Graph = graphOf starts neighbours in filled rootedRefusal (levelList g (levels g root)) levelsBuffer
 
--- ---- the calls on one part: "each given any node of the part", scratch 8n is lent
+-- ---- the calls on one part: "each given any node of the part", scratch 6n is lent
 
 -- the scratch after a call that refuses by code, 0 for accepted
 unfoldable pub partScratch : ℕ → List ℕ → List ℕ → List ℕ
@@ -68,7 +68,7 @@ module _ (starts neighbours : List ℕ) (node : ℕ) (scratch : List ℕ) where
   unfoldable pub endsScratch : List ℕ
   endsScratch = partScratch partRefusal starts scratch
 
--- ---- combined levels: any node of the part is given, levels n and scratch 8n are lent
+-- ---- combined levels: any node of the part is given, levels n and scratch 6n are lent
 
 -- "The call returns k and the greatest level count"
 pub record CombinedFigures : Type 0 where

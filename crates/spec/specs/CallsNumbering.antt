@@ -39,7 +39,7 @@ module _ (starts neighbours numbering scratch : List ℕ) where
   unfoldable pub measuresScratch : List ℕ
   measuresScratch = scratchAfter (eqb measuresRefusal 0 || eqb measuresRefusal 7) (sizeOf starts) scratch
 
--- ---- part report: any node of the part is given, scratch 8n is lent
+-- ---- part report: any node of the part is given, scratch 6n is lent
 
 module _ (starts neighbours : List ℕ) (node : ℕ) (scratch : List ℕ) where
   -- what the call answers
@@ -50,7 +50,7 @@ module _ (starts neighbours : List ℕ) (node : ℕ) (scratch : List ℕ) where
   unfoldable pub reportScratch : List ℕ
   reportScratch = partScratch (partRefusal starts neighbours node scratch) starts scratch
 
--- ---- the whole run: numbers n, levels n and scratch 8n are lent
+-- ---- the whole run: numbers n, levels n and scratch 6n are lent
 
 module _ (starts neighbours numbersBuffer levelsBuffer scratch : List ℕ) where
   -- 1 to 4, then 5 for any of the three buffers

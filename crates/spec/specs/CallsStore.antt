@@ -44,7 +44,7 @@ module _ (starts neighbours numbering scratch bytes : List ℕ) where
   unfoldable pub eliminationBytes : List ℕ
   eliminationBytes = filled eliminationRefusal (markBytes (renumbered (graphOf starts neighbours) numbering)) bytes
 
--- ---- run and eliminate, a call of our own: numbers n, levels n, scratch 8n and the mark bytes are lent. The elimination works in the first
+-- ---- run and eliminate, a call of our own: numbers n, levels n, scratch 6n and the mark bytes are lent. The elimination works in the first
 -- n scratch words. Numbers, levels and scratch end as the run leaves them: `runNumbers`, `runLevels` and `runScratch`.
 
 -- the run's figures, and what the elimination answers

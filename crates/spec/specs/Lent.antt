@@ -31,9 +31,9 @@ unfoldable pub scratchAfter : Bool → ℕ → List ℕ → List ℕ
 scratchAfter true n scratch = zeroed n scratch
 scratchAfter false n scratch = scratch
 
--- "Whole run: .. scratch 8n words", and so the calls on one part
+-- "6n words of scratch where it had 8n. The calls on one part .. follow. Refusal 5 is measured against 6n." (document 02, A.7)
 abbrev pub wordsPerNode : ℕ
-wordsPerNode = 8
+wordsPerNode = 6
 
 -- 5: "a lent buffer, mark bytes excepted, is short" of n words
 abbrev pub short : List ℕ → ℕ → Bool
