@@ -21,7 +21,7 @@ def run(starts, neighbours):
     """The whole run as a dictionary: its figures by name, its numbers and its level list."""
     n = len(starts) - 1
     numbers, levels = [0] * n, [0] * n
-    state, value = calls.whole_run(starts, neighbours, numbers, levels, [0] * (8 * n))
+    state, value = calls.whole_run(starts, neighbours, numbers, levels, [0] * (6 * n))
     if state == 'refused':
         raise AssertionError('the run refused %d' % value)
     return dict(zip(FIGURES, value), numbers=numbers, by_node=levels)
@@ -29,7 +29,7 @@ def run(starts, neighbours):
 
 def report(starts, neighbours, node):
     n = len(starts) - 1
-    return calls.part_report(starts, neighbours, node, [0] * (8 * n))[1]
+    return calls.part_report(starts, neighbours, node, [0] * (6 * n))[1]
 
 
 # The starred rows.
@@ -99,7 +99,7 @@ def refused_rows(checks):
                  calls.elimination(*two, [1, 1], [0, 0], []), ('refused', 7))
     checks.equal('rows {2}, {}', calls.adjacency_test([0, 1, 1], [2]), ('refused', 4))
     checks.equal('rows {2}, {}: whole run',
-                 calls.whole_run([0, 1, 1], [2], [0] * 2, [0] * 2, [0] * 16), ('refused', 4))
+                 calls.whole_run([0, 1, 1], [2], [0] * 2, [0] * 2, [0] * 12), ('refused', 4))
     checks.equal('root 0', calls.rooted_levels(*two, 0, [0, 0]), ('refused', 6))
 
 
@@ -244,7 +244,7 @@ def demand_3(checks):
         figures_claims(checks, graph, got, reports)
         if t % 4 == 0:
             store_claims(checks, graph, got['numbers'], got['profile'])
-        names_changed += sum(calls.ends(*graph, r[0], [0] * (8 * n))[1][0] != r[0] for r in reports)
+        names_changed += sum(calls.ends(*graph, r[0], [0] * (6 * n))[1][0] != r[0] for r in reports)
         three_passes += sum(r[4] >= 3 for r in reports)
         both_directions += {r[5] for r in reports} == {'Forward', 'Reversed'}
     # Small graphs never show these, so see that the random ones do.

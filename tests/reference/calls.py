@@ -1,4 +1,4 @@
-"""The entry points with their lent buffers and refusals; document 01's 'Lent buffers' and table.
+"""The entry points with their lent buffers and refusals; document 01's 'Lent buffers' and table, and A.7 of document 02.
 
 Every call answers ('accepted', tuple) or ('refused', number).
 """
@@ -37,6 +37,13 @@ def put(buffer, values):
 def zero(scratch, count):
     # "Scratch ends as zeros when accepted."
     put(scratch, [0] * count)
+
+
+def scratch_words(n):
+    """The scratch of the run, of the calls on one part and of run and eliminate."""
+    # A.7: "with 6n words of scratch where it had 8n. The calls on one part ..
+    # follow. Refusal 5 is measured against 6n."
+    return 6 * n
 
 
 def is_short(*lent):
@@ -78,13 +85,13 @@ def ends(starts, neighbours, node, scratch):
     if number:
         return refused(number)
     n = len(starts) - 1
-    if is_short((scratch, 8 * n)):
+    if is_short((scratch, scratch_words(n))):
         return refused(5)
     if is_wrong_node(node, n):
         return refused(6)
     rows = rows_of(starts, neighbours)
     found = ends_of_part(rows, part_of(rows, node))
-    zero(scratch, 8 * n)
+    zero(scratch, scratch_words(n))
     # "The call returns v, u, k, both widths and the passes."
     return accepted(*found)
 
@@ -95,7 +102,7 @@ def combined_levels(starts, neighbours, node, levels, scratch):
     if number:
         return refused(number)
     n = len(starts) - 1
-    if is_short((levels, n), (scratch, 8 * n)):
+    if is_short((levels, n), (scratch, scratch_words(n))):
         return refused(5)
     if is_wrong_node(node, n):
         return refused(6)
@@ -105,7 +112,7 @@ def combined_levels(starts, neighbours, node, levels, scratch):
     level_of = combined_of_part(rows, part, found)
     # "levels n for the second, where other parts get 0"
     put(levels, by_old_number(level_of, n))
-    zero(scratch, 8 * n)
+    zero(scratch, scratch_words(n))
     # "The call returns k and the greatest level count."
     return accepted(found.k, width(level_of))
 
@@ -118,13 +125,13 @@ def part_report(starts, neighbours, node, scratch):
     if number:
         return refused(number)
     n = len(starts) - 1
-    if is_short((scratch, 8 * n)):
+    if is_short((scratch, scratch_words(n))):
         return refused(5)
     if is_wrong_node(node, n):
         return refused(6)
     rows = rows_of(starts, neighbours)
     done = number_part(rows, part_of(rows, node))
-    zero(scratch, 8 * n)
+    zero(scratch, scratch_words(n))
     # "The part report gives v and u as now named, k, the combined levels'
     # width, passes and a direction, which is Forward or Reversed."
     return accepted(done.v, done.u, done.k, done.width, done.passes, done.direction)
@@ -136,13 +143,13 @@ def whole_run(starts, neighbours, numbers, levels, scratch):
     if number:
         return refused(number)
     n = len(starts) - 1
-    if is_short((numbers, n), (levels, n), (scratch, 8 * n)):
+    if is_short((numbers, n), (levels, n), (scratch, scratch_words(n))):
         return refused(5)
     run = run_of_graph(rows_of(starts, neighbours))
     # "Numbers and levels run by old number"
     put(numbers, [run.number_of[p] for p in range(1, n + 1)])
     put(levels, by_old_number(run.level_of, n))
-    zero(scratch, 8 * n)
+    zero(scratch, scratch_words(n))
     return accepted(*run.figures)
 
 
@@ -192,7 +199,7 @@ def run_and_eliminate(starts, neighbours, numbers, levels, scratch, mark_bytes):
         return run
     n = len(starts) - 1
     # "The numbers handed on are the run's n, without the excess of a
-    # longer buffer". The run left all 8n scratch words 0.
+    # longer buffer". The run left all 6n scratch words 0.
     return accepted(run[1], elimination(starts, neighbours, numbers[:n], scratch, mark_bytes))
 
 

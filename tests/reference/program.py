@@ -2,7 +2,7 @@
 
 import sys
 
-from calls import mesh, whole_run
+from calls import mesh, scratch_words, whole_run
 from graph import MOST_ENTRIES
 from listing import element_refusal, header_refusal, nodes_of_file, output_text, refusal_line, words_after_header
 
@@ -17,7 +17,7 @@ def text_for(file):
     if number:
         return refusal_line(number)
     n = nodes_of_file(file)
-    starts, neighbours, scratch = [0] * (n + 1), [0] * MOST_ENTRIES, [0] * (8 * n)
+    starts, neighbours, scratch = [0] * (n + 1), [0] * MOST_ENTRIES, [0] * scratch_words(n)
     # All else has been tested: the mesh can only refuse with 11.
     state, value = mesh(n, words_after_header(file), starts, neighbours, scratch)
     if state == 'refused':

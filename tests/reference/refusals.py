@@ -1,4 +1,4 @@
-"""The table of refusals: broken lists, short buffers, and what each answer leaves in which buffer; and elements that collapse (A.1)."""
+"""The table of refusals: broken lists, short buffers, what each answer leaves in which buffer; collapsed elements (A.1); scratch of 6n (A.7)."""
 
 import random
 import sys
@@ -68,13 +68,13 @@ def untouched(checks, name, call, given, lent, number):
 ADJACENCY_CALLS = [
     ('adjacency test', calls.adjacency_test, [], []),
     ('rooted levels', calls.rooted_levels, [1], [1]),
-    ('ends', calls.ends, [1], [8]),
-    ('combined levels', calls.combined_levels, [1], [1, 8]),
-    ('part report', calls.part_report, [1], [8]),
-    ('whole run', calls.whole_run, [], [1, 1, 8]),
+    ('ends', calls.ends, [1], [6]),
+    ('combined levels', calls.combined_levels, [1], [1, 6]),
+    ('part report', calls.part_report, [1], [6]),
+    ('whole run', calls.whole_run, [], [1, 1, 6]),
     ('measures', calls.measures, [[1, 2, 3]], [1]),
     ('elimination', calls.elimination, [[1, 2, 3]], [1]),
-    ('run and eliminate', calls.run_and_eliminate, [], [1, 1, 8]),
+    ('run and eliminate', calls.run_and_eliminate, [], [1, 1, 6]),
 ]
 
 
@@ -141,31 +141,48 @@ def short_mark_bytes(checks):
                        [[0] * 10, [255] * 5 + [31, OLD_BYTE]])
     figures = (3, 1, 1, 2, 2, 3, 1, 1)
     answer_and_buffers(checks, 'run and eliminate, no mark bytes', calls.run_and_eliminate, [*PATH],
-                       [words(4), words(4), words(25), []], ('accepted', (figures, ('refused', 8))),
-                       [[1, 2, 3, OLD], [1, 2, 3, OLD], [0] * 24 + [OLD], []])
+                       [words(4), words(4), words(19), []], ('accepted', (figures, ('refused', 8))),
+                       [[1, 2, 3, OLD], [1, 2, 3, OLD], [0] * 18 + [OLD], []])
 
 
 def accepted_buffers(checks):
     """Two parts: path 1-2-3 and node 4; excess stays, the scratch asked for is 0."""
     graph = [[0, 1, 3, 4, 4], [2, 1, 3, 2]]
-    zeroed = [0] * 32 + [OLD]
+    zeroed = [0] * 24 + [OLD]
     for name, call, given, lent, value, after in [
             ('rooted levels', calls.rooted_levels, [2], [words(5)], (2, 2, 3), [[2, 1, 2, 0, OLD]]),
-            ('ends', calls.ends, [2], [words(33)], (1, 3, 3, 1, 1, 1), [zeroed]),
-            ('ends of an isolated node', calls.ends, [4], [words(33)], (4, 4, 1, 1, 1, 1), [zeroed]),
-            ('combined levels', calls.combined_levels, [2], [words(5), words(33)], (3, 1),
+            ('ends', calls.ends, [2], [words(25)], (1, 3, 3, 1, 1, 1), [zeroed]),
+            ('ends of an isolated node', calls.ends, [4], [words(25)], (4, 4, 1, 1, 1, 1), [zeroed]),
+            ('combined levels', calls.combined_levels, [2], [words(5), words(25)], (3, 1),
              [[1, 2, 3, 0, OLD], zeroed]),
-            ('part report', calls.part_report, [3], [words(33)], (1, 3, 3, 1, 1, 'Forward'), [zeroed]),
-            ('whole run', calls.whole_run, [], [words(5), words(5), words(33)],
+            ('part report', calls.part_report, [3], [words(25)], (1, 3, 3, 1, 1, 'Forward'), [zeroed]),
+            ('whole run', calls.whole_run, [], [words(5), words(5), words(25)],
              (4, 2, 1, 2, 2, 4, 1, 2), [[1, 2, 3, 4, OLD], [1, 2, 3, 1, OLD], zeroed]),
             ('measures', calls.measures, [[4, 1, 2, 3]], [words(5)], (3, 4, 3), [[0] * 4 + [OLD]]),
             ('elimination', calls.elimination, [[4, 1, 2, 3]], [words(5), [OLD_BYTE] * 2], (3, 1),
              [[0] * 4 + [OLD], [0b111, OLD_BYTE]]),
             ('run and eliminate', calls.run_and_eliminate, [],
-             [words(5), words(5), words(33), [OLD_BYTE] * 2],
+             [words(5), words(5), words(25), [OLD_BYTE] * 2],
              ((4, 2, 1, 2, 2, 4, 1, 2), ('accepted', (2, 0))),
              [[1, 2, 3, 4, OLD], [1, 2, 3, 1, OLD], zeroed, [3, OLD_BYTE]])]:
         answer_and_buffers(checks, name, call, graph + given, lent, ('accepted', value), after)
+
+
+def six_for_each_node(checks):
+    """A.7: 6n words are enough and 6n - 1 are short; of the 8n that were asked for before, the last 2n stay."""
+    graphs = [calls.from_edges(1, []), calls.from_edges(4, []), (list(PATH[0]), list(PATH[1])),
+              calls.from_edges(6, [(1, 2), (2, 3), (1, 3), (4, 6)]), calls.from_edges(9, [(1, p) for p in range(2, 10)])]
+    for name, call, more, sizes in ADJACENCY_CALLS:
+        for graph in graphs if 6 in sizes else []:
+            n, answers = len(graph[0]) - 1, []
+            for length in (6 * n, 6 * n + 1, 7 * n, 8 * n):
+                lent = [words(n) for _ in sizes[1:]] + [words(length)] + mark_bytes_of(name, 9)
+                answers.append((call(*graph, *more, *lent), lent[:len(sizes) - 1]))
+                checks.equal('%s, %d words for %d nodes' % (name, length, n), lent[len(sizes) - 1], [0] * (6 * n) + words(length - 6 * n))
+            checks.equal('%s, %d nodes: accepted' % (name, n), answers[0][0][0], 'accepted')
+            checks.equal('%s, %d nodes: the same whatever is lent' % (name, n), answers, answers[:1] * 4)
+            lent = [words(n) for _ in sizes[1:]] + [words(6 * n - 1)] + mark_bytes_of(name, 9)
+            untouched(checks, '%s, a word short of 6 for each of %d nodes' % (name, n), call, [*graph] + more, lent, 5)
 
 
 # Mesh.
@@ -347,7 +364,7 @@ def random_files(checks):
 def main():
     checks = Checks('table of refusals')
     for subject in (broken_lists, short_buffers, wrong_nodes, wrong_numberings, short_mark_bytes,
-                    accepted_buffers, mesh_refusals, collapsed_elements, one_node_twice,
+                    accepted_buffers, six_for_each_node, mesh_refusals, collapsed_elements, one_node_twice,
                     program_refusals, program_accepted, random_input, random_files):
         subject(checks)
     return checks.report()

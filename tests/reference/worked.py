@@ -71,7 +71,7 @@ WORKED = [
 def worked_graph(checks, name, edges, ends, combined, report, levels, numbers):
     n = len(numbers)
     graph = calls.from_edges(n, edges)
-    scratch = [0] * (8 * n)
+    scratch = [0] * (6 * n)
     got_combined, got_numbers, got_levels = [0] * n, [0] * n, [0] * n
     checks.equal(name + ': ends', calls.ends(*graph, n, scratch)[1], ends)
     checks.equal(name + ': combined', calls.combined_levels(*graph, 1, got_combined, scratch)[1],
@@ -87,7 +87,7 @@ def both_directions(checks):
     """Path 1-3-5, star of centre 2 and leaves 4, 6, 7, node 8: only the star turns."""
     graph = calls.from_edges(8, [(1, 3), (3, 5), (2, 4), (2, 6), (2, 7)])
     numbers, levels = [0] * 8, [0] * 8
-    checks.equal('both directions: figures', calls.whole_run(*graph, numbers, levels, [0] * 64)[1],
+    checks.equal('both directions: figures', calls.whole_run(*graph, numbers, levels, [0] * 48)[1],
                  (8, 3, 2, 5, 2, 7, 2, 3))
     checks.equal('both directions: numbers', numbers, [1, 6, 2, 7, 3, 5, 4, 8])
     checks.equal('both directions: levels', levels, [1, 2, 2, 1, 3, 3, 3, 1])

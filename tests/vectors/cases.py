@@ -11,6 +11,7 @@ import calls
 import elements
 import shapes
 import store
+from calls import scratch_words
 from combined import number_pairs
 from ends import ends_of_part
 from examples import GRAPHS
@@ -132,9 +133,9 @@ def at_node(draw, kind, lists, node):
     """The calls that are given a node."""
     n = max(0, len(lists[0]) - 1)
     yield Case(kind, 'rooted levels', *lists, [], node, lent(draw, n), 3, 0, 0)
-    yield Case(kind, 'ends', *lists, [], node, lent(draw, 8 * n), 3, 0, 0)
-    yield Case(kind, 'combined levels', *lists, [], node, lent(draw, n), lent(draw, 8 * n), 3, 0)
-    yield Case(kind, 'part report', *lists, [], node, lent(draw, 8 * n), 3, 0, 0)
+    yield Case(kind, 'ends', *lists, [], node, lent(draw, scratch_words(n)), 3, 0, 0)
+    yield Case(kind, 'combined levels', *lists, [], node, lent(draw, n), lent(draw, scratch_words(n)), 3, 0)
+    yield Case(kind, 'part report', *lists, [], node, lent(draw, scratch_words(n)), 3, 0, 0)
 
 
 def wrong_numbering(draw, numbering):
@@ -161,21 +162,21 @@ def numbered(draw, kind, lists, numbering):
 def run_byte_count(lists):
     """Mark bytes that the run's own numbers need, as the reference counts them."""
     n = len(lists[0]) - 1
-    _, figures = calls.whole_run(*lists, pattern(n), pattern(n), pattern(8 * n))
+    _, figures = calls.whole_run(*lists, pattern(n), pattern(n), pattern(scratch_words(n)))
     return store.byte_count(figures[3])
 
 
 def runs(draw, kind, lists):
     """The run and run and eliminate on a legal adjacency, with all that they need; now and then also with one thing short."""
     n, need = len(lists[0]) - 1, run_byte_count(lists)
-    most = [enough(draw, n), enough(draw, n), enough(draw, 8 * n)]
+    most = [enough(draw, n), enough(draw, n), enough(draw, scratch_words(n))]
     yield Case(kind, 'whole run', *lists, [], 0, *most, 2)
     yield Case(kind, 'run and eliminate', *lists, [], 0, *most, enough(draw, need))
     if draw.chance(0.3):
         yield Case(kind, 'run and eliminate', *lists, [], 0, *most, max(0, need - 1))
     if draw.chance(0.3):
         at = draw.below(3)
-        short = most[:at] + [(n, n, 8 * n)[at] - 1] + most[at + 1:]
+        short = most[:at] + [(n, n, scratch_words(n))[at] - 1] + most[at + 1:]
         yield Case(kind, draw.one(['whole run', 'run and eliminate']), *lists, [], 0, *short, enough(draw, need))
 
 
@@ -203,7 +204,7 @@ def on_illegal(draw, lists):
     made += list(at_node(draw, 'illegal adjacency', lists, draw.below(n + 2)))
     made += [Case('illegal adjacency', call, *lists, list(range(1, n + 1)), 0, lent(draw, n), 3, 0, lent(draw, n))
              for call in ('measures', 'elimination')]
-    made += [Case('illegal adjacency', call, *lists, [], 0, lent(draw, n), lent(draw, n), lent(draw, 8 * n), lent(draw, n))
+    made += [Case('illegal adjacency', call, *lists, [], 0, lent(draw, n), lent(draw, n), lent(draw, scratch_words(n)), lent(draw, n))
              for call in ('whole run', 'run and eliminate')]
     return [made[0], draw.one(made[1:])]
 
@@ -268,7 +269,7 @@ def store_sizes(draw, count):
         lists = run_of(draw, size)
         n = len(lists[0]) - 1
         for excess in (0, 9):
-            yield Case(kind, 'run and eliminate', *lists, [], 0, n, n, 8 * n, size + excess)
+            yield Case(kind, 'run and eliminate', *lists, [], 0, n, n, scratch_words(n), size + excess)
 
 
 def at_random(draw, count, nodes):
@@ -325,7 +326,7 @@ def of_many_parts():
     """As many parts as there can be, and nearly so: isolated nodes, pairs, rings of four."""
     for lists in shapes.many_parts():
         n = len(lists[0]) - 1
-        yield Case('many parts', 'run and eliminate', *lists, [], 0, n, n, 8 * n, run_byte_count(lists))
+        yield Case('many parts', 'run and eliminate', *lists, [], 0, n, n, scratch_words(n), run_byte_count(lists))
 
 
 def of_full_size(draw):
@@ -336,6 +337,35 @@ def of_full_size(draw):
         yield from (case for case in whole(draw, kind, lists) if case.bytes <= MOST_BYTES)
         yield from at_node(draw, kind, lists, 1 + draw.below(n))
         yield Case(kind, 'measures', *lists, list(range(1, n + 1)), 0, n, 0, 0, 0)
+
+
+def with_scratch(kind, lists, node, length, need):
+    """The run, the calls on one part, and run and eliminate, with so many words of scratch and mark bytes and just enough of the rest."""
+    n = len(lists[0]) - 1
+    yield Case(kind, 'ends', *lists, [], node, length, 0, 0, 0)
+    yield Case(kind, 'combined levels', *lists, [], node, n, length, 0, 0)
+    yield Case(kind, 'part report', *lists, [], node, length, 0, 0, 0)
+    yield Case(kind, 'whole run', *lists, [], 0, n, n, length, 0)
+    yield Case(kind, 'run and eliminate', *lists, [], 0, n, n, length, need)
+
+
+def scratch_sizes(draw):
+    """A.7: 6n words, one less, one more, and the 8n of document 01, of which the last 2n stay; graphs of 1 to 4,096 nodes."""
+    graphs = [from_edges(n, edges) for _, _, n, edges in GRAPHS] + [from_edges(*graph) for graph in (
+        shapes.path(1), shapes.blocks(5, 1), shapes.path(7), shapes.star(9), shapes.rings_of_four(3), shapes.grid(9, 4, True), shapes.path(4096))]
+    for lists in graphs:
+        n = len(lists[0]) - 1
+        node, need = 1 + draw.below(n), run_byte_count(lists)
+        lengths = (('short', 6 * n - 1), ('exact', 6 * n), ('long', 6 * n + 1), ('long', 8 * n))
+        for kind, length in lengths if n < 4096 else lengths[::3]:
+            yield from with_scratch('%s scratch' % kind, lists, node, length, need)
+    # 5 comes before 6, and other lists that are long don't help
+    lists = from_edges(*shapes.path(7))
+    for length in (6 * 7 - 1, 5 * 7, 0):
+        for call, first, second in (('ends', length, 0), ('combined levels', 99, length), ('part report', length, 0)):
+            yield Case('short scratch', call, *lists, [], draw.one([0, 8, 65535]), first, second, 0, 0)
+        for call in ('whole run', 'run and eliminate'):
+            yield Case('short scratch', call, *lists, [], 0, 99, 99, length, 9)
 
 
 def illegal(draw, count):
@@ -356,18 +386,18 @@ def limits(draw):
         given = list(range(1, n + 1)) if n <= 4096 else []
         yield Case(kind, 'adjacency test', starts, [], [], 0, 0, 0, 0, 0)
         yield Case(kind, 'rooted levels', starts, [], [], 1, n, 0, 0, 0)
-        yield Case(kind, 'ends', starts, [], [], 1, 8 * n, 0, 0, 0)
+        yield Case(kind, 'ends', starts, [], [], 1, scratch_words(n), 0, 0, 0)
         yield Case(kind, 'measures', starts, [], given, 0, n, 0, 0, 0)
         yield Case(kind, 'elimination', starts, [], given, 0, n, 0, 0, 0)
-        yield Case(kind, 'whole run', starts, [], [], 0, n, n, 8 * n, 0)
+        yield Case(kind, 'whole run', starts, [], [], 0, n, n, scratch_words(n), 0)
     path = from_edges(*shapes.path(4096))
     yield Case(kind, 'rooted levels', *path, [], 1, 4096, 0, 0, 0)
-    yield Case(kind, 'ends', *path, [], 77, 32768 + 2, 0, 0, 0)
-    yield Case(kind, 'combined levels', *path, [], 77, 4096, 32768, 0, 0)
-    yield Case(kind, 'run and eliminate', *path, [], 0, 4096, 4096, 32768, 512)
+    yield Case(kind, 'ends', *path, [], 77, scratch_words(4096) + 2, 0, 0, 0)
+    yield Case(kind, 'combined levels', *path, [], 77, 4096, scratch_words(4096), 0, 0)
+    yield Case(kind, 'run and eliminate', *path, [], 0, 4096, 4096, scratch_words(4096), 512)
     ring = from_edges(*shapes.band(4096, 4))
     yield Case(kind, 'adjacency test', *ring, [], 0, 0, 0, 0, 0)
-    yield Case(kind, 'whole run', *ring, [], 0, 4096, 4099, 32768, 0)
+    yield Case(kind, 'whole run', *ring, [], 0, 4096, 4099, scratch_words(4096), 0)
     yield Case(kind, 'adjacency test', [0, 32769], [1] * 32769, [], 0, 0, 0, 0, 0)
 
 
