@@ -45,7 +45,7 @@ def value(answer):
 def expected(file):
     """What the brackets print for the mesh in these bytes."""
     n = nodes_of_file(file)
-    starts, neighbours, scratch = [0] * (n + 1), [0] * 32768, [0] * (8 * n)
+    starts, neighbours, scratch = [0] * (n + 1), [0] * 32768, [0] * calls.scratch_words(n)
     entries, = value(calls.mesh(n, words_after_header(file), starts, neighbours, scratch))
     del neighbours[entries:]
     numbers, levels = [0] * n, [0] * n

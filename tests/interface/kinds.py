@@ -3,6 +3,7 @@
 import cases
 import paper
 import shapes
+from calls import scratch_words
 from cases import CALLS, Case, fields
 from graph import from_edges
 from library import FIGURES
@@ -35,14 +36,14 @@ def every_call(kind, lists, node, numbering, n):
     """All calls on an adjacency, with enough of everything lent."""
     yield Case(kind, 'adjacency test', *lists, [], 0, 0, 0, 0, 0)
     yield Case(kind, 'rooted levels', *lists, [], node, n, 0, 0, 0)
-    yield Case(kind, 'ends', *lists, [], node, 8 * n, 0, 0, 0)
-    yield Case(kind, 'combined levels', *lists, [], node, n, 8 * n, 0, 0)
-    yield Case(kind, 'part report', *lists, [], node, 8 * n, 0, 0, 0)
-    yield Case(kind, 'whole run', *lists, [], 0, n, n, 8 * n, 0)
+    yield Case(kind, 'ends', *lists, [], node, scratch_words(n), 0, 0, 0)
+    yield Case(kind, 'combined levels', *lists, [], node, n, scratch_words(n), 0, 0)
+    yield Case(kind, 'part report', *lists, [], node, scratch_words(n), 0, 0, 0)
+    yield Case(kind, 'whole run', *lists, [], 0, n, n, scratch_words(n), 0)
     yield Case(kind, 'measures', *lists, numbering, 0, n, 0, 0, 0)
     need = cases.byte_count(lists, numbering) if len(lists[0]) == n + 1 else 2
     yield Case(kind, 'elimination', *lists, numbering, 0, n, 0, 0, need)
-    yield Case(kind, 'run and eliminate', *lists, [], 0, n, n, 8 * n, 40000)
+    yield Case(kind, 'run and eliminate', *lists, [], 0, n, n, scratch_words(n), 40000)
 
 
 def of_paper(draw, count):
@@ -86,7 +87,7 @@ def pairs(draw, count):
     for _ in range(count):
         n = 1 + draw.below(40)
         lists = cases.random_graph(draw, n)
-        sizes = [cases.enough(draw, size) for size in (n, n, 8 * n)]
+        sizes = [cases.enough(draw, size) for size in (n, n, scratch_words(n))]
         yield Case('random graph', 'run and eliminate', *lists, [], 0, *sizes, cases.lent(draw, cases.run_byte_count(lists)))
 
 
@@ -121,7 +122,8 @@ def at_random(draw, count):
 def some(draw, count):
     """What is run in some minutes."""
     for made in (cases.small(draw, 1, 5), cases.of_table(draw), of_paper(draw, 20), at_random(draw, count), cases.limits(draw), wide(),
-                 cases.of_many_parts(), cases.collapsed_meshes(), cases.full_meshes(), cases.long_meshes(), full_size(draw)):
+                 cases.of_many_parts(), cases.collapsed_meshes(), cases.full_meshes(), cases.long_meshes(), cases.scratch_sizes(draw),
+                 full_size(draw)):
         for c in made:
             yield of_case(draw, c)
     yield from among_ones(draw, 12)
