@@ -50,16 +50,17 @@ GRAPHS = [
 
 # what it shows, starts, neighbours, given node, given numbering, words lent for each node
 REFUSALS = [
-    ('an empty start list', [], [], 1, [], 8),
-    ('one start word', [5], [], 1, [], 8),
-    ('starts that fall, and a row that leaves 1..n', [0, 2, 1, 3], [9, 9, 9], 1, [], 8),
-    ('3 before 4: row 1 lacks its partner, and row 3 falls', [0, 1, 1, 3], [2, 2, 1], 1, [], 8),
-    ('equal neighbours side by side', [0, 2, 4], [2, 2, 1, 1], 1, [], 8),
+    ('an empty start list', [], [], 1, [], 6),
+    ('one start word', [5], [], 1, [], 6),
+    ('starts that fall, and a row that leaves 1..n', [0, 2, 1, 3], [9, 9, 9], 1, [], 6),
+    ('3 before 4: row 1 lacks its partner, and row 3 falls', [0, 1, 1, 3], [2, 2, 1], 1, [], 6),
+    ('equal neighbours side by side', [0, 2, 4], [2, 2, 1, 1], 1, [], 6),
     ('4 before 5: no partner, and nothing lent', [0, 1, 1], [2], 1, [1, 2], 0),
     ('5 before 6 and 7: nothing lent, node 0, and a numbering that is none', [0, 1, 2], [2, 1], 0, [1, 1], 0),
-    ('6, and a numbering that is too long', [0, 1, 2], [2, 1], 3, [1, 2, 1], 8),
-    ('7 before 8: a numbering that is none, and no mark byte', [0, 1, 2], [2, 1], 1, [0, 1], 8),
-    ('8: no mark byte', [0, 1, 2], [2, 1], 1, [2, 1], 8),
+    ('6, and a numbering that is too long', [0, 1, 2], [2, 1], 3, [1, 2, 1], 6),
+    ('7 before 8: a numbering that is none, and no mark byte', [0, 1, 2], [2, 1], 1, [0, 1], 6),
+    ('8: no mark byte; 6n words are enough for the rest', [0, 1, 2], [2, 1], 1, [2, 1], 6),
+    ('5 where 6n words are asked for, and one less is lent', [0, 0], [], 1, [1], 5),
 ]
 
 # what it shows, mark, the words after it, bytes after these
@@ -138,10 +139,10 @@ def found(n, edges):
     """The fields of Found, as the reference has them."""
     starts, neighbours = from_edges(n, edges)
     combined, numbers, levels, marks = buffer(n), buffer(n), buffer(n), buffer(4)
-    ends = calls.ends(starts, neighbours, 1, buffer(8 * n))
-    calls.combined_levels(starts, neighbours, 1, combined, buffer(8 * n))
-    report = calls.part_report(starts, neighbours, 1, buffer(8 * n))
-    run = calls.whole_run(starts, neighbours, numbers, levels, buffer(8 * n))
+    ends = calls.ends(starts, neighbours, 1, buffer(calls.scratch_words(n)))
+    calls.combined_levels(starts, neighbours, 1, combined, buffer(calls.scratch_words(n)))
+    report = calls.part_report(starts, neighbours, 1, buffer(calls.scratch_words(n)))
+    run = calls.whole_run(starts, neighbours, numbers, levels, buffer(calls.scratch_words(n)))
     elimination = calls.elimination(starts, neighbours, numbers, buffer(n), marks)
     return [('ends', outcome(ends, figures(ENDS))), ('combined', words(combined)),
             ('report', outcome(report, figures(PART_REPORT))), ('levels', words(levels)),

@@ -3,6 +3,7 @@
 import random
 from collections import namedtuple
 
+from calls import scratch_words
 from graph import from_edges, small_graphs
 
 # Everything that the calls on an adjacency are handed; lent buffers hold 9s.
@@ -45,8 +46,9 @@ def given(rng, starts, neighbours):
     if rng.random() < 0.1:
         numbering = (numbering + [n])[rng.randint(0, 1):]
     node = rng.randint(0, n + 1) if rng.random() < 0.2 else rng.randint(min(1, n), n)
-    return Input(starts, neighbours, node, numbering, lent(rng, n), lent(rng, n), lent(rng, 8 * n),
-                 lent(rng, n), lent(rng, (n * n // 2 + 7) // 8))
+    # the 8n words of document 01 are now longer than need be
+    scratch = [9] * (8 * n) if rng.random() < 0.1 else lent(rng, scratch_words(n))
+    return Input(starts, neighbours, node, numbering, lent(rng, n), lent(rng, n), scratch, lent(rng, n), lent(rng, (n * n // 2 + 7) // 8))
 
 
 def all_small(rng, most):

@@ -314,25 +314,27 @@ record ExampleTable : Type 0 where
   is-directions : found directions ≡ directions-found
   is-profiles : found profiles ≡ profiles-found
   -- an empty start list
-  refusals-1 : refusals [] [] 1 [] 8 ≡ (1 ∷ 1 ∷ 1 ∷ 1 ∷ 1 ∷ 1 ∷ [])
+  refusals-1 : refusals [] [] 1 [] 6 ≡ (1 ∷ 1 ∷ 1 ∷ 1 ∷ 1 ∷ 1 ∷ [])
   -- one start word
-  refusals-2 : refusals (5 ∷ []) [] 1 [] 8 ≡ (1 ∷ 1 ∷ 1 ∷ 1 ∷ 1 ∷ 1 ∷ [])
+  refusals-2 : refusals (5 ∷ []) [] 1 [] 6 ≡ (1 ∷ 1 ∷ 1 ∷ 1 ∷ 1 ∷ 1 ∷ [])
   -- starts that fall, and a row that leaves 1..n
-  refusals-3 : refusals (0 ∷ 2 ∷ 1 ∷ 3 ∷ []) (9 ∷ 9 ∷ 9 ∷ []) 1 [] 8 ≡ (2 ∷ 2 ∷ 2 ∷ 2 ∷ 2 ∷ 2 ∷ [])
+  refusals-3 : refusals (0 ∷ 2 ∷ 1 ∷ 3 ∷ []) (9 ∷ 9 ∷ 9 ∷ []) 1 [] 6 ≡ (2 ∷ 2 ∷ 2 ∷ 2 ∷ 2 ∷ 2 ∷ [])
   -- 3 before 4: row 1 lacks its partner, and row 3 falls
-  refusals-4 : refusals (0 ∷ 1 ∷ 1 ∷ 3 ∷ []) (2 ∷ 2 ∷ 1 ∷ []) 1 [] 8 ≡ (3 ∷ 3 ∷ 3 ∷ 3 ∷ 3 ∷ 3 ∷ [])
+  refusals-4 : refusals (0 ∷ 1 ∷ 1 ∷ 3 ∷ []) (2 ∷ 2 ∷ 1 ∷ []) 1 [] 6 ≡ (3 ∷ 3 ∷ 3 ∷ 3 ∷ 3 ∷ 3 ∷ [])
   -- equal neighbours side by side
-  refusals-5 : refusals (0 ∷ 2 ∷ 4 ∷ []) (2 ∷ 2 ∷ 1 ∷ 1 ∷ []) 1 [] 8 ≡ (3 ∷ 3 ∷ 3 ∷ 3 ∷ 3 ∷ 3 ∷ [])
+  refusals-5 : refusals (0 ∷ 2 ∷ 4 ∷ []) (2 ∷ 2 ∷ 1 ∷ 1 ∷ []) 1 [] 6 ≡ (3 ∷ 3 ∷ 3 ∷ 3 ∷ 3 ∷ 3 ∷ [])
   -- 4 before 5: no partner, and nothing lent
   refusals-6 : refusals (0 ∷ 1 ∷ 1 ∷ []) (2 ∷ []) 1 (1 ∷ 2 ∷ []) 0 ≡ (4 ∷ 4 ∷ 4 ∷ 4 ∷ 4 ∷ 4 ∷ [])
   -- 5 before 6 and 7: nothing lent, node 0, and a numbering that is none
   refusals-7 : refusals (0 ∷ 1 ∷ 2 ∷ []) (2 ∷ 1 ∷ []) 0 (1 ∷ 1 ∷ []) 0 ≡ (0 ∷ 5 ∷ 5 ∷ 5 ∷ 5 ∷ 5 ∷ [])
   -- 6, and a numbering that is too long
-  refusals-8 : refusals (0 ∷ 1 ∷ 2 ∷ []) (2 ∷ 1 ∷ []) 3 (1 ∷ 2 ∷ 1 ∷ []) 8 ≡ (0 ∷ 6 ∷ 6 ∷ 0 ∷ 7 ∷ 7 ∷ [])
+  refusals-8 : refusals (0 ∷ 1 ∷ 2 ∷ []) (2 ∷ 1 ∷ []) 3 (1 ∷ 2 ∷ 1 ∷ []) 6 ≡ (0 ∷ 6 ∷ 6 ∷ 0 ∷ 7 ∷ 7 ∷ [])
   -- 7 before 8: a numbering that is none, and no mark byte
-  refusals-9 : refusals (0 ∷ 1 ∷ 2 ∷ []) (2 ∷ 1 ∷ []) 1 (0 ∷ 1 ∷ []) 8 ≡ (0 ∷ 0 ∷ 0 ∷ 0 ∷ 7 ∷ 7 ∷ [])
-  -- 8: no mark byte
-  refusals-10 : refusals (0 ∷ 1 ∷ 2 ∷ []) (2 ∷ 1 ∷ []) 1 (2 ∷ 1 ∷ []) 8 ≡ (0 ∷ 0 ∷ 0 ∷ 0 ∷ 0 ∷ 8 ∷ [])
+  refusals-9 : refusals (0 ∷ 1 ∷ 2 ∷ []) (2 ∷ 1 ∷ []) 1 (0 ∷ 1 ∷ []) 6 ≡ (0 ∷ 0 ∷ 0 ∷ 0 ∷ 7 ∷ 7 ∷ [])
+  -- 8: no mark byte; 6n words are enough for the rest
+  refusals-10 : refusals (0 ∷ 1 ∷ 2 ∷ []) (2 ∷ 1 ∷ []) 1 (2 ∷ 1 ∷ []) 6 ≡ (0 ∷ 0 ∷ 0 ∷ 0 ∷ 0 ∷ 8 ∷ [])
+  -- 5 where 6n words are asked for, and one less is lent
+  refusals-11 : refusals (0 ∷ 0 ∷ []) [] 1 (1 ∷ []) 5 ≡ (0 ∷ 0 ∷ 5 ∷ 5 ∷ 0 ∷ 0 ∷ [])
   -- a wrong mark, and no node: 12 before 1
   file-1 : fileRefusal (71 ∷ 82 ∷ 88 ∷ 1 ∷ 0 ∷ 0 ∷ 0 ∷ 0 ∷ 0 ∷ []) ≡ 12
   -- a wrong version, and a node too many
@@ -415,6 +417,7 @@ example-table = record {
   refusals-8 = refl;
   refusals-9 = refl;
   refusals-10 = refl;
+  refusals-11 = refl;
   file-1 = refl;
   file-2 = refl;
   file-3 = refl;
