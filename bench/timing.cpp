@@ -39,7 +39,7 @@ struct Lent {
   u16 answer;
 
   explicit Lent(size_t n, size_t byte_count = 0)
-      : starts(n + 3, 60001), neighbours(32770, 60002), numbers(n + 2, 60003), levels(n + 2, 60004), scratch(8 * n + 2, 60005),
+      : starts(n + 3, 60001), neighbours(32770, 60002), numbers(n + 2, 60003), levels(n + 2, 60004), scratch(6 * n + 2, 60005),
         bytes(byte_count + 2, 165), figures(12, 60006), answer(65535) {}
 
   bool operator==(const Lent &o) const {
@@ -134,7 +134,7 @@ static void try_refusals(const Given &good, size_t byte_count) {
   }
   refused(run_job, 5, [n](Given &, Lent &l) { l.numbers.resize(n - 1); });
   refused(run_job, 5, [n](Given &, Lent &l) { l.levels.resize(n - 1); });
-  refused(run_job, 5, [n](Given &, Lent &l) { l.scratch.resize(8 * n - 1); });
+  refused(run_job, 5, [n](Given &, Lent &l) { l.scratch.resize(6 * n - 1); });
   for (const Job &job : {Job(measures_job), Job(eliminate_job)}) {
     refused(job, 7, [](Given &g, Lent &) { g.numbering.pop_back(); });
     refused(job, 7, [](Given &g, Lent &) { g.numbering[0] = 0; });
