@@ -84,7 +84,7 @@ uint16_t wagonepoch_rooted_levels(const uint16_t *starts, size_t starts_len,
                                   uint64_t *figures, size_t figures_len);
 
 /* Ends of the part that holds `node`, any node of it.
-   Lent: scratch 8n, figures 6.
+   Lent: scratch 6n, figures 6.
    Figures: v, u, k (the depth from v), the width of the levels rooted at v, that at u, passes.
    Refusals: 1 to 6. */
 uint16_t wagonepoch_ends(const uint16_t *starts, size_t starts_len,
@@ -94,7 +94,7 @@ uint16_t wagonepoch_ends(const uint16_t *starts, size_t starts_len,
                          uint64_t *figures, size_t figures_len);
 
 /* Combined levels of the part that holds `node`, before any change of the names of its ends; nodes of other parts get 0.
-   Lent: levels n (by node), scratch 8n, figures 2.
+   Lent: levels n (by node), scratch 6n, figures 2.
    Figures: k, the greatest count of a level.
    Refusals: 1 to 6. */
 uint16_t wagonepoch_combined_levels(const uint16_t *starts, size_t starts_len,
@@ -115,7 +115,7 @@ uint16_t wagonepoch_measures(const uint16_t *starts, size_t starts_len,
                              uint64_t *figures, size_t figures_len);
 
 /* Report of the part that holds `node`, any node of it: how the whole run numbers it.
-   Lent: scratch 8n, figures 6.
+   Lent: scratch 6n, figures 6.
    Figures: v and u, which change names where u has the lower degree, so that the numbering starts at v; k, the count of the part's levels; the
    greatest count of nodes in a level; passes; direction, WAGONEPOCH_REVERSED where the part's numbers are turned end for end, which they are
    exactly if that makes its profile less, else WAGONEPOCH_FORWARD.
@@ -127,7 +127,7 @@ uint16_t wagonepoch_part_report(const uint16_t *starts, size_t starts_len,
                                 uint64_t *figures, size_t figures_len);
 
 /* The whole run: every part renumbered.
-   Lent: numbers n (the new number of each node), levels n (the combined level of each node), scratch 8n, figures 8.
+   Lent: numbers n (the new number of each node), levels n (the combined level of each node), scratch 6n, figures 8.
    Figures: nodes, parts, bandwidth, profile, front, levels, width, passes. Levels and passes are sums over the parts, width is the greatest.
    The n numbers, without the excess of a longer list, are a numbering for wagonepoch_measures, which finds the same bandwidth, profile and
    front, and for wagonepoch_eliminate, whose mark bytes the profile gives.
