@@ -7,7 +7,7 @@
 enum { NODES = WAGONEPOCH_NODES };
 
 static struct graph g;
-static uint16_t numbers[NODES], levels[NODES], scratch[8 * NODES];
+static uint16_t numbers[NODES], levels[NODES], scratch[6 * NODES];
 
 /* The store: row q has the places from[q] on, for the numbers first[q] to q - 1. */
 static size_t first[NODES + 1], from[NODES + 2];
@@ -77,7 +77,7 @@ int main(int argc, char **argv)
     for (p = 0; p < g.n; p++)
         numbers[p] = (uint16_t)(p + 1);
     print_measures("before");
-    stop_if(wagonepoch_run(g.starts, g.n + 1, g.neighbours, g.entries, numbers, g.n, levels, g.n, scratch, 8 * g.n, f, WAGONEPOCH_RUN_FIGURES),
+    stop_if(wagonepoch_run(g.starts, g.n + 1, g.neighbours, g.entries, numbers, g.n, levels, g.n, scratch, 6 * g.n, f, WAGONEPOCH_RUN_FIGURES),
             "run");
     /* the run's profile says how many bytes the marks need */
     length = (size_t)(f[3] + 7) / 8;

@@ -7,7 +7,7 @@ enum { NODES = WAGONEPOCH_NODES, FIGURES = WAGONEPOCH_RUN_FIGURES };
 
 static const char *const names[FIGURES] = { "nodes", "parts", "bandwidth", "profile", "front", "levels", "width", "passes" };
 static struct graph g;
-static uint16_t numbers[NODES], levels[NODES], scratch[8 * NODES];
+static uint16_t numbers[NODES], levels[NODES], scratch[6 * NODES];
 
 static void print_listing(const uint64_t *figures)
 {
@@ -23,7 +23,7 @@ int main(int argc, char **argv)
     uint64_t figures[FIGURES];
     unsigned refusal = read_graph(argc > 1 ? argv[1] : "examples/bracket.grd", &g);
     if (refusal == 0)
-        refusal = wagonepoch_run(g.starts, g.n + 1, g.neighbours, g.entries, numbers, NODES, levels, NODES, scratch, 8 * NODES, figures, FIGURES);
+        refusal = wagonepoch_run(g.starts, g.n + 1, g.neighbours, g.entries, numbers, NODES, levels, NODES, scratch, 6 * NODES, figures, FIGURES);
     if (refusal == 0)
         print_listing(figures);
     else

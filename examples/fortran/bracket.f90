@@ -6,7 +6,7 @@ program bracket
   implicit none
 
   integer(c_int16_t) :: elements(32763), starts(max_nodes + 1), neighbours(max_entries)
-  integer(c_int16_t) :: numbers(max_nodes), levels(max_nodes), scratch(8 * max_nodes)
+  integer(c_int16_t) :: numbers(max_nodes), levels(max_nodes), scratch(6 * max_nodes)
   integer(c_int8_t), allocatable :: bytes(:)
   integer(c_int64_t) :: figures(8)
   ! the store: row q has the places from(q) on, for the numbers first(q) to q - 1
@@ -21,7 +21,7 @@ program bracket
   print '(a,i0,a,i0)', 'mesh: nodes ', n, ' entries ', entries
   numbers(1:n) = [(int(p, c_int16_t), p = 1, int(n))]
   call print_measures('before')
-  call stop_if(wagonepoch_run(starts, n + 1, neighbours, entries, numbers, n, levels, n, scratch, 8 * n, figures, 8_c_size_t), &
+  call stop_if(wagonepoch_run(starts, n + 1, neighbours, entries, numbers, n, levels, n, scratch, 6 * n, figures, 8_c_size_t), &
                'run')
   length = (figures(4) + 7) / 8
   call print_measures('after')

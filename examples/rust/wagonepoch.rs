@@ -66,7 +66,7 @@ pub struct Run {
 
 pub fn run(starts: &[u16], neighbours: &[u16]) -> Result<Run, String> {
     let n = nodes(starts);
-    let (mut scratch, mut run) = (vec![0; 8 * n], Run { numbers: vec![0; n], levels: vec![0; n], figures: [0; 8] });
+    let (mut scratch, mut run) = (vec![0; 6 * n], Run { numbers: vec![0; n], levels: vec![0; n], figures: [0; 8] });
     refused("run", unsafe {
         c::wagonepoch_run(
             starts.as_ptr(), starts.len(), neighbours.as_ptr(), neighbours.len(), run.numbers.as_mut_ptr(), n,
