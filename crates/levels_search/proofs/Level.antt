@@ -12,6 +12,7 @@ use lib.Dec.{eqb, ltb}
 use borrow.Author.Tests.{eq-eqb, ne-eqb, eqb-true, lt-ltb}
 use Rattle.basis.specs.Lists.{bit, memb, greatest, countb}
 use Rattle.basis.specs.Perm.{times}
+use Rattle.basis.proofs.Index.{greatest-zeros}
 use Rattle.basis.proofs.Logic.{by-test}
 use Rattle.spec.specs.Combined.{widthOf}
 use Rattle.spec.specs.Graph.{graphOf, sizeOf, graphRefusal, ofNode}
@@ -23,7 +24,7 @@ use Rattle.laws.proofs.Refused.{passed, legal-graph}
 use Rattle.levels_search.specs.Marks.{within, marked, found, rows}
 use Rattle.levels_search.proofs.Marks.{times-none, times-gain, times-keep, greatest-marked, times-mark}
 use Rattle.levels_search.proofs.Round.{readable, within-rows, placed, length-placed, placed-few, first-placed, round, placed-last}
-use Rattle.levels_search.proofs.Tallies.{ofNode-set, times-set, times-zeros, times-rest, greatest-set, greatest-zeros, greatest-times, times-above, greatest-less, width-more, width-same, width-most}
+use Rattle.levels_search.proofs.Tallies.{ofNode-set, times-set, times-zeros, times-rest, greatest-set, greatest-times, times-above, greatest-less, width-more, width-same, width-most}
 use Rattle.laws.proofs.Legal.{ofNode-at, ofNode-zeros}
 
 -- The nodes up to level depth + 1 are placed in L, `before` of them up to level depth and `count` at the last; width is that of the first depth levels.

@@ -90,10 +90,6 @@ greatest-at L (suc k) = at L k
     at (y ∷ L) zero = omega arith
     at (y ∷ L) (suc k) = omega (arith, at L k)
 
-pub greatest-zeros : (n : ℕ) → greatest (replicate n 0) ≡ 0
-greatest-zeros zero = refl
-greatest-zeros (suc n) = rw (greatest-zeros n)
-
 pub greatest-times : (v : ℕ) (L : List ℕ) → 0 < times v L → v ≤ greatest L
 greatest-times v [] h = absurd (not-suc-le-zero h)
 greatest-times v (y ∷ L) h =

@@ -5,7 +5,7 @@ use Prim.Native.Nat.{ℕ}
 use mathlib.Core.Path.{_≡_, refl}
 use mathlib.Core.List.{List, [], _∷_, _++_}
 use lib.ListN.{replicate, take}
-use Rattle.spec.specs.CallsLevels.{rootedAnswer, rootedLevels, endsAnswer, endsScratch, combinedAnswer, combinedLevels, combinedScratch}
+use Rattle.spec.specs.CallsLevels.{rootedAnswer, rootedLevels, rootedSizes, endsAnswer, endsScratch, combinedAnswer, combinedLevels, combinedScratch}
 use Rattle.spec.specs.CallsNumbering.{measuresAnswer, measuresScratch, reportAnswer, reportScratch}
 use Rattle.spec.specs.CallsNumbering.{runAnswer, runNumbers, runLevels, runScratch}
 use Rattle.spec.specs.CallsStore.{eliminationAnswer, eliminationScratch, eliminationBytes}
@@ -31,8 +31,10 @@ cleared k = replicate k 0 ++ (9 ∷ [])
 
 -- ---- the calls, with so many words lent
 
-rooted : Lists → ℕ → ℕ → Left
-rooted l r k = leaves (numberOf (rootedAnswer (l .starts) (l .neighbours) r (lent k))) (rootedLevels (l .starts) (l .neighbours) r (lent k) ∷ [])
+rooted : Lists → ℕ → ℕ → ℕ → Left
+rooted l r j k =
+    leaves (numberOf (rootedAnswer (l .starts) (l .neighbours) r (lent j) (lent k)))
+    (rootedLevels (l .starts) (l .neighbours) r (lent j) (lent k) ∷ rootedSizes (l .starts) (l .neighbours) r (lent j) (lent k) ∷ [])
 
 ends : Lists → ℕ → ℕ → Left
 ends l z k = leaves (numberOf (endsAnswer (l .starts) (l .neighbours) z (lent k))) (endsScratch (l .starts) (l .neighbours) z (lent k) ∷ [])
@@ -73,6 +75,10 @@ meshed n ws i j k =
 pair : Lists
 pair = record { starts = 0 ∷ 1 ∷ 2 ∷ []; neighbours = 2 ∷ 1 ∷ [] }
 
+-- nodes 1 and 2, not joined
+apart : Lists
+apart = record { starts = 0 ∷ 0 ∷ 0 ∷ []; neighbours = [] }
+
 -- rows {2}, {}: 4
 unpaired : Lists
 unpaired = record { starts = 0 ∷ 1 ∷ 1 ∷ []; neighbours = 2 ∷ [] }
@@ -85,7 +91,7 @@ star = record { starts = 0 ∷ 4 ∷ 5 ∷ 6 ∷ 7 ∷ 8 ∷ []; neighbours = 2 
 
 record BufferTable : Type 0 where
   -- accepted: "Longer buffers keep their excess untouched", "Scratch ends as zeros when accepted"
-  rooted-accepted : rooted pair 1 3 ≡ leaves 0 ((1 ∷ 2 ∷ 9 ∷ []) ∷ [])
+  rooted-accepted : rooted pair 1 3 3 ≡ leaves 0 ((1 ∷ 2 ∷ 9 ∷ []) ∷ (1 ∷ 1 ∷ 9 ∷ []) ∷ [])
   ends-accepted : ends pair 1 13 ≡ leaves 0 (cleared 12 ∷ [])
   combined-accepted : combined pair 1 3 13 ≡ leaves 0 ((1 ∷ 2 ∷ 9 ∷ []) ∷ cleared 12 ∷ [])
   report-accepted : report pair 1 13 ≡ leaves 0 (cleared 12 ∷ [])
@@ -102,8 +108,12 @@ record BufferTable : Type 0 where
   combined-eight : combined pair 1 2 16 ≡ leaves 0 ((1 ∷ 2 ∷ []) ∷ (replicate 12 0 ++ lent 4) ∷ [])
   report-eight : report pair 1 16 ≡ leaves 0 ((replicate 12 0 ++ lent 4) ∷ [])
   run-eight : wholeRun pair 2 2 16 ≡ leaves 0 ((1 ∷ 2 ∷ []) ∷ (1 ∷ 2 ∷ []) ∷ (replicate 12 0 ++ lent 4) ∷ [])
+  -- "the size of each level in order, zeros after the depth" (document 02, A.2): from the centre, from a leaf, and of a lone node's part
+  sizes-centre : rooted star 1 5 6 ≡ leaves 0 ((1 ∷ 2 ∷ 2 ∷ 2 ∷ 2 ∷ []) ∷ (1 ∷ 4 ∷ 0 ∷ 0 ∷ 0 ∷ 9 ∷ []) ∷ [])
+  sizes-leaf : rooted star 3 5 5 ≡ leaves 0 ((2 ∷ 3 ∷ 1 ∷ 3 ∷ 3 ∷ []) ∷ (1 ∷ 1 ∷ 3 ∷ 0 ∷ 0 ∷ []) ∷ [])
+  sizes-lone : rooted apart 2 2 2 ≡ leaves 0 ((0 ∷ 1 ∷ []) ∷ (1 ∷ 0 ∷ []) ∷ [])
   -- 1 to 4 leave everything
-  rooted-4 : rooted unpaired 1 3 ≡ leaves 4 (lent 3 ∷ [])
+  rooted-4 : rooted unpaired 1 3 3 ≡ leaves 4 (lent 3 ∷ lent 3 ∷ [])
   ends-4 : ends unpaired 1 13 ≡ leaves 4 (lent 13 ∷ [])
   combined-4 : combined unpaired 1 3 13 ≡ leaves 4 (lent 3 ∷ lent 13 ∷ [])
   report-4 : report unpaired 1 13 ≡ leaves 4 (lent 13 ∷ [])
@@ -112,7 +122,8 @@ record BufferTable : Type 0 where
   elimination-4 : eliminated unpaired (1 ∷ 2 ∷ []) 3 2 ≡ leaves 4 (lent 3 ∷ lent 2 ∷ [])
   mesh-1 : meshed 0 [] 4 32768 3 ≡ leaves 1 (lent 4 ∷ lent 4 ∷ lent 3 ∷ [])
   -- 5 leaves everything, whichever buffer is short, and comes before 6, 7, 9 and 8: node 0, a number twice, an unknown kind, no byte
-  rooted-5 : rooted pair 0 1 ≡ leaves 5 (lent 1 ∷ [])
+  rooted-5 : rooted pair 0 1 3 ≡ leaves 5 (lent 1 ∷ lent 3 ∷ [])
+  rooted-5-sizes : rooted pair 0 3 1 ≡ leaves 5 (lent 3 ∷ lent 1 ∷ [])
   ends-5 : ends pair 0 11 ≡ leaves 5 (lent 11 ∷ [])
   combined-5 : combined pair 0 1 13 ≡ leaves 5 (lent 1 ∷ lent 13 ∷ [])
   combined-5-scratch : combined pair 0 3 11 ≡ leaves 5 (lent 3 ∷ lent 11 ∷ [])
@@ -126,7 +137,7 @@ record BufferTable : Type 0 where
   mesh-5-neighbours : meshed 2 (11 ∷ []) 4 32767 3 ≡ leaves 5 (lent 4 ∷ lent 4 ∷ lent 3 ∷ [])
   mesh-5-scratch : meshed 2 (11 ∷ []) 4 32768 1 ≡ leaves 5 (lent 4 ∷ lent 4 ∷ lent 1 ∷ [])
   -- 6, 9 and 10 leave everything
-  rooted-6 : rooted pair 3 3 ≡ leaves 6 (lent 3 ∷ [])
+  rooted-6 : rooted pair 3 3 3 ≡ leaves 6 (lent 3 ∷ lent 3 ∷ [])
   ends-6 : ends pair 0 13 ≡ leaves 6 (lent 13 ∷ [])
   combined-6 : combined pair 3 3 13 ≡ leaves 6 (lent 3 ∷ lent 13 ∷ [])
   report-6 : report pair 3 13 ≡ leaves 6 (lent 13 ∷ [])
@@ -142,7 +153,7 @@ record BufferTable : Type 0 where
 
 -- the whole table
 buffer-table : BufferTable
-unfolding computes numberOf leaves lent cleared rooted ends combined report wholeRun measured eliminated meshed pair unpaired star
+unfolding computes numberOf leaves lent cleared rooted ends combined report wholeRun measured eliminated meshed pair apart unpaired star
 buffer-table = record {
   rooted-accepted = refl;
   ends-accepted = refl;
@@ -160,6 +171,9 @@ buffer-table = record {
   combined-eight = refl;
   report-eight = refl;
   run-eight = refl;
+  sizes-centre = refl;
+  sizes-leaf = refl;
+  sizes-lone = refl;
   rooted-4 = refl;
   ends-4 = refl;
   combined-4 = refl;
@@ -169,6 +183,7 @@ buffer-table = record {
   elimination-4 = refl;
   mesh-1 = refl;
   rooted-5 = refl;
+  rooted-5-sizes = refl;
   ends-5 = refl;
   combined-5 = refl;
   combined-5-scratch = refl;

@@ -38,7 +38,7 @@ figuresFor l = runAnswer (l .starts) (l .neighbours) (words l 1) (words l 1) (wo
 
 -- the levels rooted at r
 abbrev pub rootedFor : Lists → ℕ → Outcome LevelFigures
-rootedFor l r = rootedAnswer (l .starts) (l .neighbours) r (words l 1)
+rootedFor l r = rootedAnswer (l .starts) (l .neighbours) r (words l 1) (words l 1)
 
 -- the ends of z's part
 abbrev pub endsFor : Lists → ℕ → Outcome Ends

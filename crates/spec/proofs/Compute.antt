@@ -3,7 +3,7 @@
 -- Assumes nothing.
 use Rattle.spec.specs.Graph.{nodes, adjoins, degree, beforeE, sortE, firstInE, graphBy, restrict, rowOf, refuses1, refuses2}
 use Rattle.spec.specs.Graph.{badRow, refuses3, refuses4, graphRefusal, ofNode}
-use Rattle.spec.specs.Levels.{nextLevel, levelsFrom, levels, depth, sizes, width, reached, levelCounted, levelOf, levelList, part}
+use Rattle.spec.specs.Levels.{nextLevel, levelsFrom, levels, depth, sizes, width, reached, sizeList, levelCounted, levelOf, levelList, part}
 use Rattle.spec.specs.Levels.{leads, leaders, parts}
 use Rattle.spec.specs.Ends.{depthAt, widthAt, farthest, deeper, rootsFrom, roots, narrower, otherEnd, endsAt, ends}
 use Rattle.spec.specs.Combined.{mirrored, levelPairs, settled, settledLevels, largerPiece, pieces, countAt, added, raised, peak}
@@ -22,7 +22,7 @@ use Rattle.spec.specs.File.{wordsOf, hasMark, fileWords, fileVersion, fi
 use Rattle.spec.specs.File.{wordsTaken, leftOver, fileGraph, headerRefusal, bodyRefusal, fileRefusal, item, figuresLine, nodeLine}
 use Rattle.spec.specs.File.{listing, refusedLine, output, programOutput}
 use Rattle.spec.specs.Lent.{outcome, filled, zeroed, scratchAfter}
-use Rattle.spec.specs.CallsLevels.{adjacencyAnswer, levelFigures, rootedRefusal, rootedAnswer, rootedLevels, partScratch}
+use Rattle.spec.specs.CallsLevels.{adjacencyAnswer, levelFigures, rootedRefusal, rootedAnswer, rootedLevels, rootedSizes, partScratch}
 use Rattle.spec.specs.CallsLevels.{partRefusal, endsAnswer, endsScratch, combinedFigures, combinedRefusal, combinedAnswer}
 use Rattle.spec.specs.CallsLevels.{combinedLevels, combinedScratch}
 use Rattle.spec.specs.CallsNumbering.{measureFigures, measuresRefusal, measuresAnswer, measuresScratch, reportAnswer}
@@ -33,5 +33,5 @@ use Rattle.spec.specs.CallsMesh.{graphOfElements, meshRefusal, meshAnswe
 
 -- unfolds every definition that is named below
 unfoldable pub computes : Unit {0}
-unfolding nodes adjoins degree beforeE sortE firstInE graphBy restrict rowOf refuses1 refuses2 badRow refuses3 refuses4 graphRefusal ofNode nextLevel levelsFrom levels depth sizes width reached levelCounted levelOf levelList part leads leaders parts depthAt widthAt farthest deeper rootsFrom roots narrower otherEnd endsAt ends mirrored levelPairs settled settledLevels largerPiece pieces countAt added raised peak placeBy bySecond placePiece combined widthOf isNumbering orderOf numbersOf inOrder renumbered firstIn rowSpan bandwidth profile frontAt fronts front renames startNode finishNode partLevels levelNodes unnumberedBy firstFilled nextWithin within fromBefore laterLevel forwardOrder directionOf turns partResultBy partResult partResults wholeOrder wholeLevels figuresOf runOf run startOf hasPlace place placedPairs eliminate joinedAfter joined marks markCount newCount markByteCount markByte markBytes markAt kindTable nodeCount distinct badNodes elementRefusal elementsRefusal elementsIn elements joins meshGraph entryCount startList neighbourList refuses11 ascii digitsBefore decimal newline wordsOf hasMark fileWords fileVersion fileNodes fileElements body badHeader countedRefusal wordsTaken leftOver fileGraph headerRefusal bodyRefusal fileRefusal item figuresLine nodeLine listing refusedLine output programOutput outcome filled zeroed scratchAfter adjacencyAnswer levelFigures rootedRefusal rootedAnswer rootedLevels partScratch partRefusal endsAnswer endsScratch combinedFigures combinedRefusal combinedAnswer combinedLevels combinedScratch measureFigures measuresRefusal measuresAnswer measuresScratch reportAnswer reportScratch runRefusal runAnswer runNumbers runLevels runScratch eliminationFigures eliminationRefusal eliminationAnswer eliminationScratch eliminationBytes handedNumbers handedScratch runEliminateAnswer runEliminateBytes graphOfElements meshRefusal meshAnswer meshStarts meshNeighbours meshScratch
+unfolding nodes adjoins degree beforeE sortE firstInE graphBy restrict rowOf refuses1 refuses2 badRow refuses3 refuses4 graphRefusal ofNode nextLevel levelsFrom levels depth sizes width reached sizeList levelCounted levelOf levelList part leads leaders parts depthAt widthAt farthest deeper rootsFrom roots narrower otherEnd endsAt ends mirrored levelPairs settled settledLevels largerPiece pieces countAt added raised peak placeBy bySecond placePiece combined widthOf isNumbering orderOf numbersOf inOrder renumbered firstIn rowSpan bandwidth profile frontAt fronts front renames startNode finishNode partLevels levelNodes unnumberedBy firstFilled nextWithin within fromBefore laterLevel forwardOrder directionOf turns partResultBy partResult partResults wholeOrder wholeLevels figuresOf runOf run startOf hasPlace place placedPairs eliminate joinedAfter joined marks markCount newCount markByteCount markByte markBytes markAt kindTable nodeCount distinct badNodes elementRefusal elementsRefusal elementsIn elements joins meshGraph entryCount startList neighbourList refuses11 ascii digitsBefore decimal newline wordsOf hasMark fileWords fileVersion fileNodes fileElements body badHeader countedRefusal wordsTaken leftOver fileGraph headerRefusal bodyRefusal fileRefusal item figuresLine nodeLine listing refusedLine output programOutput outcome filled zeroed scratchAfter adjacencyAnswer levelFigures rootedRefusal rootedAnswer rootedLevels rootedSizes partScratch partRefusal endsAnswer endsScratch combinedFigures combinedRefusal combinedAnswer combinedLevels combinedScratch measureFigures measuresRefusal measuresAnswer measuresScratch reportAnswer reportScratch runRefusal runAnswer runNumbers runLevels runScratch eliminationFigures eliminationRefusal eliminationAnswer eliminationScratch eliminationBytes handedNumbers handedScratch runEliminateAnswer runEliminateBytes graphOfElements meshRefusal meshAnswer meshStarts meshNeighbours meshScratch
 computes = tt

@@ -45,7 +45,7 @@ refusals : List ℕ → List ℕ → ℕ → List ℕ → ℕ → List ℕ
 refusals S N node x k =
     let w : List ℕ = replicate (k * sizeOf S) 9 in
     numberOf (adjacencyAnswer S N)
-    ∷ numberOf (rootedAnswer S N node w)
+    ∷ numberOf (rootedAnswer S N node w w)
     ∷ numberOf (endsAnswer S N node w)
     ∷ numberOf (runAnswer S N w w w)
     ∷ numberOf (measuresAnswer S N x w)

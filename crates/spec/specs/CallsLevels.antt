@@ -8,7 +8,7 @@ use lib.Dec.{eqb}
 use Rattle.spec.specs.Refusal.{refuse, _orElse_}
 use Rattle.spec.specs.Lent.{Outcome, outcome, filled, scratchAfter, wordsPerNode, short}
 use Rattle.spec.specs.Graph.{Graph, graphOf, graphRefusal, sizeOf, outside}
-use Rattle.spec.specs.Levels.{levels, levelList, depth, width, reached}
+use Rattle.spec.specs.Levels.{levels, levelList, sizeList, depth, width, reached}
 use Rattle.spec.specs.Ends.{Ends, ends}
 use Rattle.spec.specs.Combined.{combined, widthOf}
 
@@ -18,7 +18,7 @@ use Rattle.spec.specs.Combined.{combined, widthOf}
 unfoldable pub adjacencyAnswer : List ℕ → List ℕ → Outcome (Unit {0})
 adjacencyAnswer starts neighbours = outcome (graphRefusal starts neighbours) tt
 
--- ---- rooted levels: a root is given, levels n are lent
+-- ---- rooted levels: a root is given, levels n and sizes n are lent
 
 -- "Depth, width and the count reached are returned"
 pub record LevelFigures : Type 0 where
@@ -30,12 +30,12 @@ pub record LevelFigures : Type 0 where
 unfoldable pub levelFigures : List (List ℕ) → LevelFigures
 levelFigures ls = record { depth = depth ls; width = width ls; reached = reached ls }
 
-module _ (starts neighbours : List ℕ) (root : ℕ) (levelsBuffer : List ℕ) where
-  -- 1 to 4, then 5, then 6
+module _ (starts neighbours : List ℕ) (root : ℕ) (levelsBuffer sizesBuffer : List ℕ) where
+  -- 1 to 4, then 5, then 6. "Refusal 5 now covers the list too" (document 02, A.2)
   unfoldable pub rootedRefusal : ℕ
   rootedRefusal =
       graphRefusal starts neighbours
-      orElse refuse (short levelsBuffer (sizeOf starts)) 5
+      orElse refuse (short levelsBuffer (sizeOf starts) || short sizesBuffer (sizeOf starts)) 5
       orElse refuse (outside (sizeOf starts) root) 6
 
   -- what the call answers
@@ -45,6 +45,10 @@ module _ (starts neighbours : List ℕ) (root : ℕ) (levelsBuffer : List ℕ) w
   -- the levels afterwards: "Nodes outside the root's part get 0"
   unfoldable pub rootedLevels : List ℕ
   rootedLevels = let g : Graph = graphOf starts neighbours in filled rootedRefusal (levelList g (levels g root)) levelsBuffer
+
+  -- the sizes afterwards: "The rooted level call also fills a lent list of n words with the size of each level"
+  unfoldable pub rootedSizes : List ℕ
+  rootedSizes = let g : Graph = graphOf starts neighbours in filled rootedRefusal (sizeList g (levels g root)) sizesBuffer
 
 -- ---- the calls on one part: "each given any node of the part", scratch 6n is lent
 
