@@ -74,13 +74,14 @@ uint16_t wagonepoch_test_adjacency(const uint16_t *starts, size_t starts_len,
                                    const uint16_t *neighbours, size_t neighbours_len);
 
 /* Rooted levels: the root has level 1, its neighbours 2, and so on; nodes outside the root's part get 0.
-   Lent: levels n (by node), figures 3.
-   Figures: depth, width (the greatest count of a level), nodes reached.
+   Lent: levels n (by node), sizes n (by level: word i - 1 is the count of nodes in level i, 0 after the depth), figures 3.
+   Figures: depth, width (the greatest of the sizes), nodes reached (their sum).
    Refusals: 1 to 6. */
 uint16_t wagonepoch_rooted_levels(const uint16_t *starts, size_t starts_len,
                                   const uint16_t *neighbours, size_t neighbours_len,
                                   uint16_t root,
                                   uint16_t *levels, size_t levels_len,
+                                  uint16_t *sizes, size_t sizes_len,
                                   uint64_t *figures, size_t figures_len);
 
 /* Ends of the part that holds `node`, any node of it.
