@@ -48,10 +48,12 @@ def expected(file):
     starts, neighbours, scratch = [0] * (n + 1), [0] * 32768, [0] * calls.scratch_words(n)
     entries, = value(calls.mesh(n, words_after_header(file), starts, neighbours, scratch))
     del neighbours[entries:]
-    numbers, levels = [0] * n, [0] * n
+    numbers, levels, sizes = [0] * n, [0] * n, [0] * n
     before = value(calls.measures(starts, neighbours, list(range(1, n + 1)), scratch))
     value(calls.whole_run(starts, neighbours, numbers, levels, scratch))
     after = value(calls.measures(starts, neighbours, numbers, scratch))
+    root = numbers.index(1) + 1
+    depth, width, _ = value(calls.rooted_levels(starts, neighbours, root, levels, sizes))
     profile = after[1]
     marks, new = value(calls.elimination(starts, neighbours, numbers, scratch, [0] * ((profile + 7) // 8)))
     measures = '{}: bandwidth {} profile {} front {}'
@@ -59,6 +61,7 @@ def expected(file):
         'mesh: nodes {} entries {}'.format(n, entries),
         measures.format('before', *before),
         measures.format('after', *after),
+        'levels: root {} depth {} thickest {} nodes {}'.format(root, depth, sizes.index(width) + 1, width),
         'elimination: marked {} new {}'.format(marks, new),
         'store: places {} marked {} edges {}'.format(profile, marks, entries // 2),
     ]) + '\n'

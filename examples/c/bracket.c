@@ -1,4 +1,4 @@
-/* Renumbers a mesh file, eliminates by the new numbers and opens the store: examples/bracket.grd, or the file named.
+/* Renumbers a mesh file, says where it is thickest, eliminates by the new numbers and opens the store: examples/bracket.grd, or the file named.
    cc -Iinclude examples/c/bracket.c examples/c/grd.c target/staticlib/libcapi.a */
 #include <stdio.h>
 #include <stdlib.h>
@@ -7,7 +7,7 @@
 enum { NODES = WAGONEPOCH_NODES };
 
 static struct graph g;
-static uint16_t numbers[NODES], levels[NODES], scratch[6 * NODES];
+static uint16_t numbers[NODES], levels[NODES], rooted[NODES], sizes[NODES], scratch[6 * NODES];
 
 /* The store: row q has the places from[q] on, for the numbers first[q] to q - 1. */
 static size_t first[NODES + 1], from[NODES + 2];
@@ -67,6 +67,21 @@ static void print_measures(const char *when)
     printf("%s: bandwidth %llu profile %llu front %llu\n", when, (unsigned long long)f[0], (unsigned long long)f[1], (unsigned long long)f[2]);
 }
 
+/* Where the part that has number 1 is thickest, level by level from the node with that number: the first level with the most nodes. */
+static void print_thickest(void)
+{
+    uint64_t f[WAGONEPOCH_ROOTED_FIGURES];
+    uint16_t root = 1;
+    size_t i = 0;
+    while (numbers[root - 1] != 1)
+        root++;
+    stop_if(wagonepoch_rooted_levels(g.starts, g.n + 1, g.neighbours, g.entries, root, rooted, g.n, sizes, g.n, f, WAGONEPOCH_ROOTED_FIGURES),
+            "rooted levels");
+    while (sizes[i] != f[1])
+        i++;
+    printf("levels: root %u depth %llu thickest %zu nodes %u\n", root, (unsigned long long)f[0], i + 1, sizes[i]);
+}
+
 int main(int argc, char **argv)
 {
     uint64_t f[WAGONEPOCH_RUN_FIGURES];
@@ -82,6 +97,7 @@ int main(int argc, char **argv)
     /* the run's profile says how many bytes the marks need */
     length = (size_t)(f[3] + 7) / 8;
     print_measures("after");
+    print_thickest();
     bytes = malloc(length + 1);
     if (bytes == NULL)
         return 2;

@@ -1,4 +1,4 @@
-! Renumbers a mesh file, eliminates by the new numbers and opens the store: examples/bracket.grd, or the file named.
+! Renumbers a mesh file, says where it is thickest, eliminates by the new numbers and opens the store: examples/bracket.grd, or the file named.
 ! gfortran examples/fortran/wagonepoch.f90 examples/fortran/bracket.f90 target/staticlib/libcapi.a
 program bracket
   use, intrinsic :: iso_c_binding, only: c_int16_t, c_int64_t, c_int8_t, c_size_t
@@ -6,7 +6,7 @@ program bracket
   implicit none
 
   integer(c_int16_t) :: elements(32763), starts(max_nodes + 1), neighbours(max_entries)
-  integer(c_int16_t) :: numbers(max_nodes), levels(max_nodes), scratch(6 * max_nodes)
+  integer(c_int16_t) :: numbers(max_nodes), levels(max_nodes), rooted(max_nodes), sizes(max_nodes), scratch(6 * max_nodes)
   integer(c_int8_t), allocatable :: bytes(:)
   integer(c_int64_t) :: figures(8)
   ! the store: row q has the places from(q) on, for the numbers first(q) to q - 1
@@ -25,6 +25,7 @@ program bracket
                'run')
   length = (figures(4) + 7) / 8
   call print_measures('after')
+  call print_thickest()
   allocate (bytes(length))
   call stop_if(wagonepoch_eliminate(starts, n + 1, neighbours, entries, numbers, n, scratch, n, bytes, length, figures, &
                                     2_c_size_t), 'eliminate')
@@ -89,6 +90,16 @@ contains
     character(*), intent(in) :: when
     call stop_if(wagonepoch_measures(starts, n + 1, neighbours, entries, numbers, n, scratch, n, figures, 3_c_size_t), 'measures')
     print '(a,a,i0,a,i0,a,i0)', when, ': bandwidth ', figures(1), ' profile ', figures(2), ' front ', figures(3)
+  end subroutine
+
+  ! Where the part that has number 1 is thickest, level by level from the node with that number: the first level with the most nodes.
+  subroutine print_thickest()
+    integer :: root, thickest
+    root = findloc(numbers(1:n), 1_c_int16_t, 1)
+    call stop_if(wagonepoch_rooted_levels(starts, n + 1, neighbours, entries, int(root, c_int16_t), rooted, n, sizes, n, figures, &
+                                          3_c_size_t), 'rooted levels')
+    thickest = maxloc(sizes(1:n), 1)
+    print '(a,i0,a,i0,a,i0,a,i0)', 'levels: root ', root, ' depth ', figures(1), ' thickest ', thickest, ' nodes ', sizes(thickest)
   end subroutine
 
   ! f_q, the least of q and its neighbours by new numbers, and s_q, where row q starts.

@@ -7,6 +7,17 @@ module wagonepoch
   integer, parameter :: max_nodes = 4096, max_entries = 32768
 
   interface
+    function wagonepoch_rooted_levels(starts, starts_len, neighbours, neighbours_len, root, levels, levels_len, sizes, sizes_len, &
+                                      figures, figures_len) bind(C) result(answer)
+      import
+      integer(c_int16_t), intent(in) :: starts(*), neighbours(*)
+      integer(c_int16_t), value :: root
+      integer(c_int16_t), intent(inout) :: levels(*), sizes(*)
+      integer(c_int64_t), intent(inout) :: figures(*)
+      integer(c_size_t), value :: starts_len, neighbours_len, levels_len, sizes_len, figures_len
+      integer(c_int16_t) :: answer
+    end function
+
     function wagonepoch_measures(starts, starts_len, neighbours, neighbours_len, numbering, numbering_len, scratch, scratch_len, &
                                  figures, figures_len) bind(C) result(answer)
       import

@@ -1,4 +1,4 @@
-//! Renumbers a mesh file, eliminates by the new numbers and opens the store: examples/bracket.grd, or the file named.
+//! Renumbers a mesh file, says where it is thickest, eliminates by the new numbers and opens the store: examples/bracket.grd, or the file named.
 //! rustc --edition 2021 -L target/staticlib -l static=capi examples/rust/bracket.rs
 mod wagonepoch;
 
@@ -80,6 +80,16 @@ fn print_measures(when: &str, graph: &Graph, numbers: &[u16]) -> Result<(), Stri
     Ok(())
 }
 
+/// Where the part that has number 1 is thickest, level by level from the node with that number: the first level with the most nodes.
+fn print_thickest(graph: &Graph, numbers: &[u16]) -> Result<(), String> {
+    let root = 1 + numbers.iter().take_while(|&&number| number != 1).count();
+    let rooted = wagonepoch::rooted_levels(&graph.starts, &graph.neighbours, root as u16)?;
+    let [depth, width, _] = rooted.figures;
+    let thickest = 1 + rooted.sizes.iter().take_while(|&&size| u64::from(size) != width).count();
+    println!("levels: root {root} depth {depth} thickest {thickest} nodes {width}");
+    Ok(())
+}
+
 fn open_store(graph: &Graph, numbers: &[u16], store: &Store) {
     let n = numbers.len();
     let ones: usize = (1..=n).map(|q| (store.first[q]..q).filter(|&p| store.marked(p, q)).count()).sum();
@@ -99,6 +109,7 @@ fn run() -> Result<(), String> {
     print_measures("before", &graph, &before)?;
     let run = wagonepoch::run(&graph.starts, &graph.neighbours)?;
     print_measures("after", &graph, &run.numbers)?;
+    print_thickest(&graph, &run.numbers)?;
     let (bytes, [marked, new]) = wagonepoch::eliminate(&graph.starts, &graph.neighbours, &run.numbers, run.figures[3])?;
     println!("elimination: marked {marked} new {new}");
     open_store(&graph, &run.numbers, &Store::new(&graph, &run.numbers, bytes));

@@ -1,6 +1,10 @@
 //! Safe functions over the C interface; include/wagonepoch.h says what each call asks for and leaves. A refusal is an error.
 mod c {
     extern "C" {
+        pub fn wagonepoch_rooted_levels(
+            starts: *const u16, starts_len: usize, neighbours: *const u16, neighbours_len: usize, root: u16,
+            levels: *mut u16, levels_len: usize, sizes: *mut u16, sizes_len: usize, figures: *mut u64, figures_len: usize,
+        ) -> u16;
         pub fn wagonepoch_measures(
             starts: *const u16, starts_len: usize, neighbours: *const u16, neighbours_len: usize, numbering: *const u16, numbering_len: usize,
             scratch: *mut u16, scratch_len: usize, figures: *mut u64, figures_len: usize,
@@ -42,6 +46,27 @@ pub fn mesh(n: usize, elements: &[u16]) -> Result<(Vec<u16>, Vec<u16>), String> 
     starts.truncate(n + 1);
     neighbours.truncate(figures[0] as usize);
     Ok((starts, neighbours))
+}
+
+/// What the levels rooted at a node are: the level of each node, 0 outside its part; the size of each level in order, 0 after the depth; depth,
+/// width, nodes reached.
+pub struct Rooted {
+    #[allow(dead_code)]
+    pub levels: Vec<u16>,
+    pub sizes: Vec<u16>,
+    pub figures: [u64; 3],
+}
+
+pub fn rooted_levels(starts: &[u16], neighbours: &[u16], root: u16) -> Result<Rooted, String> {
+    let n = nodes(starts);
+    let mut rooted = Rooted { levels: vec![0; n], sizes: vec![0; n], figures: [0; 3] };
+    refused("rooted levels", unsafe {
+        c::wagonepoch_rooted_levels(
+            starts.as_ptr(), starts.len(), neighbours.as_ptr(), neighbours.len(), root, rooted.levels.as_mut_ptr(), n,
+            rooted.sizes.as_mut_ptr(), n, rooted.figures.as_mut_ptr(), rooted.figures.len(),
+        )
+    })?;
+    Ok(rooted)
 }
 
 /// Bandwidth, profile and front.
