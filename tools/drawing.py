@@ -1,6 +1,7 @@
 """The mesh itself, four times: coloured by old number, by new number, by level and by part.
 
-Around each node its share of every face has the node's colour: a border runs halfway between two nodes that differ.
+Around each node its share of every face has the node's colour: a border runs halfway between two nodes that differ. Among the levels the
+nodes of each part's thickest one have a ring.
 """
 
 import math
@@ -9,6 +10,7 @@ from collections import namedtuple
 import faces
 import grd
 import parts
+import thickness
 from ink import COLUMNS, FAINT, INK, SIDE, grouped, number, text
 from model import Fault
 
@@ -18,6 +20,9 @@ LEAST_HEIGHT = 70
 # Up to so many nodes a flat mesh has their numbers written on it; up to so many faces a solid one has outlines.
 MOST_LABELLED = 60
 MOST_OUTLINED = 2500
+# A ring around a label, and the least and the greatest around a node without one.
+LABEL_RING = 80
+RINGS = (12, 50)
 STEPS = 32
 # The legends: how wide a band of colours is, and how many parts are named.
 LEGEND = 192
@@ -36,8 +41,8 @@ WHITE = (255, 255, 255)
 # What is drawn in all four panels: faces farthest first, nodes that no element joins to another, and the paper.
 Scene = namedtuple('Scene', 'faces loose view paper')
 
-# colours: by node, a text such as '#5a2a7a'; labels: by node; legend: lines of SVG for a left edge and a height
-Panel = namedtuple('Panel', 'title colours labels legend')
+# colours: by node, a text such as '#5a2a7a'; labels: by node; legend: lines of SVG for a left edge and a height; ringed: the nodes with a ring
+Panel = namedtuple('Panel', 'title colours labels legend ringed', defaults=(frozenset(),))
 
 
 # Colours.
@@ -169,10 +174,15 @@ def pieces(face, colours):
         yield colours[node], line
 
 
+def rings(places, ringed, radius):
+    """Around those of the nodes that are ringed; places are pairs of a node and its point."""
+    return ['<circle class="t" cx="%d" cy="%d" r="%d"/>' % (point + (radius,)) for node, point in places if node in ringed]
+
+
 # One panel.
 
-def flat_shapes(drawn, colours):
-    """Nothing hides anything: one path for each colour, then the outlines, then the bars."""
+def flat_shapes(drawn, colours, ringed, radius):
+    """Nothing hides anything: one path for each colour, then the outlines, then the bars, then the rings."""
     areas, bars, edges = {}, {}, {}
     for face in drawn.faces:
         if face.bar:
@@ -186,29 +196,48 @@ def flat_shapes(drawn, colours):
     made = ['<path color="%s" d="%s"/>' % (colour, ''.join(paths)) for colour, paths in sorted(areas.items())]
     if edges:
         made.append('<path class="o" d="%s"/>' % ''.join(outline(edge, False) for edge in edges))
-    return made + ['<path class="b" color="%s" d="%s"/>' % (colour, ''.join(paths)) for colour, paths in sorted(bars.items())]
+    made += ['<path class="b" color="%s" d="%s"/>' % (colour, ''.join(paths)) for colour, paths in sorted(bars.items())]
+    return made + rings(sorted(spots(drawn).items()), ringed, radius)
 
 
-def solid_shapes(drawn, colours):
-    """Nearer faces hide farther ones: in their order, each with its outline."""
+def solid_shapes(drawn, colours, ringed, radius):
+    """Nearer faces hide farther ones: in their order, each with its outline and its rings."""
     outlined = len(drawn.faces) <= MOST_OUTLINED
     made = []
     for face in drawn.faces:
         if face.bar:
             made += ['<path class="b" color="%s" d="%s"/>' % (colour, outline(line, False)) for colour, line in pieces(face, colours)]
-            continue
-        made += ['<path color="%s" d="%s"/>' % (shaded(colour, face.shade), outline(polygon)) for colour, polygon in cells(face, colours)]
-        if outlined:
-            made.append('<path class="o" d="%s"/>' % outline(face.points))
+        else:
+            made += ['<path color="%s" d="%s"/>' % (shaded(colour, face.shade), outline(polygon)) for colour, polygon in cells(face, colours)]
+            if outlined:
+                made.append('<path class="o" d="%s"/>' % outline(face.points))
+        made += rings(zip(face.nodes, face.points), ringed, radius)
     return made
+
+
+def spots(drawn):
+    """The point of each node that is drawn."""
+    found = {node: point for face in drawn.faces for node, point in zip(face.nodes, face.points)}
+    found.update(drawn.loose)
+    return found
 
 
 def labels(drawn, words):
     """Numbers written on the nodes."""
-    spots = {node: point for face in drawn.faces for node, point in zip(face.nodes, face.points)}
-    spots.update(drawn.loose)
     return [text(x / UNIT, y / UNIT + 3.5, str(words[node]), 10, INK, ' text-anchor="middle" paint-order="stroke" stroke="#ffffff" stroke-width="3"')
-            for node, (x, y) in sorted(spots.items())]
+            for node, (x, y) in sorted(spots(drawn).items())]
+
+
+def labelled(drawn, wanted):
+    return drawn.view.flat and len(wanted.labels) <= MOST_LABELLED
+
+
+def ring_radius(drawn, wanted):
+    """A fifth of the way from node to node, as far apart as they would be if they were spread over the panel."""
+    if labelled(drawn, wanted):
+        return LABEL_RING
+    apart = UNIT * math.sqrt(SIDE * drawn.paper.height / len(wanted.labels))
+    return int(min(max(apart / 5, RINGS[0]), RINGS[1]))
 
 
 def axes(x, y, view):
@@ -227,10 +256,10 @@ def panel(left, top, drawn, wanted):
     made = [text(left, top - 12, wanted.title, 15, INK, ' font-weight="bold"'),
             '<g transform="translate(%d %d)">' % (left, top),
             '<g transform="scale(.1)" fill="currentColor" stroke="currentColor" stroke-width="5" stroke-linejoin="round">']
-    made += shapes(drawn, wanted.colours)
+    made += shapes(drawn, wanted.colours, wanted.ringed, ring_radius(drawn, wanted))
     made += ['<circle color="%s" cx="%d" cy="%d" r="35"/>' % ((wanted.colours[p],) + point) for p, point in drawn.loose]
     made.append('</g>')
-    if drawn.view.flat and len(wanted.labels) <= MOST_LABELLED:
+    if labelled(drawn, wanted):
         made += labels(drawn, wanted.labels)
     return made + ['</g>'] + wanted.legend(left, top + drawn.paper.height + 18)
 
@@ -246,6 +275,18 @@ def bar_legend(colours, first, last):
                 for i, colour in enumerate(colours)]
         return ([text(left, y + 10, first, 12, FAINT), '<g shape-rendering="crispEdges">'] + band
                 + ['</g>', text(begin + LEGEND + 7, y + 10, last, 12, FAINT)])
+    return made
+
+
+def level_legend(colours, thickest):
+    """The band of the levels, and under it what the rings mark."""
+    band = bar_legend(colours, 'level 1', str(len(colours)))
+
+    def made(left, y):
+        if not thickest:
+            return band(left, y)
+        ring = '<circle cx="%d" cy="%d" r="5" fill="#ffffff" stroke="%s" stroke-width="1.2"/>' % (left + 6, y + 25, INK)
+        return band(left, y) + [ring, text(left + 18, y + 29, thickness.in_short(thickest), 12, FAINT)]
     return made
 
 
@@ -273,15 +314,17 @@ def panels(mesh, listed, numbers):
     part = {p: i for i, nodes in enumerate(found, 1) for p in nodes}
     ends = [str(numbers[0]), str(numbers[-1])]
     levels = [by_level(level, depth) for level in range(1, depth + 1)]
+    thickest = thickness.of_parts(mesh, listed)
     return [Panel('before: old numbers', {p: by_rank(p, n) for p in every}, {p: numbers[p - 1] for p in every}, bar_legend(scale, *ends)),
             Panel('after: new numbers', {p: by_rank(listed.numbers[p], n) for p in every}, {p: listed.numbers[p] for p in every},
                   bar_legend(scale, '1', str(n))),
             Panel('levels', {p: levels[listed.levels[p] - 1] for p in every}, {p: listed.levels[p] for p in every},
-                  bar_legend(levels, 'level 1', str(depth))),
+                  level_legend(levels, thickest), {p for one in thickest for p in one.nodes}),
             Panel('parts', {p: by_part(part[p]) for p in every}, {p: part[p] for p in every}, part_legend([len(nodes) for nodes in found]))]
 
 
-STYLE = '<style>.o{fill:none;stroke:#1d2b3a;stroke-opacity:.4;stroke-width:5}.b{fill:none;stroke-width:28}</style>'
+STYLE = ('<style>.o{fill:none;stroke:#1d2b3a;stroke-opacity:.4;stroke-width:5}.b{fill:none;stroke-width:28}'
+         '.t{fill:#ffffff;stroke:#1d2b3a;stroke-width:12}</style>')
 
 
 def height(drawn):

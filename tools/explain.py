@@ -1,5 +1,6 @@
 #!/usr/bin/env python3
-"""The program's answer in words: all that is wrong with a mesh that is refused, or what the renumbering gained and how the mesh falls into parts.
+"""The program's answer in words: all that is wrong with a mesh that is refused, or what the renumbering gained, where the mesh is thickest and
+how it falls into parts.
 
   explain.py MESH.grd < LISTING
 """
@@ -12,6 +13,7 @@ import grd
 import parts
 import result
 import source
+import thickness
 from files import command, read_bytes
 from model import Fault
 
@@ -36,8 +38,10 @@ def listed(first, others):
 
 
 def accepted(found, lines):
-    """What is in the mesh, what was gained, and what may be wrong with it, in the source's own numbers."""
-    return [source.summary(found)] + gained(found.mesh, result.read(lines).figures) + parts.warnings(found.mesh, found.numbers)
+    """What is in the mesh, what was gained, where each part is thickest, and what may be wrong with it, in the source's own numbers."""
+    listed = result.read(lines)
+    return ([source.summary(found)] + gained(found.mesh, listed.figures) + thickness.words(found.mesh, listed, found.numbers)
+            + parts.warnings(found.mesh, found.numbers))
 
 
 def explained(path, lines):

@@ -1,12 +1,14 @@
 """The matrix before and after the renumbering: entries, envelope and band, and what elimination joins.
 
 A dark cell is an entry. The blue area is the envelope, row q from f_q to q: the store. The lines on both sides of the diagonal bound the band.
-With more than 200 nodes several rows and columns share a cell, which is dark if one of its entries is there.
+With more than 200 nodes several rows and columns share a cell, which is dark if one of its entries is there. A bar beside the new numbers stands
+at the rows of each part's thickest level.
 """
 
 import figures
 import fill
 import grd
+import thickness
 from ink import COLUMNS, FAINT, INK, MARGIN, SIDE, WIDTH, grouped, number, text
 
 MOST_CELLS = 200
@@ -15,7 +17,7 @@ MOST_RULED = 40
 # The room for a side's title above and for its figures and the legend below.
 ABOVE = 34
 BELOW = 118
-# A line of figures more where elimination is shown.
+# The line of the thickest level, and one more where elimination is shown.
 LINE = 19
 
 ENTRY = '#17324d'
@@ -135,6 +137,19 @@ def elimination(rows, profile):
     return 'elimination joins %s more: %.1f %% of the store is used' % (grd.counted(new, 'pair'), share)
 
 
+def thickest(left, top, mesh, listed, filled):
+    """A bar at the left of the rows of each part's thickest level, and its meaning below the figures."""
+    found = thickness.of_parts(mesh, listed)
+    if not found:
+        return []
+    numbers = {listed.numbers[p] for one in found for p in one.nodes}
+    path = ''.join('M%d %sv%s' % (left - 7, number(top + SIDE * (first - 1) / mesh.n), number(max(1, SIDE * count / mesh.n)))
+                   for first, count in runs(numbers))
+    y = top + SIDE + 47 + LINE * (1 + filled)
+    path += 'M%d %dv12' % (left + 2, y - 10)
+    return ['<path d="%s" fill="none" stroke="%s" stroke-width="4"/>' % (path, INK), text(left + 12, y, thickness.in_short(found), 12, FAINT)]
+
+
 # The whole.
 
 def legend(y, step, filled):
@@ -160,7 +175,7 @@ def clip(n):
 
 
 def height(filled):
-    return ABOVE + SIDE + BELOW + LINE * filled
+    return ABOVE + SIDE + BELOW + LINE * (1 + filled)
 
 
 def lines(top, mesh, listed, filled):
@@ -168,5 +183,5 @@ def lines(top, mesh, listed, filled):
     before = grd.neighbours(mesh)
     after = figures.renumbered(before, listed.numbers)
     made = side(COLUMNS[0], top + ABOVE, 'before: old numbers', before, filled)
-    made += side(COLUMNS[1], top + ABOVE, 'after: new numbers', after, filled)
+    made += side(COLUMNS[1], top + ABOVE, 'after: new numbers', after, filled) + thickest(COLUMNS[1], top + ABOVE, mesh, listed, filled)
     return made + legend(top + height(filled) - 24, step_for(mesh.n), filled)

@@ -16,6 +16,7 @@ import grd
 import parts
 import picture
 import source
+import thickness
 from files import Kind, Output, add_output_options, command, write_own
 from ink import FAINT, FONT, INK, grouped
 from model import Fault
@@ -27,7 +28,7 @@ MOST_ROWS = 40
 
 STYLE = '''body { font-family: %s; color: %s; max-width: 970px; margin: 2em auto; padding: 0 1em; line-height: 1.45 }
 h1 { margin-bottom: 0 } h2 { margin-top: 2em }
-.faint { color: %s } .warning { color: #a33a0a; white-space: pre-wrap }
+.faint { color: %s } .warning, .told { white-space: pre-wrap } .warning { color: #a33a0a }
 table { border-collapse: collapse; margin: 1em 0; font-variant-numeric: tabular-nums }
 th, td { padding: .25em .9em; text-align: right; border-bottom: 1px solid #d5dbe1 }
 th:first-child, td:first-child { text-align: left; padding-left: 0 }
@@ -55,13 +56,12 @@ def before_and_after(mesh, listed):
 
 
 def part_rows(mesh, listed, numbers):
-    """For each part its nodes, its lowest number in the source, the new numbers that it takes, its levels and their greatest count."""
+    """For each part its nodes, its lowest number in the source, the new numbers that it takes, its levels, their greatest count and where it is."""
     rows = []
     for i, part in enumerate(parts.parts_of(grd.neighbours(mesh)), 1):
         new = [listed.numbers[p] for p in part]
-        levels = [listed.levels[p] for p in part]
-        width = max(levels.count(level) for level in set(levels))
-        rows.append((i, grouped(len(part)), numbers[part[0] - 1], '%d to %d' % (min(new), max(new)), max(levels), width))
+        one = thickness.of_part(part, listed.levels)
+        rows.append((i, grouped(len(part)), numbers[part[0] - 1], '%d to %d' % (min(new), max(new)), len(one.sizes), len(one.nodes), one.level))
     return rows
 
 
@@ -70,18 +70,24 @@ def part_rows(mesh, listed, numbers):
 def head(name, path, found, listed):
     words = '%s, %s; from %s' % (source.summary(found), grd.counted(listed.figures.parts, 'part'), os.path.basename(path))
     lines = ['<h1>%s</h1>' % html.escape(name), '<p class="faint">%s</p>' % html.escape(words)]
-    lines += ['<p class="warning">%s</p>' % html.escape('\n'.join(block)) for block in blocks(parts.warnings(found.mesh, found.numbers))]
+    lines += told('warning', parts.warnings(found.mesh, found.numbers))
     lines += table(('', 'before', 'after', 'after / before'), before_and_after(found.mesh, listed))
     rows = part_rows(found.mesh, listed, found.numbers)
-    lines += table(('part', 'nodes', 'lowest node', 'new numbers', 'levels', 'width'), rows[:MOST_ROWS])
+    lines += table(('part', 'nodes', 'lowest node', 'new numbers', 'levels', 'width', 'thickest level'), rows[:MOST_ROWS])
     if len(rows) > MOST_ROWS:
         lines.append('<p class="faint">and %s parts more</p>' % grouped(len(rows) - MOST_ROWS))
+    lines += told('told', thickness.words(found.mesh, listed, found.numbers))
     passes = grd.counted(listed.figures.passes, 'pass').replace('passs', 'passes')
     return lines + ['<p class="faint">%s to find the ends of the parts.</p>' % passes]
 
 
+def told(kind, lines):
+    """A paragraph for each line and those that stand under it."""
+    return ['<p class="%s">%s</p>' % (kind, html.escape('\n'.join(block))) for block in blocks(lines)]
+
+
 def blocks(lines):
-    """Warnings with the lines under each."""
+    """Lines with those under each."""
     made = []
     for line in lines:
         if line.startswith(' '):
@@ -100,11 +106,12 @@ def pictures(name, found, listed):
     except Fault as fault:
         mesh = '<p class="faint">%s.</p>' % html.escape(str(fault))
     return ['<h2>The mesh</h2>',
-            '<p>Around each node its share of every face has the node’s colour. A good numbering runs through the mesh from one end to the other.</p>',
+            '<p>Around each node its share of every face has the node’s colour. A good numbering runs through the mesh from one end to the other. '
+            'Rings mark the nodes of each part’s thickest level.</p>',
             mesh.rstrip('\n'),
             '<h2>The matrix</h2>',
             '<p>Dark cells are entries. Below the diagonal the envelope is what the store holds: orange places are zero at first and are joined by '
-            'elimination, blue ones stay zero.</p>',
+            'elimination, blue ones stay zero. A bar beside the new numbers marks the rows of each part’s thickest level.</p>',
             picture.svg(name, found.mesh, listed, True, 0).rstrip('\n')]
 
 

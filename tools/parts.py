@@ -25,6 +25,11 @@ def parts_of(rows):
     return parts
 
 
+def joined(rows):
+    """The parts with two or more nodes."""
+    return [part for part in parts_of(rows) if len(part) > 1]
+
+
 def loose(rows):
     """Nodes without a neighbour: in no element, or in elements without a second distinct node."""
     return [p for p in range(1, len(rows)) if not rows[p]]
@@ -50,7 +55,7 @@ def warnings(mesh, numbers):
     """Lines for a mesh in several parts or with loose nodes; numbers are the source's, in the order of the mesh's 1 to n."""
     rows = grd.neighbours(mesh)
     alone = loose(rows)
-    parts = [part for part in parts_of(rows) if len(part) > 1]
+    parts = joined(rows)
     lines = []
     if len(parts) > 1:
         lines.append('warning: the mesh falls into %d parts that no element joins' % len(parts))

@@ -134,7 +134,7 @@ def pictures(c):
     plain = drawn(edited('collapsed.bdf', (fourth, 'CTRIA3,4,1,5,6,8')), '--mesh')
     for nodes in ('5,6,6,8', '5,6,8,8', '8,5,6,8', '5,5,6,8'):
         made = drawn(edited('collapsed.bdf', (fourth, 'CQUAD4,4,1,' + nodes)), '--mesh')
-        c.equal('collapsed: %s is drawn' % nodes, (made[:2], edges(made[2]), made[2].count('class="b"'), made[2].count('<circle ')),
+        c.equal('collapsed: %s is drawn' % nodes, (made[:2], edges(made[2]), made[2].count('class="b"'), made[2].count('<circle color=')),
                 ((0, ''), [11] * 4, 0, 4))
         c.equal('collapsed: %s is listed as a triangle' % nodes, made[3], plain[3])
         total = sum(area(polygon) for path in re.findall(r'<path color="#\w+" d="([^"]*)"/>', made[2]) for polygon in polygons(path))
@@ -143,7 +143,7 @@ def pictures(c):
     c.equal('collapsed: the same picture with a triangle', drawn(edited('collapsed.bdf', (fourth, 'CQUAD4,4,1,5,6,8,8')), '--mesh')[2], plain[2])
     text = drawn(edited('collapsed.bdf', (fourth, 'CQUAD4,4,1,6,8,8,6'), ('CROD,5,1,9,9', 'CROD,5,1,6,9')), '--mesh')[2]
     halves = sum(path.count('M') for path in re.findall('<path class="b" color="#[0-9a-f]+" d="([^"]*)"/>', text))
-    c.equal('collapsed: a quadrilateral made a line is a bar: two bars, by halves', (edges(text), halves, text.count('<circle ')),
+    c.equal('collapsed: a quadrilateral made a line is a bar: two bars, by halves', (edges(text), halves, text.count('<circle color=')),
             ([10] * 4, 16, 0))
 
 

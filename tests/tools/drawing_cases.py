@@ -165,7 +165,7 @@ def pictures(c):
     total = sum(area(polygon) for _, path in paths for polygon in polygons(path))
     # both squares in four panels, 94 pixels wide, in tenths
     c.holds('drawing: the panels are covered once: %s' % total, abs(total - 4 * 2 * 940 ** 2) < 4 * 2 * 940 * 4)
-    c.equal('drawing: one loose node in four panels', text.count('<circle '), 4)
+    c.equal('drawing: one loose node in four panels', text.count('<circle color='), 4)
     c.holds('drawing: bars', len(re.findall('<path class="b"', text)) >= 4)
     c.equal('drawing: titles', re.findall('font-weight="bold">([^<]*)</text>', text),
             ['a', 'before: old numbers', 'after: new numbers', 'levels', 'parts'])

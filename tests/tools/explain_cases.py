@@ -61,7 +61,8 @@ def in_words(c):
              'warning: joined to no other, each a part of its own, 2 nodes: 4, 6'])
     c.equal('explain: collapsed elements', told(grd_file(5, (3, 1, 2, 3, 3), (1, 3, 4), (1, 5, 5))),
             ['5 nodes, 3 elements (bar 2, quadrilateral 1; collapsed 2)', 'bandwidth 2 before, 2 after', 'profile 4 before, 4 after',
-             'front 3 before, 3 after', 'warning: joined to no other, each a part of its own, 1 node: 5'])
+             'front 3 before, 3 after', 'thickest at combined level 3 of 3, 2 nodes: 1, 2', '  nodes in each level: 1 1 [2]',
+             'warning: joined to no other, each a part of its own, 1 node: 5'])
 
 
 def in_sources(c):

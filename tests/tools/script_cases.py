@@ -207,8 +207,9 @@ def explained(c, place):
     wanted = converted(os.path.join(place.folder, 'plate.bdf'), '--compact')
     status, out, err = place.run('--explain', '--compact', 'plate.bdf')
     c.equal('script: a deck explained', (status, out), (0, wanted))
-    c.equal('script: in its own numbers', err.splitlines()[1:3] + err.splitlines()[-4:],
+    c.equal('script: in its own numbers', err.splitlines()[1:3] + err.splitlines()[-6:],
             ['In words (the answer is proved, this help is not):', '  9 nodes, 3 elements (bar 1, quadrilateral 2)',
+             '  part 2, 2 nodes, thickest at combined level 1 of 2, 1 node, the first of 2 such: 70', '    nodes in each level: [1] 1',
              '  warning: the mesh falls into 2 parts that no element joins', '    part 1, 6 nodes: 10, 20, 30, 40, 50, 60',
              '    part 2, 2 nodes: 70, 80',
              '  warning: joined to no other, each a part of its own, 1 node: 90'])
