@@ -31,7 +31,7 @@ use mathlib.Core.List.{List, [], _∷_, _++_}
 use lib.ListN.{replicate}
 use Rattle.spec.specs.Lent.{refused, accepted}
 use Rattle.spec.specs.Numbering.{Forward, Reversed}
-use Rattle.spec.specs.CallsLevels.{adjacencyAnswer, rootedAnswer, rootedLevels, endsAnswer, endsScratch}
+use Rattle.spec.specs.CallsLevels.{adjacencyAnswer, rootedAnswer, rootedLevels, rootedSizes, endsAnswer, endsScratch}
 use Rattle.spec.specs.CallsLevels.{combinedAnswer, combinedLevels, combinedScratch}
 use Rattle.spec.specs.CallsNumbering.{reportAnswer, reportScratch, runAnswer, runNumbers, runLevels, runScratch}
 use Rattle.spec.specs.CallsNumbering.{measuresAnswer, measuresScratch}

@@ -1,6 +1,6 @@
 #!/usr/bin/env python3
-"""The second table of crate `spec`: a dozen graphs, one for each slip and each tie rule of document 01, the order of the refusals, and elements
-that have a node more than once.
+"""The second table of crate `spec`: a dozen graphs, one for each slip and each tie rule of document 01, the order of the refusals, the sizes of
+levels, and elements that have a node more than once.
 
   examples.py            print crates/spec/proofs/Examples.antt; `rt fmt` lays it out
   examples.py --check    say whether the file stands as this script prints it, layout aside
@@ -63,6 +63,20 @@ REFUSALS = [
     ('5 where 6n words are asked for, and one less is lent', [0, 0], [], 1, [1], 5),
 ]
 
+# what it shows, nodes, edges, root, words lent for the levels and for the sizes
+SIZES = [
+    ('one node', 1, [], 1, 1, 1),
+    ('an isolated root: zeros after the depth', 4, [(1, 3), (3, 4)], 2, 4, 4),
+    ('the part of the root alone; longer lists keep their excess', 5, [(1, 2), (2, 4), (3, 5)], 5, 6, 7),
+    ('a path from an end: a level in each word', 4, [(1, 2), (2, 3), (3, 4)], 4, 4, 4),
+    ('a star from its centre', 5, [(1, 2), (1, 3), (1, 4), (1, 5)], 1, 5, 5),
+    ('a star from a leaf', 5, [(1, 2), (1, 3), (1, 4), (1, 5)], 3, 5, 5),
+    ('thickest in the middle', 7, [(1, 2), (2, 3), (2, 4), (2, 5), (3, 6), (4, 6), (5, 6), (6, 7)], 1, 7, 7),
+    ('a short list of levels: the sizes stay', 3, [(1, 2)], 1, 2, 3),
+    ('a short list of sizes: it stays', 3, [(1, 2)], 1, 3, 2),
+    ('a root that is none: the sizes stay', 3, [(1, 2)], 4, 3, 3),
+]
+
 # what it shows, mark, the words after it, bytes after these
 FILES = [
     ('a wrong mark, and no node: 12 before 1', b'GRX', [1, 0, 0], b''),
@@ -87,8 +101,8 @@ FILES = [
     ('a brick on one node', b'GRD', [1, 2, 1, 7, 2, 2, 2, 2, 2, 2, 2, 2], b''),
 ]
 
-HEAD = '''-- A second table by computation: graphs chosen so that each slip of document 01 and each tie rule shows, the order of the refusals, and elements
--- that have a node more than once.
+HEAD = '''-- A second table by computation: graphs chosen so that each slip of document 01 and each tie rule shows, the order of the refusals, the sizes of
+-- levels, and elements that have a node more than once.
 -- Made by tests/definitions/examples.py: every expected value is the independent program's, tests/reference. Assumes nothing.
 use Prim.Native.Nat.{ℕ, _*_}
 use mathlib.Core.Path.{_≡_, refl}
@@ -100,7 +114,7 @@ use Rattle.spec.specs.Numbering.{Forward, Reversed, PartReport, Figures}
 use Rattle.spec.specs.Lent.{Outcome, accepted}
 use Rattle.spec.specs.Mesh.{startList, neighbourList}
 use Rattle.spec.specs.File.{fileGraph, fileRefusal}
-use Rattle.spec.specs.CallsLevels.{adjacencyAnswer, rootedAnswer, endsAnswer}
+use Rattle.spec.specs.CallsLevels.{adjacencyAnswer, rootedAnswer, rootedSizes, endsAnswer}
 use Rattle.spec.specs.CallsNumbering.{runAnswer, measuresAnswer}
 use Rattle.spec.specs.CallsStore.{EliminationFigures, eliminationAnswer}
 use Rattle.spec.proofs.Compute.{computes}
@@ -155,7 +169,7 @@ def refusals(starts, neighbours, node, numbering, per_node):
     n = max(0, len(starts) - 1)
     lent = lambda: buffer(per_node * n)
     answers = [calls.adjacency_test(starts, neighbours),
-               calls.rooted_levels(starts, neighbours, node, lent()),
+               calls.rooted_levels(starts, neighbours, node, lent(), lent()),
                calls.ends(starts, neighbours, node, lent()),
                calls.whole_run(starts, neighbours, lent(), lent(), lent()),
                calls.measures(starts, neighbours, numbering, lent()),
@@ -199,6 +213,18 @@ def refusal_rows():
     return fields, proofs
 
 
+def size_rows():
+    """A field for the list of sizes of each, and its proof."""
+    fields, proofs = [], []
+    for number, (why, n, edges, root, *lengths) in enumerate(SIZES, 1):
+        given, (levels, sizes) = (*from_edges(n, edges), root), map(buffer, lengths)
+        left = 'rootedSizes %s %s %d %s %s' % (*map(words, given[:2]), root, words(levels), words(sizes))
+        calls.rooted_levels(*given, levels, sizes)
+        fields.append('  -- %s\n  sizes-%d : %s ≡ %s' % (why, number, left, words(sizes)))
+        proofs.append('  sizes-%d = refl;' % number)
+    return fields, proofs
+
+
 def file_refusal(file):
     """What the program refuses a file by, or 0."""
     answer = program.text_for(file).split()
@@ -232,7 +258,7 @@ refusals : List ℕ → List ℕ → ℕ → List ℕ → ℕ → List ℕ
 refusals S N node x k =
     let w : List ℕ = replicate (k * sizeOf S) 9 in
     numberOf (adjacencyAnswer S N)
-    ∷ numberOf (rootedAnswer S N node w)
+    ∷ numberOf (rootedAnswer S N node w w)
     ∷ numberOf (endsAnswer S N node w)
     ∷ numberOf (runAnswer S N w w w)
     ∷ numberOf (measuresAnswer S N x w)
@@ -244,14 +270,15 @@ refusals S N node x k =
 def text():
     lists, fields, proofs = graph_rows()
     more, refused = refusal_rows()
+    sizes, sized = size_rows()
     files, read = file_rows()
     names = ' '.join('%s %s-found' % (name, name) for name, *_ in GRAPHS)
     return '\n'.join([
         HEAD,
-        REFUSED, *lists, 'record ExampleTable : Type 0 where', *fields, *more, *files,
+        REFUSED, *lists, 'record ExampleTable : Type 0 where', *fields, *more, *sizes, *files,
         '\n-- the whole table\nexample-table : ExampleTable',
         'unfolding computes found numberOf refusals ' + names,
-        'example-table = record {', *proofs, *refused, *read, '}', ''])
+        'example-table = record {', *proofs, *refused, *sized, *read, '}', ''])
 
 
 def main():

@@ -41,8 +41,8 @@ def of_graph(i):
     run = (i.numbers, i.levels, i.scratch)
     return (
         of_call(calls.adjacency_test, lists, (), 'adjacencyAnswer', nothing, ())
-        + of_call(calls.rooted_levels, lists + (i.node,), (i.levels,),
-                  'rootedAnswer', figures(LEVEL_FIGURES), ('rootedLevels',))
+        + of_call(calls.rooted_levels, lists + (i.node,), (i.levels, i.sizes),
+                  'rootedAnswer', figures(LEVEL_FIGURES), ('rootedLevels', 'rootedSizes'))
         + of_call(calls.ends, lists + (i.node,), (i.scratch,), 'endsAnswer', figures(ENDS), ('endsScratch',))
         + of_call(calls.combined_levels, lists + (i.node,), (i.levels, i.scratch),
                   'combinedAnswer', figures(COMBINED_FIGURES), ('combinedLevels', 'combinedScratch'))

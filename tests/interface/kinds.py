@@ -35,7 +35,7 @@ def of_case(draw, c):
 def every_call(kind, lists, node, numbering, n):
     """All calls on an adjacency, with enough of everything lent."""
     yield Case(kind, 'adjacency test', *lists, [], 0, 0, 0, 0, 0)
-    yield Case(kind, 'rooted levels', *lists, [], node, n, 0, 0, 0)
+    yield Case(kind, 'rooted levels', *lists, [], node, n, n, 0, 0)
     yield Case(kind, 'ends', *lists, [], node, scratch_words(n), 0, 0, 0)
     yield Case(kind, 'combined levels', *lists, [], node, n, scratch_words(n), 0, 0)
     yield Case(kind, 'part report', *lists, [], node, scratch_words(n), 0, 0, 0)
@@ -123,7 +123,7 @@ def some(draw, count):
     """What is run in some minutes."""
     for made in (cases.small(draw, 1, 5), cases.of_table(draw), of_paper(draw, 20), at_random(draw, count), cases.limits(draw), wide(),
                  cases.of_many_parts(), cases.collapsed_meshes(), cases.full_meshes(), cases.long_meshes(), cases.scratch_sizes(draw),
-                 full_size(draw)):
+                 cases.level_sizes(draw), full_size(draw)):
         for c in made:
             yield of_case(draw, c)
     yield from among_ones(draw, 12)

@@ -1,4 +1,4 @@
-"""Document 01's bracket table, every row, its sample output, and demand 3 on random graphs."""
+"""Document 01's bracket table, every row, its sample output, and demand 3 and the sizes of levels (A.2) on random graphs."""
 
 import os
 import random
@@ -100,7 +100,7 @@ def refused_rows(checks):
     checks.equal('rows {2}, {}', calls.adjacency_test([0, 1, 1], [2]), ('refused', 4))
     checks.equal('rows {2}, {}: whole run',
                  calls.whole_run([0, 1, 1], [2], [0] * 2, [0] * 2, [0] * 12), ('refused', 4))
-    checks.equal('root 0', calls.rooted_levels(*two, 0, [0, 0]), ('refused', 6))
+    checks.equal('root 0', calls.rooted_levels(*two, 0, [0, 0], [0, 0]), ('refused', 6))
 
 
 # The row without a star.
@@ -165,6 +165,41 @@ def sample_output(checks):
         words += [1, p, q]
     checks.equal('program: sample', program_output(grd_file(5, 4, words)), SAMPLE_OUTPUT)
     checks.equal('program: unknown kind', program_output(grd_file(5, 1, [11])), b'refused 9\n')
+
+
+# The sizes of levels.
+
+def rooted(starts, neighbours, root):
+    """The call at a root, with lists that are lent in use: (depth, width, reached), levels, sizes."""
+    n = len(starts) - 1
+    levels, sizes = [7] * n, [7] * n
+    state, value = calls.rooted_levels(starts, neighbours, root, levels, sizes)
+    if state == 'refused':
+        raise AssertionError('root %d refused by %d' % (root, value))
+    return value, levels, sizes
+
+
+def sizes_claims(checks, starts, neighbours):
+    """A.2: "The sizes add up to the count reached, for every root." The greatest is the width, and the widths at the ends come of such lists."""
+    n = len(starts) - 1
+    part_at = {p: part for part in parts_of(rows_of(starts, neighbours)) for p in part}
+    greatest = {}
+    for root in range(1, n + 1):
+        (depth, width, reached), levels, sizes = rooted(starts, neighbours, root)
+        greatest[root] = max(sizes)
+        checks.equal('the sizes add up to the count reached, the part of the root', (sum(sizes), len(part_at[root])), (reached, reached))
+        checks.equal('the greatest size is the width', max(sizes), width)
+        checks.equal('each word is the count of its level', sizes, [levels.count(i) for i in range(1, n + 1)])
+        checks.equal('zeros stand after the depth, and only there', [size > 0 for size in sizes], [i <= depth for i in range(1, n + 1)])
+    for node in range(1, n + 1):
+        v, u, _, width_v, width_u, _ = calls.ends(starts, neighbours, node, [0] * (6 * n))[1]
+        checks.equal('the widths at v and u are the greatest sizes there', (width_v, width_u), (greatest[v], greatest[u]))
+
+
+def sizes_of_small_graphs(checks):
+    for n in range(1, 5):
+        for graph in calls.small_graphs(n):
+            sizes_claims(checks, *graph)
 
 
 # Demand 3 on random graphs.
@@ -242,6 +277,7 @@ def demand_3(checks):
         got = run(*graph)
         reports = levels_claims(checks, graph, got)
         figures_claims(checks, graph, got, reports)
+        sizes_claims(checks, *graph)
         if t % 4 == 0:
             store_claims(checks, graph, got['numbers'], got['profile'])
         names_changed += sum(calls.ends(*graph, r[0], [0] * (6 * n))[1][0] != r[0] for r in reports)
@@ -256,7 +292,7 @@ def demand_3(checks):
 def main():
     checks = Checks('bracket table')
     for row in (one_node, two_isolated_nodes, triangle, star, ring, sample_measures, refused_rows,
-                nodes_at_the_limit, entries_at_the_limit, sample_output, demand_3):
+                nodes_at_the_limit, entries_at_the_limit, sample_output, sizes_of_small_graphs, demand_3):
         row(checks)
     return checks.report()
 

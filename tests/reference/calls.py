@@ -1,4 +1,4 @@
-"""The entry points with their lent buffers and refusals; document 01's 'Lent buffers' and table, and A.7 of document 02.
+"""The entry points with their lent buffers and refusals; document 01's 'Lent buffers' and table, with A.2 and A.7 of document 02.
 
 Every call answers ('accepted', tuple) or ('refused', number).
 """
@@ -9,7 +9,7 @@ from combined import combined_levels as combined_of_part
 from ends import ends_of_part
 from graph import (MOST_ENTRIES, adjacency_refusal, from_edges, lists_of, part_of,
                    rows_of, small_graphs, wrong_node_count)
-from levels import by_old_number, depth, width
+from levels import by_old_number, depth, size_list, width
 from levels import rooted_levels as levels_from
 from measures import adjoining, bandwidth, front, fronts, is_numbering, number_of_nodes, profile
 from mesh import mesh_rows, read_elements, too_many_entries
@@ -63,18 +63,20 @@ def adjacency_test(starts, neighbours):
     return refused(number) if number else accepted()
 
 
-def rooted_levels(starts, neighbours, root, levels):
+def rooted_levels(starts, neighbours, root, levels, sizes):
     """(depth, width, reached)"""
     number = adjacency_refusal(starts, neighbours)
     if number:
         return refused(number)
     n = len(starts) - 1
-    if is_short((levels, n)):
+    # A.2: "Refusal 5 now covers the list too."
+    if is_short((levels, n), (sizes, n)):
         return refused(5)
     if is_wrong_node(root, n):
         return refused(6)
     level_of = levels_from(rows_of(starts, neighbours), root)
     put(levels, by_old_number(level_of, n))
+    put(sizes, size_list(level_of, n))
     # "Depth, width and the count reached are returned."
     return accepted(depth(level_of), width(level_of), len(level_of))
 

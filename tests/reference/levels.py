@@ -1,4 +1,4 @@
-"""Rooted levels, from the section 'Rooted levels' of document 01."""
+"""Rooted levels, from the section 'Rooted levels' of document 01, and A.2 of document 02."""
 
 
 def rooted_levels(rows, root):
@@ -31,6 +31,15 @@ def level_counts(level_of, k):
     for z in level_of:
         counts[level_of[z]] += 1
     return counts
+
+
+def size_list(level_of, n):
+    """n words: the size of level i in word i - 1."""
+    # A.2: "a lent list of n words with the size of each level in order, zeros
+    # after the depth"
+    k = depth(level_of)
+    counts = level_counts(level_of, k)
+    return [counts[i] for i in range(1, k + 1)] + [0] * (n - k)
 
 
 def width(level_of):

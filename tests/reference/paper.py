@@ -14,6 +14,7 @@ import random
 import sys
 
 import calls
+from bracket import rooted, sizes_claims
 from checking import Checks
 from combined import combined_levels, goes_by_first, number_pairs, pieces_in_turn
 from ends import ends_of_part
@@ -60,9 +61,11 @@ def degrees(checks, rows):
     checks.equal('paper: vertices of low degree', [p for p in rows if degree(rows, p) <= low], list(CORNERS))
 
 
-def rooted(checks, rows, bandwidth):
+def corners(checks, lists, bandwidth):
+    rows = rows_of(*lists)
     for p in CORNERS:
         checks.equal('paper: levels rooted at %d' % p, counts_of(rooted_levels(rows, p)), [1, 3, 5, 7, 4, 4])
+        checks.equal('paper: sizes of the levels rooted at %d' % p, rooted(*lists, p)[2], [1, 3, 5, 7, 4, 4] + [0] * 18)
     checks.holds('paper: bandwidth less than the width of any rooted level structure',
                  all(bandwidth < width(rooted_levels(rows, p)) for p in rows))
 
@@ -112,7 +115,8 @@ def main():
         rows = rows_of(*lists)
         degrees(checks, rows)
         components(checks, rows)
-        rooted(checks, rows, whole(checks, lists, column))
+        corners(checks, lists, whole(checks, lists, column))
+    sizes_claims(checks, *lists)
     trees(checks)
     return checks.report()
 

@@ -67,7 +67,7 @@ def untouched(checks, name, call, given, lent, number):
 
 ADJACENCY_CALLS = [
     ('adjacency test', calls.adjacency_test, [], []),
-    ('rooted levels', calls.rooted_levels, [1], [1]),
+    ('rooted levels', calls.rooted_levels, [1], [1, 1]),
     ('ends', calls.ends, [1], [6]),
     ('combined levels', calls.combined_levels, [1], [1, 6]),
     ('part report', calls.part_report, [1], [6]),
@@ -150,7 +150,8 @@ def accepted_buffers(checks):
     graph = [[0, 1, 3, 4, 4], [2, 1, 3, 2]]
     zeroed = [0] * 24 + [OLD]
     for name, call, given, lent, value, after in [
-            ('rooted levels', calls.rooted_levels, [2], [words(5)], (2, 2, 3), [[2, 1, 2, 0, OLD]]),
+            ('rooted levels', calls.rooted_levels, [2], [words(5), words(6)], (2, 2, 3), [[2, 1, 2, 0, OLD], [1, 2, 0, 0, OLD, OLD]]),
+            ('rooted levels of an isolated node', calls.rooted_levels, [4], [words(4), words(5)], (1, 1, 1), [[0, 0, 0, 1], [1, 0, 0, 0, OLD]]),
             ('ends', calls.ends, [2], [words(25)], (1, 3, 3, 1, 1, 1), [zeroed]),
             ('ends of an isolated node', calls.ends, [4], [words(25)], (4, 4, 1, 1, 1, 1), [zeroed]),
             ('combined levels', calls.combined_levels, [2], [words(5), words(25)], (3, 1),

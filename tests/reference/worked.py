@@ -1,8 +1,9 @@
-"""Graphs worked with pencil from document 01's steps: its slips, ties, names, passes; each kind; and stars by sums."""
+"""Graphs worked with pencil from document 01's steps: its slips, ties, names, passes; levels and their sizes; each kind; and stars by sums."""
 
 import sys
 
 import calls
+from bracket import rooted, sizes_claims
 from checking import Checks
 
 # name, edges, ends (v, u, k, width_v, width_u, passes), combined levels,
@@ -68,6 +69,23 @@ WORKED = [
 ]
 
 
+# A.2: name, n, edges, root, (depth, width, reached), levels, sizes
+ROOTED = [
+    ('one node', 1, [], 1, (1, 1, 1), [1], [1]),
+    ('isolated root', 4, [(1, 3), (3, 4)], 2, (1, 1, 1), [0, 1, 0, 0], [1, 0, 0, 0]),
+    ('beside an isolated node', 4, [(1, 3), (3, 4)], 3, (2, 2, 3), [2, 0, 1, 2], [1, 2, 0, 0]),
+    ('path from an end', 4, [(1, 2), (2, 3), (3, 4)], 4, (4, 1, 4), [4, 3, 2, 1], [1, 1, 1, 1]),
+    ('path from within', 5, [(1, 2), (2, 3), (3, 4), (4, 5)], 2, (4, 2, 5), [2, 1, 2, 3, 4], [1, 2, 1, 1, 0]),
+    ('star from its centre', 6, [(3, 1), (3, 2), (3, 4), (3, 5), (3, 6)], 3, (2, 5, 6), [2, 2, 1, 2, 2, 2], [1, 5, 0, 0, 0, 0]),
+    ('star from a leaf', 6, [(3, 1), (3, 2), (3, 4), (3, 5), (3, 6)], 5, (3, 4, 6), [3, 3, 2, 3, 1, 3], [1, 1, 4, 0, 0, 0]),
+    ('ring', 6, [(1, 2), (2, 3), (3, 4), (4, 5), (5, 6), (6, 1)], 2, (4, 2, 6), [2, 1, 2, 3, 4, 3], [1, 2, 2, 1, 0, 0]),
+    # the thickest level is neither the first nor the last
+    ('thickest in the middle', 7, [(1, 2), (2, 3), (2, 4), (2, 5), (3, 6), (4, 6), (5, 6), (6, 7)], 1, (5, 3, 7),
+     [1, 2, 3, 3, 3, 4, 5], [1, 1, 3, 1, 1, 0, 0]),
+    ('second part of two', 5, [(1, 2), (2, 4), (3, 5)], 5, (2, 1, 2), [0, 0, 2, 0, 1], [1, 1, 0, 0, 0]),
+]
+
+
 def worked_graph(checks, name, edges, ends, combined, report, levels, numbers):
     n = len(numbers)
     graph = calls.from_edges(n, edges)
@@ -81,6 +99,22 @@ def worked_graph(checks, name, edges, ends, combined, report, levels, numbers):
     calls.whole_run(*graph, got_numbers, got_levels, scratch)
     checks.equal(name + ': levels', got_levels, levels)
     checks.equal(name + ': numbers', got_numbers, numbers)
+    sizes_claims(checks, *graph)
+
+
+def worked_levels(checks, name, n, edges, root, figures, levels, sizes):
+    graph = calls.from_edges(n, edges)
+    checks.equal(name + ': levels and sizes', rooted(*graph, root), (figures, levels, sizes))
+    sizes_claims(checks, *graph)
+
+
+def long_paths(checks):
+    """4,096 nodes in a row, from an end and from within: a level in every word, and half as many of two nodes."""
+    n = 4096
+    graph = calls.from_edges(n, [(p, p + 1) for p in range(1, n)])
+    checks.equal('path of 4,096 from an end', rooted(*graph, 1), ((n, 1, n), list(range(1, n + 1)), [1] * n))
+    levels = [abs(p - 2048) + 1 for p in range(1, n + 1)]
+    checks.equal('path of 4,096 from within', rooted(*graph, 2048), ((2049, 2, n), levels, [1] + [2] * 2047 + [1] + [0] * 2047))
 
 
 def both_directions(checks):
@@ -128,6 +162,9 @@ def main():
     checks = Checks('worked graphs')
     for case in WORKED:
         worked_graph(checks, *case)
+    for case in ROOTED:
+        worked_levels(checks, *case)
+    long_paths(checks)
     both_directions(checks)
     kinds(checks)
     stars(checks)

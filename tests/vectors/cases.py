@@ -27,7 +27,7 @@ Call = namedtuple('Call', 'number reference given lent')
 
 CALLS = {
     'adjacency test': Call(1, calls.adjacency_test, 'starts neighbours', ''),
-    'rooted levels': Call(2, calls.rooted_levels, 'starts neighbours node', 'first'),
+    'rooted levels': Call(2, calls.rooted_levels, 'starts neighbours node', 'first second'),
     'ends': Call(3, calls.ends, 'starts neighbours node', 'first'),
     'measures': Call(4, calls.measures, 'starts neighbours given', 'first'),
     'elimination': Call(5, calls.elimination, 'starts neighbours given', 'first bytes'),
@@ -132,7 +132,7 @@ def enough(draw, need):
 def at_node(draw, kind, lists, node):
     """The calls that are given a node."""
     n = max(0, len(lists[0]) - 1)
-    yield Case(kind, 'rooted levels', *lists, [], node, lent(draw, n), 3, 0, 0)
+    yield Case(kind, 'rooted levels', *lists, [], node, lent(draw, n), lent(draw, n), 3, 0)
     yield Case(kind, 'ends', *lists, [], node, lent(draw, scratch_words(n)), 3, 0, 0)
     yield Case(kind, 'combined levels', *lists, [], node, lent(draw, n), lent(draw, scratch_words(n)), 3, 0)
     yield Case(kind, 'part report', *lists, [], node, lent(draw, scratch_words(n)), 3, 0, 0)
@@ -339,6 +339,35 @@ def of_full_size(draw):
         yield Case(kind, 'measures', *lists, list(range(1, n + 1)), 0, n, 0, 0, 0)
 
 
+# Path 1-3-5, star about 2, node 8, triangle 9-11-12, pair 10-13, path from 14 to 17 and node 18.
+SEVERAL = (18, [(1, 3), (3, 5), (2, 4), (2, 6), (2, 7), (9, 11), (9, 12), (11, 12), (10, 13), (14, 15), (15, 16), (16, 17)])
+
+
+def every_root(draw):
+    """A.2: each root of graphs of several parts, isolated nodes among them, and of other graphs, with just enough lent."""
+    graphs = [SEVERAL, shapes.path(1), shapes.blocks(4, 1), shapes.blocks(6, 2), shapes.rings_of_four(2), shapes.star(9), shapes.tree(13, 3),
+              shapes.renamed(draw, *SEVERAL), shapes.renamed(draw, *shapes.grid(5, 3, False)), shapes.renamed(draw, *shapes.random_tree(draw, 20))]
+    for lists in [from_edges(*graph) for graph in graphs] + [random_graph(draw, 1 + draw.below(16)) for _ in range(10)]:
+        n = len(lists[0]) - 1
+        for root in range(1, n + 1):
+            yield Case('every root', 'rooted levels', *lists, [], root, n, n, 0, 0)
+
+
+def level_sizes(draw):
+    """A.2: the two lists exact, long and short, with roots and with numbers that are none: 5 comes before 6. Stars from the centre and a leaf."""
+    yield from every_root(draw)
+    for lists in (from_edges(*SEVERAL), from_edges(*shapes.path(1)), from_edges(*shapes.star(5)), from_edges(*shapes.path(6))):
+        n = len(lists[0]) - 1
+        lengths = sorted({0, n - 1, n, n + 1, n + 9})
+        for root in sorted({0, 1, n, n + 1, 65535}):
+            for levels in lengths:
+                for sizes in lengths:
+                    yield Case('two lists', 'rooted levels', *lists, [], root, levels, sizes, 3, 0)
+    star = from_edges(*shapes.star(4096))
+    for root in (1, 77):
+        yield Case('full size', 'rooted levels', *star, [], root, 4096, 4096, 0, 0)
+
+
 def with_scratch(kind, lists, node, length, need):
     """The run, the calls on one part, and run and eliminate, with so many words of scratch and mark bytes and just enough of the rest."""
     n = len(lists[0]) - 1
@@ -385,13 +414,14 @@ def limits(draw):
         n = max(0, len(starts) - 1)
         given = list(range(1, n + 1)) if n <= 4096 else []
         yield Case(kind, 'adjacency test', starts, [], [], 0, 0, 0, 0, 0)
-        yield Case(kind, 'rooted levels', starts, [], [], 1, n, 0, 0, 0)
+        yield Case(kind, 'rooted levels', starts, [], [], 1, n, n, 0, 0)
         yield Case(kind, 'ends', starts, [], [], 1, scratch_words(n), 0, 0, 0)
         yield Case(kind, 'measures', starts, [], given, 0, n, 0, 0, 0)
         yield Case(kind, 'elimination', starts, [], given, 0, n, 0, 0, 0)
         yield Case(kind, 'whole run', starts, [], [], 0, n, n, scratch_words(n), 0)
     path = from_edges(*shapes.path(4096))
-    yield Case(kind, 'rooted levels', *path, [], 1, 4096, 0, 0, 0)
+    for root in (1, 2048, 4096):
+        yield Case(kind, 'rooted levels', *path, [], root, 4096, 4096, 0, 0)
     yield Case(kind, 'ends', *path, [], 77, scratch_words(4096) + 2, 0, 0, 0)
     yield Case(kind, 'combined levels', *path, [], 77, 4096, scratch_words(4096), 0, 0)
     yield Case(kind, 'run and eliminate', *path, [], 0, 4096, 4096, scratch_words(4096), 512)

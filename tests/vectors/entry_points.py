@@ -32,7 +32,7 @@ def selection():
     return (list(cases.small(draw, 1, 4)) + list(cases.some_of_five(draw, 40)) + list(cases.of_table(draw)) + list(cases.telling(draw, 120))
             + list(cases.at_random(draw, 20, 3)) + list(cases.runs_at_random(draw, 16)) + list(cases.illegal(draw, 350))
             + list(cases.limits(draw)) + list(cases.of_many_parts()) + list(cases.meshes(draw, 250)) + list(cases.collapsed_meshes())
-            + list(cases.full_meshes()) + list(cases.store_sizes(draw, 3)) + list(cases.scratch_sizes(draw)))
+            + list(cases.full_meshes()) + list(cases.store_sizes(draw, 3)) + list(cases.scratch_sizes(draw)) + list(cases.level_sizes(draw)))
 
 
 def many(count, seed):
@@ -42,7 +42,7 @@ def many(count, seed):
             + list(cases.at_random(draw, count, 40)) + list(cases.runs_at_random(draw, count)) + list(cases.large(draw, count // 10))
             + list(cases.illegal(draw, count)) + list(cases.limits(draw)) + list(cases.of_many_parts()) + list(cases.of_full_size(draw))
             + list(cases.meshes(draw, count)) + list(cases.collapsed_meshes()) + list(cases.full_meshes()) + list(cases.long_meshes())
-            + list(cases.store_sizes(draw, count // 10)) + list(cases.scratch_sizes(draw)))
+            + list(cases.store_sizes(draw, count // 10)) + list(cases.scratch_sizes(draw)) + list(cases.level_sizes(draw)))
 
 
 def report(made):

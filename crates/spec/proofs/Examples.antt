@@ -1,5 +1,5 @@
--- A second table by computation: graphs chosen so that each slip of document 01 and each tie rule shows, the order of the refusals, and elements
--- that have a node more than once.
+-- A second table by computation: graphs chosen so that each slip of document 01 and each tie rule shows, the order of the refusals, the sizes of
+-- levels, and elements that have a node more than once.
 -- Made by tests/definitions/examples.py: every expected value is the independent program's, tests/reference. Assumes nothing.
 use Prim.Native.Nat.{ℕ, _*_}
 use mathlib.Core.Path.{_≡_, refl}
@@ -11,7 +11,7 @@ use Rattle.spec.specs.Numbering.{Forward, Reversed, PartReport, Figures}
 use Rattle.spec.specs.Lent.{Outcome, accepted}
 use Rattle.spec.specs.Mesh.{startList, neighbourList}
 use Rattle.spec.specs.File.{fileGraph, fileRefusal}
-use Rattle.spec.specs.CallsLevels.{adjacencyAnswer, rootedAnswer, endsAnswer}
+use Rattle.spec.specs.CallsLevels.{adjacencyAnswer, rootedAnswer, rootedSizes, endsAnswer}
 use Rattle.spec.specs.CallsNumbering.{runAnswer, measuresAnswer}
 use Rattle.spec.specs.CallsStore.{EliminationFigures, eliminationAnswer}
 use Rattle.spec.proofs.Compute.{computes}
@@ -335,6 +335,26 @@ record ExampleTable : Type 0 where
   refusals-10 : refusals (0 ∷ 1 ∷ 2 ∷ []) (2 ∷ 1 ∷ []) 1 (2 ∷ 1 ∷ []) 6 ≡ (0 ∷ 0 ∷ 0 ∷ 0 ∷ 0 ∷ 8 ∷ [])
   -- 5 where 6n words are asked for, and one less is lent
   refusals-11 : refusals (0 ∷ 0 ∷ []) [] 1 (1 ∷ []) 5 ≡ (0 ∷ 0 ∷ 5 ∷ 5 ∷ 0 ∷ 0 ∷ [])
+  -- one node
+  sizes-1 : rootedSizes (0 ∷ 0 ∷ []) [] 1 (9 ∷ []) (9 ∷ []) ≡ (1 ∷ [])
+  -- an isolated root: zeros after the depth
+  sizes-2 : rootedSizes (0 ∷ 1 ∷ 1 ∷ 3 ∷ 4 ∷ []) (3 ∷ 1 ∷ 4 ∷ 3 ∷ []) 2 (9 ∷ 9 ∷ 9 ∷ 9 ∷ []) (9 ∷ 9 ∷ 9 ∷ 9 ∷ []) ≡ (1 ∷ 0 ∷ 0 ∷ 0 ∷ [])
+  -- the part of the root alone; longer lists keep their excess
+  sizes-3 : rootedSizes (0 ∷ 1 ∷ 3 ∷ 4 ∷ 5 ∷ 6 ∷ []) (2 ∷ 1 ∷ 4 ∷ 5 ∷ 2 ∷ 3 ∷ []) 5 (9 ∷ 9 ∷ 9 ∷ 9 ∷ 9 ∷ 9 ∷ []) (9 ∷ 9 ∷ 9 ∷ 9 ∷ 9 ∷ 9 ∷ 9 ∷ []) ≡ (1 ∷ 1 ∷ 0 ∷ 0 ∷ 0 ∷ 9 ∷ 9 ∷ [])
+  -- a path from an end: a level in each word
+  sizes-4 : rootedSizes (0 ∷ 1 ∷ 3 ∷ 5 ∷ 6 ∷ []) (2 ∷ 1 ∷ 3 ∷ 2 ∷ 4 ∷ 3 ∷ []) 4 (9 ∷ 9 ∷ 9 ∷ 9 ∷ []) (9 ∷ 9 ∷ 9 ∷ 9 ∷ []) ≡ (1 ∷ 1 ∷ 1 ∷ 1 ∷ [])
+  -- a star from its centre
+  sizes-5 : rootedSizes (0 ∷ 4 ∷ 5 ∷ 6 ∷ 7 ∷ 8 ∷ []) (2 ∷ 3 ∷ 4 ∷ 5 ∷ 1 ∷ 1 ∷ 1 ∷ 1 ∷ []) 1 (9 ∷ 9 ∷ 9 ∷ 9 ∷ 9 ∷ []) (9 ∷ 9 ∷ 9 ∷ 9 ∷ 9 ∷ []) ≡ (1 ∷ 4 ∷ 0 ∷ 0 ∷ 0 ∷ [])
+  -- a star from a leaf
+  sizes-6 : rootedSizes (0 ∷ 4 ∷ 5 ∷ 6 ∷ 7 ∷ 8 ∷ []) (2 ∷ 3 ∷ 4 ∷ 5 ∷ 1 ∷ 1 ∷ 1 ∷ 1 ∷ []) 3 (9 ∷ 9 ∷ 9 ∷ 9 ∷ 9 ∷ []) (9 ∷ 9 ∷ 9 ∷ 9 ∷ 9 ∷ []) ≡ (1 ∷ 1 ∷ 3 ∷ 0 ∷ 0 ∷ [])
+  -- thickest in the middle
+  sizes-7 : rootedSizes (0 ∷ 1 ∷ 5 ∷ 7 ∷ 9 ∷ 11 ∷ 15 ∷ 16 ∷ []) (2 ∷ 1 ∷ 3 ∷ 4 ∷ 5 ∷ 2 ∷ 6 ∷ 2 ∷ 6 ∷ 2 ∷ 6 ∷ 3 ∷ 4 ∷ 5 ∷ 7 ∷ 6 ∷ []) 1 (9 ∷ 9 ∷ 9 ∷ 9 ∷ 9 ∷ 9 ∷ 9 ∷ []) (9 ∷ 9 ∷ 9 ∷ 9 ∷ 9 ∷ 9 ∷ 9 ∷ []) ≡ (1 ∷ 1 ∷ 3 ∷ 1 ∷ 1 ∷ 0 ∷ 0 ∷ [])
+  -- a short list of levels: the sizes stay
+  sizes-8 : rootedSizes (0 ∷ 1 ∷ 2 ∷ 2 ∷ []) (2 ∷ 1 ∷ []) 1 (9 ∷ 9 ∷ []) (9 ∷ 9 ∷ 9 ∷ []) ≡ (9 ∷ 9 ∷ 9 ∷ [])
+  -- a short list of sizes: it stays
+  sizes-9 : rootedSizes (0 ∷ 1 ∷ 2 ∷ 2 ∷ []) (2 ∷ 1 ∷ []) 1 (9 ∷ 9 ∷ 9 ∷ []) (9 ∷ 9 ∷ []) ≡ (9 ∷ 9 ∷ [])
+  -- a root that is none: the sizes stay
+  sizes-10 : rootedSizes (0 ∷ 1 ∷ 2 ∷ 2 ∷ []) (2 ∷ 1 ∷ []) 4 (9 ∷ 9 ∷ 9 ∷ []) (9 ∷ 9 ∷ 9 ∷ []) ≡ (9 ∷ 9 ∷ 9 ∷ [])
   -- a wrong mark, and no node: 12 before 1
   file-1 : fileRefusal (71 ∷ 82 ∷ 88 ∷ 1 ∷ 0 ∷ 0 ∷ 0 ∷ 0 ∷ 0 ∷ []) ≡ 12
   -- a wrong version, and a node too many
@@ -418,6 +438,16 @@ example-table = record {
   refusals-9 = refl;
   refusals-10 = refl;
   refusals-11 = refl;
+  sizes-1 = refl;
+  sizes-2 = refl;
+  sizes-3 = refl;
+  sizes-4 = refl;
+  sizes-5 = refl;
+  sizes-6 = refl;
+  sizes-7 = refl;
+  sizes-8 = refl;
+  sizes-9 = refl;
+  sizes-10 = refl;
   file-1 = refl;
   file-2 = refl;
   file-3 = refl;
