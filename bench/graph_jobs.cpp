@@ -1,4 +1,4 @@
-// The adjacency test, the measures and the elimination: see jobs.h. BUILD is the namespace of this compilation.
+// The adjacency test, the rooted levels, the measures and the elimination: see jobs.h. BUILD is the namespace of this compilation.
 #include "jobs.h"
 
 #include <algorithm>
@@ -63,6 +63,63 @@ bool bare_test(const u16 *starts, const u16 *neighbours, u32 n) {
     }
   }
   return good;
+}
+
+// The neighbours of p that have no level get this one and join the queue; returns its end. It has room for all of the row.
+static inline u32 visit(const u16 *starts, const u16 *neighbours, u32 p, u32 level, u16 *__restrict levels, u16 *__restrict queue, u32 tail) {
+  for (u32 k = starts[p - 1]; k < starts[p]; k++) {
+    const u32 q = neighbours[k], old = levels[q - 1];
+    queue[tail] = u16(q);
+    tail += old == 0;
+    levels[q - 1] = u16(old == 0 ? level : old);
+  }
+  return tail;
+}
+
+// The same with a branch, where the queue may have no room for a node that is not new.
+static inline u32 visit_last(const u16 *starts, const u16 *neighbours, u32 p, u32 level, u16 *__restrict levels, u16 *__restrict queue, u32 tail) {
+  for (u32 k = starts[p - 1]; k < starts[p]; k++) {
+    const u32 q = neighbours[k];
+    if (levels[q - 1]) continue;
+    levels[q - 1] = u16(level);
+    queue[tail++] = u16(q);
+  }
+  return tail;
+}
+
+// The list of sizes is the queue too: level i ends behind word i - 1, which its size takes once its nodes have been visited. The search ends
+// where all nodes are found.
+void bare_rooted(const u16 *starts, const u16 *neighbours, u32 n, u32 root, u16 *levels, u16 *sizes, u64 *figures) {
+  u16 *queue = sizes;
+  clear(levels, n);
+  levels[root - 1] = 1;
+  queue[0] = u16(root);
+  u32 depth = 0, width = 0, begin = 0, end = 1, tail = 1;
+  while (begin < end) {
+    for (u32 head = begin; head < end && tail < n; head++) {
+      const u32 p = queue[head];
+      const bool room = tail + starts[p] - starts[p - 1] <= n;
+      tail = room ? visit(starts, neighbours, p, depth + 2, levels, queue, tail) : visit_last(starts, neighbours, p, depth + 2, levels, queue, tail);
+    }
+    width = std::max(width, end - begin);
+    sizes[depth++] = u16(end - begin);
+    begin = end;
+    end = tail;
+  }
+  clear(sizes + depth, n - depth);
+  figures[0] = depth;
+  figures[1] = width;
+  figures[2] = tail;
+}
+
+u16 rooted_levels(const u16 *starts, size_t starts_len, const u16 *neighbours, size_t neighbours_len, u16 root, u16 *levels,
+                  size_t levels_len, u16 *sizes, size_t sizes_len, u64 *figures, size_t figures_len) {
+  if (u16 refusal = test_adjacency(starts, starts_len, neighbours, neighbours_len)) return refusal;
+  const u32 n = u32(starts_len - 1);
+  if (levels_len < n || sizes_len < n || figures_len < 3) return 5;
+  if (root == 0 || root > n) return 6;
+  bare_rooted(starts, neighbours, n, root, levels, sizes, figures);
+  return 0;
 }
 
 // 7: whether the numbering has each of 1..n once. The n scratch words end as 0.

@@ -5,7 +5,8 @@ from math import exp, log
 # The line of docs/PERFORMANCE.md below which the tables stand.
 BELOW = '## Measured\n'
 
-CALLS = ('adjacency test', 'mesh', 'measures', 'whole run', 'elimination', 'measures, numbers as given', 'elimination, numbers as given')
+CALLS = ('adjacency test', 'rooted levels', 'mesh', 'measures', 'whole run', 'elimination', 'measures, numbers as given',
+         'elimination, numbers as given')
 EACH, MEAN = 2.0, 1.5
 
 

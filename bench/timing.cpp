@@ -18,33 +18,34 @@ typedef std::vector<u16> Words;
 // The calls of one program.
 struct Calls {
   decltype(&wagonepoch_test_adjacency) test_adjacency;
+  decltype(&wagonepoch_rooted_levels) rooted_levels;
   decltype(&wagonepoch_mesh) mesh;
   decltype(&wagonepoch_run) run;
   decltype(&wagonepoch_measures) measures;
   decltype(&wagonepoch_eliminate) eliminate;
 };
 
-#define CALLS_OF(build) {build::test_adjacency, build::mesh, build::run, build::measures, build::eliminate}
+#define CALLS_OF(build) {build::test_adjacency, build::rooted_levels, build::mesh, build::run, build::measures, build::eliminate}
 static const Calls PROGRAMS[] = {
-    {wagonepoch_test_adjacency, wagonepoch_mesh, wagonepoch_run, wagonepoch_measures, wagonepoch_eliminate},
+    {wagonepoch_test_adjacency, wagonepoch_rooted_levels, wagonepoch_mesh, wagonepoch_run, wagonepoch_measures, wagonepoch_eliminate},
     CALLS_OF(any_processor),
     CALLS_OF(this_processor),
 };
 
 // What is lent to a call, and its answer. A list may be longer than it need be.
 struct Lent {
-  Words starts, neighbours, numbers, levels, scratch;
+  Words starts, neighbours, numbers, levels, sizes, scratch;
   std::vector<u8> bytes;
   std::vector<u64> figures;
   u16 answer;
 
   explicit Lent(size_t n, size_t byte_count = 0)
-      : starts(n + 3, 60001), neighbours(32770, 60002), numbers(n + 2, 60003), levels(n + 2, 60004), scratch(6 * n + 2, 60005),
-        bytes(byte_count + 2, 165), figures(12, 60006), answer(65535) {}
+      : starts(n + 3, 60001), neighbours(32770, 60002), numbers(n + 2, 60003), levels(n + 2, 60004), sizes(n + 2, 60007),
+        scratch(6 * n + 2, 60005), bytes(byte_count + 2, 165), figures(12, 60006), answer(65535) {}
 
   bool operator==(const Lent &o) const {
     return answer == o.answer && starts == o.starts && neighbours == o.neighbours && numbers == o.numbers && levels == o.levels &&
-           scratch == o.scratch && bytes == o.bytes && figures == o.figures;
+           sizes == o.sizes && scratch == o.scratch && bytes == o.bytes && figures == o.figures;
   }
 };
 
@@ -52,6 +53,7 @@ struct Lent {
 struct Given {
   size_t n;
   Words elements, starts, neighbours, numbering;
+  u16 root;
 };
 
 // A pointer is never null, also that of an empty list.
@@ -64,6 +66,10 @@ typedef std::function<void(const Calls &, const Given &, Lent &)> Job;
 
 static void test_job(const Calls &c, const Given &g, Lent &l) {
   l.answer = c.test_adjacency(data(g.starts), g.starts.size(), data(g.neighbours), g.neighbours.size());
+}
+static void rooted_job(const Calls &c, const Given &g, Lent &l) {
+  l.answer = c.rooted_levels(data(g.starts), g.starts.size(), data(g.neighbours), g.neighbours.size(), g.root, l.levels.data(),
+                             l.levels.size(), l.sizes.data(), l.sizes.size(), l.figures.data(), l.figures.size());
 }
 static void mesh_job(const Calls &c, const Given &g, Lent &l) {
   l.answer = c.mesh(g.n, data(g.elements), g.elements.size(), l.starts.data(), l.starts.size(), l.neighbours.data(), l.neighbours.size(),
@@ -109,7 +115,7 @@ static void try_refusals(const Given &good, size_t byte_count) {
     damage(given, lent);
     agreed("a refusal", job, given, lent, wanted);
   };
-  for (const Job &job : {Job(test_job), Job(run_job), Job(measures_job), Job(eliminate_job)}) {
+  for (const Job &job : {Job(test_job), Job(rooted_job), Job(run_job), Job(measures_job), Job(eliminate_job)}) {
     refused(job, 1, [](Given &g, Lent &) { g.starts.clear(); });
     refused(job, 1, [](Given &g, Lent &) { g.starts.resize(1); });
     refused(job, 1, [](Given &g, Lent &) { g.starts.resize(4098, g.starts.back()); });
@@ -132,6 +138,12 @@ static void try_refusals(const Given &good, size_t byte_count) {
     refused(job, 5, [n](Given &, Lent &l) { l.scratch.resize(n - 1); });
     refused(job, 5, [](Given &, Lent &l) { l.figures.clear(); });
   }
+  // 5 comes before 6
+  refused(rooted_job, 5, [n](Given &g, Lent &l) { l.levels.resize(n - 1), g.root = 0; });
+  refused(rooted_job, 5, [n](Given &g, Lent &l) { l.sizes.resize(n - 1), g.root = 0; });
+  refused(rooted_job, 5, [](Given &, Lent &l) { l.figures.resize(2); });
+  refused(rooted_job, 6, [](Given &g, Lent &) { g.root = 0; });
+  refused(rooted_job, 6, [n](Given &g, Lent &) { g.root = u16(n + 1); });
   refused(run_job, 5, [n](Given &, Lent &l) { l.numbers.resize(n - 1); });
   refused(run_job, 5, [n](Given &, Lent &l) { l.levels.resize(n - 1); });
   refused(run_job, 5, [n](Given &, Lent &l) { l.scratch.resize(6 * n - 1); });
@@ -162,6 +174,20 @@ static void try_collapsed(const Given &good) {
   if (!given.elements.empty()) given.elements[2] = given.elements[1];
   given.elements.insert(given.elements.end(), {1, 1, 1});
   agreed("collapsed elements", mesh_job, given, Lent(good.n), 0);
+}
+
+// Rooted levels from a few nodes, in lists as long as they must be.
+static void try_roots(const Given &good) {
+  Given given = good;
+  const size_t n = good.n;
+  for (size_t root : {size_t(1), (n + 1) / 2, n}) {
+    given.root = u16(root);
+    Lent lent(n);
+    agreed("rooted levels", rooted_job, given, lent, 0);
+    lent.levels.resize(n);
+    lent.sizes.resize(n);
+    agreed("rooted levels", rooted_job, given, lent, 0);
+  }
 }
 
 static u64 now() {
@@ -230,7 +256,7 @@ struct Case {
 
 // Compares the calls that make the case, and prints its figures.
 static Case compare(const Words &file) {
-  Given g = {file[1], Words(file.begin() + 3, file.end()), {}, {}, {}};
+  Given g = {file[1], Words(file.begin() + 3, file.end()), {}, {}, {}, 1};
   const long n = file[1];
   const Lent lists = agreed("mesh", mesh_job, g, Lent(g.n), 0);
   g.starts.assign(lists.starts.begin(), lists.starts.begin() + n + 1);
@@ -252,6 +278,8 @@ static void time_lists(const Given &g, bool quick) {
   Lent own(n);
   using namespace this_processor;
   time_job("adjacency test", test_job, g, Lent(n), [&] { bare_test(starts, neighbours, n); }, quick);
+  time_job("rooted levels", rooted_job, g, Lent(n),
+           [&] { bare_rooted(starts, neighbours, n, g.root, own.levels.data(), own.sizes.data(), own.figures.data()); }, quick);
   time_job("mesh", mesh_job, g, Lent(n),
            [&] { bare_mesh(n, data(g.elements), g.elements.size(), own.starts.data(), own.neighbours.data(), own.figures.data()); }, quick);
   time_job("whole run", run_job, g, Lent(n),
@@ -281,6 +309,7 @@ static void bench(const std::string &path, bool quick) {
   const Case c = compare(words_of(path));
   const size_t n = c.given.n;
   try_collapsed(c.given);
+  try_roots(c.given);
   if (n < 1500) try_refusals(c.given, (c.measured.figures[1] + 7) / 8);  // larger ones take long and tell no more
   time_lists(c.given, quick);
   Given by_run = c.given;
