@@ -9,19 +9,20 @@ use lib.Dec.{eqb, ltb}
 use borrow.Rule.Slice.PartMut.{postOf}
 use borrow.Author.Tests.{lt-ltb, le-ltb, eqb-false, ltb-false}
 use Rattle.basis.proofs.Logic.{or-none, or-left, or-right, or-neither}
-use Rattle.spec.specs.CallsLevels.{levelFigures, rootedRefusal, rootedAnswer, rootedLevels, partScratch, partRefusal, endsAnswer, endsScratch}
+use Rattle.spec.specs.CallsLevels.{levelFigures, rootedRefusal, rootedAnswer, rootedLevels, rootedSizes, partScratch, partRefusal, endsAnswer, endsScratch}
 use Rattle.spec.specs.CallsLevels.{combinedFigures, combinedRefusal, combinedAnswer, combinedLevels, combinedScratch}
 use Rattle.spec.specs.Combined.{combined}
 use Rattle.spec.specs.Ends.{ends}
 use Rattle.spec.specs.Graph.{Graph, graphOf, sizeOf, graphRefusal, outside}
 use Rattle.spec.specs.Lent.{accepted, refused, outcome, zeroed, wordsPerNode, short}
-use Rattle.spec.specs.Levels.{levels, levelList}
+use Rattle.spec.specs.Levels.{levels, levelList, sizeList}
 use Rattle.spec.specs.Refusal.{refuse, _orElse_}
 use Rattle.laws.specs.Legal.{Node}
 use Rattle.laws.proofs.Combined.{combined-of}
 use Rattle.laws.proofs.Ends.{ends-of}
 use Rattle.laws.proofs.Figures.{length-levelList}
 use Rattle.laws.proofs.Lent.{answer-refused, filled-refused, answer-accepted, filled-accepted, scratch-refused, scratch-accepted}
+use Rattle.laws.proofs.Sizes.{sizes-length}
 use Rattle.graph.specs.Facts.{LegalLists, RefusedLists}
 use Rattle.graph.proofs.Answers.{refused-first, legal-next}
 use Rattle.levels_ends.proofs.Areas.{front-back}
@@ -57,43 +58,56 @@ module _ {S N : List ℕ} {b o : Bool} {code : ℕ} (T : Tests S N b o code) whe
 
 -- ---- rooted levels
 
-module _ (S N : List ℕ) (root : ℕ) (B : List ℕ) where
-  pub record RootedRefused (c : ℕ) : Type 0 where
-    pub answer : refused c ≡ rootedAnswer S N root B
-    pub untouched : B ≡ rootedLevels S N root B
+-- refused by c: both lists stay as they are
+pub record RootedRefused (S N : List ℕ) (root : ℕ) (B Z : List ℕ) (c : ℕ) : Type 0 where
+  pub answer : refused c ≡ rootedAnswer S N root B Z
+  pub untouched : B ≡ rootedLevels S N root B Z
+  pub kept : Z ≡ rootedSizes S N root B Z
 
-  refusal : (c : ℕ) → rootedRefusal S N root B ≡ c → 1 ≤ c → RootedRefused c
-  unfolding rootedAnswer rootedLevels
-  refusal c e l = record { answer = answer-refused (rootedRefusal S N root B) c _ e l; untouched = filled-refused (rootedRefusal S N root B) c _ B e l }
+-- accepted: the front of both is new, the excess stays
+pub record RootedAccepted (S N : List ℕ) (root : ℕ) (B Z : List ℕ) : Type 0 where
+  pub answer : accepted (levelFigures (levels (graphOf S N) root)) ≡ rootedAnswer S N root B Z
+  pub filled : levelList (graphOf S N) (levels (graphOf S N) root) ++ drop (sizeOf S) B ≡ rootedLevels S N root B Z
+  pub sized : sizeList (graphOf S N) (levels (graphOf S N) root) ++ drop (sizeOf S) Z ≡ rootedSizes S N root B Z
 
-  rooted-tests : Tests S N (short B (sizeOf S)) (outside (sizeOf S) root) (rootedRefusal S N root B)
-  unfolding rootedRefusal
-  rooted-tests = record { is = refl }
+rooted-tests : (S N : List ℕ) (root : ℕ) (B Z : List ℕ)
+    → Tests S N (short B (sizeOf S) || short Z (sizeOf S)) (outside (sizeOf S) root) (rootedRefusal S N root B Z)
+unfolding rootedRefusal
+rooted-tests S N root B Z = record { is = refl }
+
+module _ {S N : List ℕ} {root : ℕ} {B Z : List ℕ} where
+  rooted-refusal : (c : ℕ) → rootedRefusal S N root B Z ≡ c → 1 ≤ c → RootedRefused S N root B Z c
+  unfolding rootedAnswer rootedLevels rootedSizes
+  rooted-refusal c e l =
+      let code = rootedRefusal S N root B Z in
+      record { answer = answer-refused code c _ e l; untouched = filled-refused code c _ B e l; kept = filled-refused code c _ Z e l }
 
   -- 1 to 4
-  pub rooted-lists : {c : ℕ} → RefusedLists S N c → RootedRefused c
-  rooted-lists {c} R = refusal c (by-lists rooted-tests R) (R .some)
+  pub rooted-lists : {c : ℕ} → RefusedLists S N c → RootedRefused S N root B Z c
+  rooted-lists {c} R = rooted-refusal c (by-lists (rooted-tests S N root B Z) R) (R .some)
 
   module _ (G : LegalLists S N) where
-    pub rooted-short : length B < sizeOf S → RootedRefused 5
-    rooted-short h = refusal 5 (by-short rooted-tests G (lt-ltb (length B) (sizeOf S) h)) (omega arith)
+    pub rooted-short-levels : length B < sizeOf S → RootedRefused S N root B Z 5
+    rooted-short-levels h = rooted-refusal 5 (by-short (rooted-tests S N root B Z) G (or-left (short Z (sizeOf S)) (lt-ltb (length B) (sizeOf S) h))) (omega arith)
 
-    module _ (room : sizeOf S ≤ length B) where
-      pub rooted-outside : outside (sizeOf S) root ≡ true → RootedRefused 6
-      rooted-outside h = refusal 6 (by-outside rooted-tests G (le-ltb (length B) (sizeOf S) room) h) (omega arith)
+    pub rooted-short-sizes : short Z (sizeOf S) ≡ true → RootedRefused S N root B Z 5
+    rooted-short-sizes h = rooted-refusal 5 (by-short (rooted-tests S N root B Z) G (or-right (short B (sizeOf S)) h)) (omega arith)
 
-      rooted-none : outside (sizeOf S) root ≡ false → rootedRefusal S N root B ≡ 0
-      rooted-none h = by-none rooted-tests G (le-ltb (length B) (sizeOf S) room) h
+    module _ (room : sizeOf S ≤ length B) (words : short Z (sizeOf S) ≡ false) where
+      pub rooted-outside : outside (sizeOf S) root ≡ true → RootedRefused S N root B Z 6
+      rooted-outside h = rooted-refusal 6 (by-outside (rooted-tests S N root B Z) G (or-neither (le-ltb (length B) (sizeOf S) room) words) h) (omega arith)
 
-      pub rooted-answer : outside (sizeOf S) root ≡ false → accepted (levelFigures (levels (graphOf S N) root)) ≡ rootedAnswer S N root B
-      unfolding rootedAnswer
-      rooted-answer h = answer-accepted (rootedRefusal S N root B) _ (rooted-none h)
-
-      pub rooted-levels : outside (sizeOf S) root ≡ false → levelList (graphOf S N) (levels (graphOf S N) root) ++ drop (sizeOf S) B ≡ rootedLevels S N root B
-      unfolding rootedLevels
-      rooted-levels h =
+      pub rooted-accepted : outside (sizeOf S) root ≡ false → RootedAccepted S N root B Z
+      unfolding rootedAnswer rootedLevels rootedSizes
+      rooted-accepted h =
           let g = graphOf S N in
-          filled-accepted (rootedRefusal S N root B) (sizeOf S) (levelList g (levels g root)) B (rooted-none h) (length-levelList g (levels g root))
+          let code = rootedRefusal S N root B Z in
+          let z : code ≡ 0 = by-none (rooted-tests S N root B Z) G (or-neither (le-ltb (length B) (sizeOf S) room) words) h in
+          record {
+            answer = answer-accepted code _ z;
+            filled = filled-accepted code (sizeOf S) (levelList g (levels g root)) B z (length-levelList g (levels g root));
+            sized = filled-accepted code (sizeOf S) (sizeList g (levels g root)) Z z (sizes-length g root);
+          }
 
 -- ---- a call on one part that answers a: the end search, the part report
 

@@ -7,7 +7,7 @@ pub mod shape;
 
 ghost use mathlib.Core.Path.{_≡_};
 ghost use Rattle.basis.specs.Moments.{was, left};
-ghost use Rattle.spec.specs.CallsLevels.{rootedAnswer, rootedLevels, endsAnswer, endsScratch, combinedAnswer, combinedLevels, combinedScratch};
+ghost use Rattle.spec.specs.CallsLevels.{rootedAnswer, rootedLevels, rootedSizes, endsAnswer, endsScratch, combinedAnswer, combinedLevels, combinedScratch};
 ghost use Rattle.levels.specs.Answers.{rootedMeaning, endsMeaning, combinedMeaning};
 use answer::CombinedAnswer;
 use answer::EndsAnswer;
@@ -15,28 +15,38 @@ use answer::RootedAnswer;
 use graph::Adjacency;
 use legal::WORDS_PER_NODE;
 use legal::no_node;
+use levels_rooted::legal::rooted;
 
-// Rooted levels: depth, width and the count reached; the levels by old number in the n words lent.
+// Rooted levels: depth, width and the count reached; in the n words lent for each, the levels by old number, and the size of each level with
+// zeros after the depth.
 pub fn rooted_levels(
     starts: &[u16],
     neighbours: &[u16],
     root: u16,
     levels: &mut [u16],
+    sizes: &mut [u16],
 ) -> RootedAnswer
-    ensures { λ r. ⌜ rootedMeaning r ≡ rootedAnswer (was starts) (was neighbours) root (was levels) ⌝ }
-    ensures { λ _. ⌜ left levels ≡ rootedLevels (was starts) (was neighbours) root (was levels) ⌝ }
+    ensures { λ r. ⌜ rootedMeaning r ≡ rootedAnswer (was starts) (was neighbours) root (was levels) (was sizes) ⌝ }
+    ensures { λ _. ⌜ left levels ≡ rootedLevels (was starts) (was neighbours) root (was levels) (was sizes) ⌝ }
+    ensures { λ _. ⌜ left sizes ≡ rootedSizes (was starts) (was neighbours) root (was levels) (was sizes) ⌝ }
 {
     match graph::test_adjacency(starts, neighbours) {
         Adjacency::Refused(c) => RootedAnswer::Refused(c),
         Adjacency::Legal => {
             let n = starts.len() - 1;
-            if levels.len() < n {
+            if levels.len() < n || sizes.len() < n {
                 return RootedAnswer::Refused(5);
             }
             if no_node(n, root) {
                 return RootedAnswer::Refused(6);
             }
-            let f = levels_scan::legal::scan(starts, neighbours, root, &mut levels[0..n]);
+            let f = rooted(
+                starts,
+                neighbours,
+                root,
+                &mut levels[0..n],
+                &mut sizes[0..n],
+            );
             RootedAnswer::Levels {
                 depth: f.depth,
                 width: f.width,

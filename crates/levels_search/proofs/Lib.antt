@@ -2,8 +2,11 @@ pub mod Tallies
 pub mod Marks
 pub mod Stores
 pub mod Moves
+pub mod Going
+pub mod Expands
 pub mod Visits
 pub mod Round
 pub mod Level
+pub mod Window
 pub mod Rounds
 pub mod Tail

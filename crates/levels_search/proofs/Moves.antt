@@ -18,7 +18,7 @@ use Rattle.spec.specs.Graph.{ofNode}
 use Rattle.levels_search.specs.Marks.{within, free, marked, found}
 use Rattle.levels_search.specs.Queue.{Ready, Pushed}
 use Rattle.levels_search.proofs.Stores.{drop-later}
-use Rattle.levels_search.proofs.Marks.{mark-is, marked-none, length-marked, marked-append, found-append, times-none}
+use Rattle.levels_search.proofs.Marks.{mark-is, marked-none, length-marked, marked-append, found-append, found-taken, times-mark, times-none}
 
 -- ---- entries of 1 to n
 
@@ -77,6 +77,19 @@ module _ {j : ℕ} {L Q : List ℕ} {t : ℕ} (R : Ready L Q t j) where
       kept : (b : Bool) → bit b ≡ length (consIf b v [])
       kept true = refl
       kept false = refl
+
+  -- a node with no level is written where the queue ends, and there is room
+  module _ {v : ℕ} (lo : 1 ≤ v) (hi : v ≤ length L) where
+    pub pushed-room : ofNode L v ≡ 0 → t < length Q
+    pushed-room e = omega (arith, R .room, times-mark j (R .pos) L v (length L) refl lo hi e)
+
+    pub pushed-new : ofNode L v ≡ 0 → Pushed (v ∷ []) j L Q t (set L (v - 1) j) (set Q t v) (t + 1)
+    pushed-new e = rw e at (pushed-one v lo (pushed-room e))
+
+  -- a node that has a level stays as it is
+  pub pushed-old : (v : ℕ) → (ofNode L v ≡ 0 → ⊥) → Pushed (v ∷ []) j L Q t L Q t
+  unfolding found
+  pushed-old v e = pushed-none (v ∷ []) (ap length (found-taken j (R .pos) L v [] e))
 
   -- how far the queue goes with the nodes ys too
   pub pushed-count : {xs L′ Q′ : List ℕ} {t′ : ℕ} → Pushed xs j L Q t L′ Q′ t′

@@ -1,11 +1,11 @@
 -- One node visited, two nodes, and the nodes of a row in turn, in levels and queue of one list. Assumes nothing.
 use mathlib.Core.Path.{_≡_, sym, ap, _∙_, subst}
 use mathlib.Core.Bool.{true, cond}
-use mathlib.Core.List.{List, [], _∷_, _++_}
+use mathlib.Core.List.{List, [], _∷_}
 use Prim.Native.Nat.{ℕ, suc, _+_, _-_, _≤_, _<_}
 use native.Mathlib.Numerals.{add-one}
 use native.Mathlib.Omega.{arith}
-use lib.ListN.{length, take, drop, getD, set, drop-of-length-le, length-set}
+use lib.ListN.{length, take, drop, getD, set, length-set}
 use lib.Seq.{drop-cons, getD-take, getD-set-other}
 use lib.Dec.{eqb, ltb}
 use borrow.Author.Tests.{ltb-true}
@@ -14,10 +14,10 @@ use Rattle.basis.proofs.Logic.{by-test, clash}
 use Rattle.basis.proofs.Walk.{chain-broken}
 use Rattle.spec.specs.Graph.{ofNode}
 use Rattle.laws.proofs.Legal.{ofNode-at}
-use Rattle.levels_search.specs.Marks.{within, found}
+use Rattle.levels_search.specs.Marks.{within}
 use Rattle.levels_search.specs.Queue.{Pushed, Lent, Moved}
-use Rattle.levels_search.proofs.Marks.{found-taken, times-mark}
-use Rattle.levels_search.proofs.Moves.{within-at, pushed-none, pushed-one, pushed-append, pushed-ready}
+use Rattle.levels_search.proofs.Going.{Going, going-begin, going-step, going-node, going-one, going-done}
+use Rattle.levels_search.proofs.Moves.{within-at, pushed-one, pushed-room, pushed-old, pushed-append, pushed-ready}
 use Rattle.levels_search.proofs.Stores.{write-front, write-behind, front-length, behind-length}
 
 module _ {n : ℕ} {W : List ℕ} {tail j : ℕ} (R : Lent n W tail j) where
@@ -33,9 +33,11 @@ module _ {n : ℕ} {W : List ℕ} {tail j : ℕ} (R : Lent n W tail j) where
     level-is : ofNode (take n W) v ≡ w
     level-is = ofNode-at (take n W) v lo ∙ getD-take n W (v - 1) 0 (omega arith)
 
+    high : v ≤ length (take n W)
+    high = omega (arith, front-length n W (R .size))
+
     pub has-room : w ≡ 0 → tail < n
-    has-room e =
-        omega (arith, R .ready .room, behind-length n W (R .size), times-mark j (R .ready .pos) (take n W) v n (front-length n W (R .size)) lo hi (level-is ∙ e))
+    has-room e = omega (arith, pushed-room (R .ready) lo high (level-is ∙ e), behind-length n W (R .size))
 
     -- its word and the one where the queue ends are written
     pub one : tail < n → Moved n (v ∷ []) j W tail (set (set W (v - 1) (cond (eqb w 0) j w)) (n + tail) v) (tail + bit (eqb w 0))
@@ -46,8 +48,7 @@ module _ {n : ℕ} {W : List ℕ} {tail j : ℕ} (R : Lent n W tail j) where
         level-is (pushed-one (R .ready) v lo (omega (arith, behind-length n W (R .size)))))
 
     pub old : (w ≡ 0 → ⊥) → Moved n (v ∷ []) j W tail W tail
-    unfolding found
-    old e = pushed-none (R .ready) (v ∷ []) (ap length (found-taken j (R .ready .pos) (take n W) v [] (λ z. e (sym level-is ∙ z))))
+    old e = pushed-old (R .ready) v (λ z. e (sym level-is ∙ z))
 
 -- two nodes, of which the second's word is read before the first's is written
 module _ {n : ℕ} {W : List ℕ} {tail j : ℕ} (R : Lent n W tail j) {u v : ℕ} (lo : 1 ≤ u) (lt : u < v) (hi : v ≤ n) (h : tail + 1 < n) where
@@ -78,47 +79,38 @@ module _ {n : ℕ} {W : List ℕ} {tail j : ℕ} (R : Lent n W tail j) {u v : �
       let R′ : Lent n X t j = lent-next R (lo, omega arith, tt) size P in
       rw y-is at (pushed-append (R .ready) P (one R′ (omega arith) hi t-in))
 
--- at the loop's head of `visit`: what the rest of the row does from here is what the row does from the start
+-- at the loop's head of `visit`
 pub record Visiting (row : List ℕ) (n : ℕ) (W₀ : List ℕ) (tail j : ℕ) (W : List ℕ) (t k : ℕ) : Type 0 where
-  pub lent : Lent n W t j
-  pub fine : within n row
+  pub full : length W ≡ n + n
   pub rises : chainb ltb row ≡ true
-  pub most : k ≤ length row
-  pub goes : {L′ Q′ : List ℕ} {t′ : ℕ} → Pushed (drop k row) j (take n W) (drop n W) t L′ Q′ t′ → Pushed row j (take n W₀) (drop n W₀) tail L′ Q′ t′
+  pub on : Going row n (take n W₀) (drop n W₀) tail j (take n W) (drop n W) t k
 
 pub visit-begin : {row W : List ℕ} {n tail j : ℕ} → Lent n W tail j → within n row → chainb ltb row ≡ true → Visiting row n W tail j W tail 0
-visit-begin R w r = record { lent = R; fine = w; rises = r; most = omega arith; goes = λ P. P }
+visit-begin {W = W} {n} R w r = record { full = R .size; rises = r; on = going-begin (R .ready) (front-length n W (R .size)) w }
 
 module _ {row W₀ : List ℕ} {n tail j : ℕ} {W : List ℕ} {t k : ℕ} (I : Visiting row n W₀ tail j W t k) where
-  step : {vs W′ : List ℕ} {t′ k′ : ℕ} → drop k row ≡ vs ++ drop k′ row → within n vs → k′ ≤ length row → length W′ ≡ length W → Moved n vs j W t W′ t′
-      → Visiting row n W₀ tail j W′ t′ k′
-  step r w m e P = record {
-    lent = lent-next (I .lent) w e P;
-    fine = I .fine;
-    rises = I .rises;
-    most = m;
-    goes = λ P′. I .goes (rw r (pushed-append (I .lent .ready) P P′));
-  }
+  pub lent : Lent n W t j
+  lent = record { size = I .full; ready = I .on .ready }
 
   pub t-most : t ≤ n
-  t-most = omega (arith, I .lent .ready .room, behind-length n W (I .lent .size))
+  t-most = omega (arith, I .on .ready .room, behind-length n W (I .full))
 
   module _ (h : k < length row) where
     abbrev a : ℕ
     a = getD row k 0
 
     pub a-node : (1 ≤ a) × (a ≤ n)
-    a-node = within-at n row k (I .fine) h
+    a-node = going-node (I .on) h
 
     pub step-one : {W′ : List ℕ} {t′ : ℕ} → length W′ ≡ length W → Moved n (a ∷ []) j W t W′ t′ → Visiting row n W₀ tail j W′ t′ (k + 1)
-    step-one e P = step (rw add-one (drop-cons row k 0 h)) (a-node .0, a-node .1, tt) (omega arith) e P
+    step-one e P = record { full = e ∙ I .full; rises = I .rises; on = going-one (I .on) h P }
 
   module _ (h : k + 1 < length row) where
     abbrev b : ℕ
     b = getD row (k + 1) 0
 
     b-node : (1 ≤ b) × (b ≤ n)
-    b-node = within-at n row (k + 1) (I .fine) h
+    b-node = within-at n row (k + 1) (I .on .fine) h
 
     pub both-nodes : within n (getD row k 0 ∷ b ∷ [])
     both-nodes = let g : k < length row = omega arith in (a-node g .0, a-node g .1, (b-node .0, b-node .1, tt))
@@ -134,11 +126,14 @@ module _ {row W₀ : List ℕ} {n tail j : ℕ} {W : List ℕ} {t k : ℕ} (I : 
     step-two e P =
         let two : k + 2 ≡ suc (k + 1) = omega arith in
         let g : k < length row = omega arith in
-        step
-        (drop-cons row k 0 g ∙ ap (λ (l : List ℕ). getD row k 0 ∷ l) (ap (λ (i : ℕ). drop i row) (sym (add-one k)) ∙ drop-cons row (k + 1) 0 h
-        ∙ ap (λ (i : ℕ). b ∷ drop i row) (sym two)))
-        both-nodes (omega arith) e P
+        record {
+          full = e ∙ I .full;
+          rises = I .rises;
+          on = going-step (I .on)
+              (drop-cons row k 0 g ∙ ap (λ (l : List ℕ). getD row k 0 ∷ l) (ap (λ (i : ℕ). drop i row) (sym (add-one k)) ∙ drop-cons row (k + 1) 0 h
+              ∙ ap (λ (i : ℕ). b ∷ drop i row) (sym two)))
+              both-nodes (omega arith) P;
+        }
 
   pub visit-done : length row ≤ k → Moved n row j W₀ tail W t
-  unfolding found
-  visit-done h = I .goes (pushed-none (I .lent .ready) (drop k row) (ap (λ (l : List ℕ). length (found j (take n W) l)) (drop-of-length-le row h)))
+  visit-done h = going-done (I .on) h

@@ -15,7 +15,8 @@ use Rattle.levels_search.specs.Answer.{Searched}
 use Rattle.levels_search.proofs.Round.{readable}
 use Rattle.levels_search.proofs.Stores.{write-front, write-behind, take-replicate, drop-replicate}
 use Rattle.levels_search.proofs.Level.{w-most}
-use Rattle.levels_search.proofs.Rounds.{Rounds, begin, step, nodes-in, b-most, room, bound, numbers, searched}
+use Rattle.levels_search.proofs.Rounds.{Rounds, begin, step, numbers, searched}
+use Rattle.levels_search.proofs.Window.{nodes-in, b-most, ready, bound}
 use Rattle.levels_search.proofs.legal.search.Statement.{statement}
 use Rattle.levels_search.proofs.legal.search.Tie as tie
 
@@ -71,14 +72,14 @@ module _ {S N : List ℕ} {root n : ℕ} {W : List ℕ} {last a b d w : ℕ} (I 
   lent : Lent n W b (d + 1 + 1)
   lent = record {
     size = I .full;
-    ready = record { pos = omega arith; room = room (I .on) };
+    ready = ready (I .on .window);
   }
 
   graph : Readable n S N
-  graph = rw (I .is) (readable S N (I .on .level .legal))
+  graph = rw (I .is) (readable S N (I .on .window .level .legal))
 
   window : within n (slice a b (drop n W))
-  window = subst (λ (m : ℕ). within m (slice a b (drop n W))) (sym (I .is)) (nodes-in (I .on))
+  window = subst (λ (m : ℕ). within m (slice a b (drop n W))) (sym (I .is)) (nodes-in (I .on .window))
 
   again : {W′ : List ℕ} {b′ w′ : ℕ} → a < b → length W′ ≡ length W
       → Pushed (rows S N (slice a b (drop n W))) (d + 1 + 1) (take n W) (drop n W) b (take n W′) (drop n W′) b′ → w′ ≡ max w (b - a)
@@ -92,16 +93,16 @@ module _ {S N : List ℕ} {root n : ℕ} {W : List ℕ} {last a b d w : ℕ} (I 
       (sym (ap (drop n) e ∙ drop-set-add n W b 0) ∙ ap (λ (m : ℕ). drop m X) (I .is))
 
   d-small : a < b → d < 4096
-  d-small h = omega (arith, I .on .level .early, b-most (I .on), readable S N (I .on .level .legal) .starts .few)
+  d-small h = omega (arith, I .on .window .level .early, b-most (I .on .window), readable S N (I .on .window .level .legal) .starts .few)
 
   b-small : b ≤ 4096
-  b-small = omega (arith, b-most (I .on), readable S N (I .on .level .legal) .starts .few)
+  b-small = omega (arith, b-most (I .on .window), readable S N (I .on .window .level .legal) .starts .few)
 
   w-small : w ≤ 4096
-  w-small = omega (arith, w-most (I .on .level), readable S N (I .on .level .legal) .starts .few)
+  w-small = omega (arith, w-most (I .on .window .level), readable S N (I .on .window .level .legal) .starts .few)
 
   last-small : last ≤ 4096
-  last-small = omega (arith, b-small, I .on .tail-before, I .on .order)
+  last-small = omega (arith, b-small, I .on .tail-before, I .on .window .order)
 
 abbrev Inv-loop : tie.InvT-loop
 Inv-loop starts neighbours root most work₀ n at last₀ a₀ b₀ depth₀ width₀ work last a b depth width = Inside starts neighbours root n work last a b depth width
@@ -139,7 +140,7 @@ loop-holds : tie.Need-loop-holds Inv-loop μ-loop
 loop-holds c = begins (start c) (c .wide .ensures)
 
 sub-larger : tie.Need-sub-larger Inv-loop μ-loop
-sub-larger c = c .before .loop .inv .on .order
+sub-larger c = c .before .loop .inv .on .window .order
 
 larger-requires : tie.Need-larger-requires Inv-loop μ-loop
 larger-requires c κs = search needs
@@ -154,10 +155,10 @@ expand-requires : tie.Need-expand-requires Inv-loop μ-loop
 expand-requires c κs =
     let I = c .before .before .before .loop .inv in
     let s = c .before .before .before .before .before .before .before .before in
-    (lent I, (graph I, (I .on .order, (window I, le-trans (bound (I .on) (c .before .before .loop-test .taken)) (s .pre .1 .1 .0)))))
+    (lent I, (graph I, (I .on .window .order, (window I, le-trans (bound (I .on .window) (c .before .before .loop-test .taken)) (s .pre .1 .1 .0)))))
 
 loop-less : tie.Need-loop-less Inv-loop μ-loop
-loop-less c = omega (arith, c .before .before .before .before .before .loop-test .taken, b-most (c .before .before .before .before .before .before .loop .inv .on))
+loop-less c = omega (arith, c .before .before .before .before .before .loop-test .taken, b-most (c .before .before .before .before .before .before .loop .inv .on .window))
 
 loop-again : tie.Need-loop-again Inv-loop μ-loop
 loop-again c = again (c .before .before .before .before .before .before .loop .inv) (c .before .before .before .before .before .loop-test .taken) (c .before .before .expand .kept .1 .1 .0) (c .before .before .expand .ensures) (c .before .before .before .before .larger .ensures)

@@ -5,7 +5,7 @@ use native.Mathlib.Omega.{arith}
 use lib.ListN.{length}
 use borrow.Author.Needs.{needs}
 use borrow.Author.Tests.{ltb-true}
-use Rattle.levels_search.proofs.Visits.{Visiting, visit-begin, t-most, a-node, both-nodes, a-before, step-one, step-two, visit-done}
+use Rattle.levels_search.proofs.Visits.{Visiting, visit-begin, lent, t-most, a-node, both-nodes, a-before, step-one, step-two, visit-done}
 use Rattle.levels_search.proofs.legal.visit.Statement.{statement}
 use Rattle.levels_search.proofs.legal.visit.Tie as tie
 
@@ -46,7 +46,7 @@ visit-two-requires c κs =
     let s = at-loop .before .before .before in
     let I = at-loop .loop .inv in
     let h = at-test .if1 .taken in
-    (I .lent, (both-nodes I h, (a-before I h, ltb-true (at-loop .loop .t + 1) (s .args .n) (c .before .before .before .if2 .taken))))
+    (lent I, (both-nodes I h, (a-before I h, ltb-true (at-loop .loop .t + 1) (s .args .n) (c .before .before .before .if2 .taken))))
 
 add-k : tie.Need-add-k Inv-loop μ-loop
 add-k c = search needs
@@ -71,7 +71,7 @@ visit-one-requires c κs =
     let at-test = c .before .before .before in
     let I = at-test .before .loop .inv in
     let h = at-test .loop-test .taken in
-    (I .lent, (a-node I h .0, a-node I h .1, tt))
+    (lent I, (a-node I h .0, a-node I h .1, tt))
 
 add-k-2 : tie.Need-add-k-2 Inv-loop μ-loop
 add-k-2 c = search needs
@@ -86,7 +86,7 @@ loop-again-2 c =
     step-one (at-test .before .loop .inv) (at-test .loop-test .taken) (v .visit-one .kept .0) (v .visit-one .ensures)
 
 same-length : tie.Need-same-length Inv-loop μ-loop
-same-length c = c .before .loop .inv .lent .size ∙ sym (c .before .before .before .before .pre .0 .size)
+same-length c = c .before .loop .inv .full ∙ sym (c .before .before .before .before .pre .0 .size)
 
 returns : tie.Need-returns Inv-loop μ-loop
 returns c = visit-done (c .before .loop .inv) (c .loop-test .left)
