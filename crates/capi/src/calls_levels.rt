@@ -1,7 +1,7 @@
 // The adjacency test and the calls of `levels`.
 ghost use mathlib.Core.Path.{_≡_};
 ghost use Rattle.basis.specs.Moments.{was, left};
-ghost use Rattle.spec.specs.CallsLevels.{adjacencyAnswer, rootedAnswer, rootedLevels, endsAnswer, endsScratch, combinedAnswer, combinedLevels, combinedScratch};
+ghost use Rattle.spec.specs.CallsLevels.{adjacencyAnswer, rootedAnswer, rootedLevels, rootedSizes, endsAnswer, endsScratch, combinedAnswer, combinedLevels, combinedScratch};
 ghost use Rattle.spec.specs.Graph.{graphRefusal};
 ghost use Rattle.capi_figures.specs.Figures.{number, answerC, lentC, figuresC, rootedList, endsList, combinedList};
 use crate::lists::lists_refusal;
@@ -18,24 +18,26 @@ pub extern "C" fn wagonepoch_test_adjacency(starts: &[u16], neighbours: &[u16]) 
     lists_refusal(starts, neighbours)
 }
 
-// Rooted levels. Figures: depth, width, count reached.
+// Rooted levels and their sizes. Figures: depth, width, count reached.
 #[no_mangle]
 pub extern "C" fn wagonepoch_rooted_levels(
     starts: &[u16],
     neighbours: &[u16],
     root: u16,
     levels: &mut [u16],
+    sizes: &mut [u16],
     figures: &mut [u64],
 ) -> u16
-    ensures { λ r. ⌜ r ≡ answerC 3 (was figures) (graphRefusal (was starts) (was neighbours)) (rootedAnswer (was starts) (was neighbours) root (was levels)) ⌝ }
-    ensures { λ _. ⌜ left figures ≡ figuresC 3 (was figures) rootedList (rootedAnswer (was starts) (was neighbours) root (was levels)) ⌝ }
-    ensures { λ _. ⌜ left levels ≡ lentC 3 (was figures) (was levels) (rootedLevels (was starts) (was neighbours) root (was levels)) ⌝ }
+    ensures { λ r. ⌜ r ≡ answerC 3 (was figures) (graphRefusal (was starts) (was neighbours)) (rootedAnswer (was starts) (was neighbours) root (was levels) (was sizes)) ⌝ }
+    ensures { λ _. ⌜ left figures ≡ figuresC 3 (was figures) rootedList (rootedAnswer (was starts) (was neighbours) root (was levels) (was sizes)) ⌝ }
+    ensures { λ _. ⌜ left levels ≡ lentC 3 (was figures) (was levels) (rootedLevels (was starts) (was neighbours) root (was levels) (was sizes)) ⌝ }
+    ensures { λ _. ⌜ left sizes ≡ lentC 3 (was figures) (was sizes) (rootedSizes (was starts) (was neighbours) root (was levels) (was sizes)) ⌝ }
 {
     if figures.len() < 3 {
         return or_five(lists_refusal(starts, neighbours));
     }
     put_rooted(
-        levels::rooted_levels(starts, neighbours, root, levels),
+        levels::rooted_levels(starts, neighbours, root, levels, sizes),
         figures,
     )
 }

@@ -29,8 +29,14 @@ pub(crate) fn adjacency(starts: &[u16], neighbours: &[u16]) {
     }
 }
 
-pub(crate) fn rooted(starts: &[u16], neighbours: &[u16], root: usize, levels: &mut [u16]) {
-    match levels::rooted_levels(starts, neighbours, word(root), levels) {
+pub(crate) fn rooted(
+    starts: &[u16],
+    neighbours: &[u16],
+    root: usize,
+    levels: &mut [u16],
+    sizes: &mut [u16],
+) {
+    match levels::rooted_levels(starts, neighbours, word(root), levels, sizes) {
         RootedAnswer::Refused(number) => refused(number),
         RootedAnswer::Levels {
             depth,

@@ -19,7 +19,7 @@ fn run(
 ) {
     match call {
         1 => calls::adjacency(starts, neighbours),
-        2 => calls::rooted(starts, neighbours, node, first),
+        2 => calls::rooted(starts, neighbours, node, first, second),
         3 => calls::ends(starts, neighbours, node, first),
         4 => calls::measures(starts, neighbours, given, first),
         5 => calls::eliminate(starts, neighbours, given, first, bytes),
