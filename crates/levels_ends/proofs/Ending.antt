@@ -8,7 +8,7 @@ use lib.ListN.{length, take, drop, replicate, length-append, length-replicate}
 use lib.Dec.{ltb}
 use Rattle.basis.specs.Lists.{lastOr, memb}
 use Rattle.basis.proofs.Lists.{memb-here}
-use Rattle.spec.specs.Ends.{depthAt, widthAt, farthest, rootsFrom, roots, endsAt, ends}
+use Rattle.spec.specs.Ends.{depthAt, farthest, rootsFrom, roots, endsAt, ends}
 use Rattle.spec.specs.Graph.{graphOf, sizeOf, graphRefusal, firstInE, ofNode}
 use Rattle.spec.specs.Levels.{levels, reached, part}
 use Rattle.laws.specs.Legal.{Node, LegalGraph}
@@ -206,18 +206,17 @@ module _ {S N : List ℕ} {z v : ℕ} {r : Rooted} {t : Tried} {passes : ℕ} {d
         let b : length (roots (graphOf S N) z) ≡ passes = omega (arith, I .count, ap length alone) in
         (λ i. endsAt (graphOf S N) (a i) (b i))
 
-    pub figures : (f : Found) → f .v ≡ v → f .u ≡ t .node → f .k ≡ r .depth → f .widthv ≡ r .width → f .widthu ≡ t .search .width → f .passes ≡ passes
-        → f ≡ foundOf (ends (graphOf S N) z)
-    unfolding endsAt depthAt widthAt
-    figures f pv pu pk pw pu′ pp =
+    pub figures : (f : Found) → f .v ≡ v → f .u ≡ t .node → f .k ≡ r .depth → f .reached ≡ r .reached → f .passes ≡ passes
+        → f ≡ foundOf (graphOf S N) (ends (graphOf S N) z)
+    unfolding endsAt depthAt
+    figures f pv pu pk pr pp =
         (λ i. record {
           v = pv i;
           u = (pu ∙ sym (over .is)) i;
           k = (pk ∙ ap (λ x. x .depth) (I .found)) i;
-          widthv = (pw ∙ ap (λ x. x .width) (I .found)) i;
-          widthu = (pu′ ∙ ap (λ x. x .width) (over .found) ∙ ap (widthAt (graphOf S N)) (sym (over .is))) i;
+          reached = (pr ∙ ap (λ x. x .reached) (I .found)) i;
           passes = pp i;
-        }) ∙ ap foundOf (sym ends-are)
+        }) ∙ ap (foundOf (graphOf S N)) (sym ends-are)
 
     pub ended : Ended S N (ends (graphOf S N) z) W
     unfolding endsAt

@@ -4,12 +4,14 @@ use mathlib.Core.Path.{_≡_}
 use mathlib.Core.List.{List}
 use lib.ListN.{length, take, drop}
 use Rattle.spec.specs.Ends.{Ends}
+use Rattle.spec.specs.Graph.{Graph}
+use Rattle.spec.specs.Levels.{levels, reached}
 use Rattle.levels_search.specs.Answer.{Searched}
 use Rattle.levels_ends.specs.Passes.{half}
 use Rattle.levels_ends.specs.declared.shape.Found.{Found}
 
-abbrev pub foundOf : Ends → Found
-foundOf e = record { v = e .v; u = e .u; k = e .k; widthv = e .widthV; widthu = e .widthU; passes = e .passes }
+abbrev pub foundOf : Graph → Ends → Found
+foundOf g e = record { v = e .v; u = e .u; k = e .k; reached = reached (levels g (e .v)); passes = e .passes }
 
 -- the searches from v and from u
 pub record Ended (S N : List ℕ) (e : Ends) (W : List ℕ) : Type 0 where

@@ -230,7 +230,7 @@ pub fn ends_from(starts: &[u16], neighbours: &[u16], first: u16, work: &mut [u16
     requires { ⌜ (1 ≤ first) × (first ≤ sizeNow starts) ⌝ }
     requires { ⌜ first ≡ firstInE (graphNow starts neighbours) (part (graphNow starts neighbours) first) ⌝ }
     requires { ⌜ now work ≡ replicate (sizeNow starts + sizeNow starts + (sizeNow starts + sizeNow starts)) 0 ⌝ }
-    ensures { λ r. ⌜ r ≡ foundOf (ends (graphWas starts neighbours) first) ⌝ }
+    ensures { λ r. ⌜ r ≡ foundOf (graphWas starts neighbours) (ends (graphWas starts neighbours) first) ⌝ }
     ensures { λ _. ⌜ Ended (was starts) (was neighbours) (ends (graphWas starts neighbours) first) (left work) ⌝ }
 {
     let n = starts.len() - 1;
@@ -251,8 +251,7 @@ pub fn ends_from(starts: &[u16], neighbours: &[u16], first: u16, work: &mut [u16
         v,
         u: t.node,
         k: r.depth,
-        widthv: r.width,
-        widthu: t.search.width,
+        reached: r.reached,
         passes,
     }
 }

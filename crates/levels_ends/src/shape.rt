@@ -1,13 +1,12 @@
 // What the end search returns.
 use levels_search::shape::Rooted;
 
-// "The call returns v, u, k, both widths and the passes".
+// The ends v and u, k, the number of nodes of the part and the passes. The widths at v and u are counted in the levels that are left.
 pub struct Found {
     pub v: u16,
     pub u: u16,
     pub k: u16,
-    pub widthv: u16,
-    pub widthu: u16,
+    pub reached: u16,
     pub passes: u16,
 }
 

@@ -101,7 +101,7 @@ same-length c =
     at .loop .inv .gave .full ∙ sym (first-full (s .args .starts .now) (s .args .neighbours .now) (s .pre .0) (node s) (s .pre .1 .1 .1))
 
 returns : tie.Need-returns Inv-loop μ-loop
-returns c = let I = c .before .loop .inv in let d = c .loop-test .left in (figures I d _ refl refl refl refl refl refl, ended I d)
+returns c = let I = c .before .loop .inv in let d = c .loop-test .left in (figures I d _ refl refl refl refl refl, ended I d)
 
 pub ends-from-spec : {M : Type 1} → statement M
 ends-from-spec =
