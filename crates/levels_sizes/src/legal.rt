@@ -1,0 +1,85 @@
+// Of the scratch's areas (`graph_words::areas`) TALLY has the sizes of the levels of one search, in order from level 1; it is 0 before and
+// after. The levels of the search stand by old number from word `base` on, and its queue behind them: `count` nodes, none deeper than k.
+ghost use mathlib.Core.Path.{_≡_};
+ghost use Prim.Native.Nat.{ℕ, _+_, _≤_};
+ghost use lib.ListN.{length, replicate};
+ghost use lib.Seq.{slice, sets};
+ghost use Prim.Native.Nat.{max};
+ghost use Rattle.basis.specs.Lists.{greatest};
+ghost use Rattle.basis.specs.Moments.{was, left};
+ghost use Rattle.spec.specs.Combined.{widthOf};
+ghost use Rattle.spec.specs.Graph.{Graph};
+ghost use Rattle.spec.specs.Levels.{levels, sizeList};
+ghost use Rattle.laws.specs.Scratch.{secondArea, tallyArea, areasEnd};
+ghost use Rattle.levels_laws.specs.Areas.{tallyOf};
+ghost use Rattle.levels_sizes.specs.Sizes.{levelsAt, sizesOf, Listable, RootedAt};
+use crate::shape::Widths;
+use graph_words::areas::SECOND;
+use graph_words::areas::TALLY;
+use graph_words::wide;
+
+// The size of each level, n words in order from level 1, zeros after the depth: each node of the queue adds 1 to the word of its level.
+fn list_sizes(scratch: &mut [u16], n: usize, base: usize, count: usize)
+    requires { ⌜ Listable n base count n (now scratch) ⌝ }
+    ensures { λ _. ⌜ left scratch ≡ sets (was scratch) (tallyArea n) (sizesOf n (levelsAt n base (was scratch))) ⌝ }
+    ensures { λ _. ⌜ ((g : Graph) (r : ℕ) → RootedAt g r n (levelsAt n base (was scratch)) → tallyOf n (left scratch) ≡ sizeList g (levels g r)) ⌝ }
+{
+    let mut i = 0;
+    while i < count {
+        let p = wide(scratch[base + n + i]);
+        let level = wide(scratch[base + p - 1]);
+        let at = TALLY * n + level - 1;
+        scratch[at] = scratch[at] + 1;
+        i += 1;
+    }
+}
+
+// The larger of two sizes.
+fn wider(x: u16, y: u16) -> u16
+    ensures { λ r. ⌜ r ≡ max x y ⌝ }
+{
+    if x < y { y } else { x }
+}
+
+// The greatest of the sizes of the levels 1..k, whose words are then 0.
+fn take_widest(scratch: &mut [u16], n: usize, k: usize) -> u16
+    requires { ⌜ (n ≤ 4096) × (k ≤ n) × (areasEnd n ≤ length (now scratch)) ⌝ }
+    ensures { λ r. ⌜ r ≡ greatest (slice (tallyArea n) (tallyArea n + k) (was scratch)) ⌝ }
+    ensures { λ _. ⌜ left scratch ≡ sets (was scratch) (tallyArea n) (replicate k 0) ⌝ }
+{
+    let mut top = 0;
+    let mut level = 1;
+    while level <= k {
+        let word = TALLY * n + level - 1;
+        let size = scratch[word];
+        scratch[word] = 0;
+        top = wider(top, size);
+        level += 1;
+    }
+    top
+}
+
+// The width of the levels of one search: the greatest of the list of their sizes.
+pub fn width_of(scratch: &mut [u16], n: usize, base: usize, count: usize, k: usize) -> u16
+    requires { ⌜ Listable n base count k (now scratch) ⌝ }
+    ensures { λ r. ⌜ r ≡ widthOf k (levelsAt n base (was scratch)) ⌝ }
+    ensures { λ _. ⌜ left scratch ≡ was scratch ⌝ }
+{
+    list_sizes(scratch, n, base, count);
+    take_widest(scratch, n, k)
+}
+
+// The widths at v and u, whose searches begin at FIRST and SECOND.
+pub fn end_widths(scratch: &mut [u16], n: usize, count: u16, k: u16) -> Widths
+    requires { ⌜ Listable n 0 count k (now scratch) ⌝ }
+    requires { ⌜ Listable n (secondArea n) count k (now scratch) ⌝ }
+    ensures { λ r. ⌜ r .v ≡ widthOf k (levelsAt n 0 (was scratch)) ⌝ }
+    ensures { λ r. ⌜ r .u ≡ widthOf k (levelsAt n (secondArea n) (was scratch)) ⌝ }
+    ensures { λ _. ⌜ left scratch ≡ was scratch ⌝ }
+{
+    let count = wide(count);
+    let k = wide(k);
+    let v = width_of(scratch, n, 0, count, k);
+    let u = width_of(scratch, n, SECOND * n, count, k);
+    Widths { v, u }
+}
