@@ -1,6 +1,7 @@
 pub mod Refusals
 pub mod Scratch
 pub mod Firsts
+pub mod Widths
 pub mod OnePart
 pub mod Collecting
 pub mod Gathered

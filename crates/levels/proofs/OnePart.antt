@@ -34,10 +34,12 @@ use Rattle.levels_laws.specs.Areas.{wordsOf}
 use Rattle.levels_laws.specs.Given.{Given, firstOf, endsOf, merged}
 use Rattle.levels_laws.specs.Starts.{membersOf}
 use Rattle.levels_laws.proofs.Storing.{member-in}
+use Rattle.levels_sizes.specs.Sizes.{levelsAt, Listable}
 use Rattle.levels.specs.Part.{PartGiven, partLevelsOf}
 use Rattle.levels.specs.declared.shape.PartLevels.{PartLevels}
 use Rattle.levels.proofs.Firsts.{first-range, first-own, same-ends}
 use Rattle.levels.proofs.Scratch.{behind-front}
+use Rattle.levels.proofs.Widths.{widths-ask, width-v, width-u}
 
 -- the words of a search past its queue are 0
 past-queue : {n count : ℕ} {W : List ℕ} → Queued n count W → (i : ℕ) → n + count ≤ i → getD W i 0 ≡ 0
@@ -127,7 +129,7 @@ module _ (S N : List ℕ) (ok : graphRefusal S N ≡ 0) {from to : ℕ} (X : Lis
     pub ends-ask : (graphRefusal S N ≡ 0) × (((1 ≤ v) × (v ≤ sizeOf S)) × ((v ≡ firstInE g (part g v)) × (take (4 * n - 0) X ≡ replicate (half S + half S) 0)))
     ends-ask = (ok, (first-range S N ok z-node v-first, (first-own S N ok z-node v-first, front)))
 
-    module _ {f : Found} (found : f ≡ foundOf (ends g v)) {Y : List ℕ} (ended : Ended S N (ends g v) Y) where
+    module _ {f : Found} (found : f ≡ foundOf g (ends g v)) {Y : List ℕ} (ended : Ended S N (ends g v) Y) where
       abbrev e : Ends
       e = ends g z
 
@@ -184,8 +186,19 @@ module _ (S N : List ℕ) (ok : graphRefusal S N ≡ 0) {from to : ℕ} (X : Lis
       ends-same : endsOf g from W₁ ≡ e
       ends-same = ap (ends g) z-same
 
-      found-is : f ≡ foundOf e
-      found-is = found ∙ ap foundOf same
+      found-is : f ≡ foundOf g e
+      found-is = found ∙ ap (foundOf g) same
+
+      tally-clean : slice (5 * n) (6 * n) X₁ ≡ replicate n 0
+      tally-clean = levels-same ∙ A .clean
+
+      room-same : 6 * n ≤ length X₁
+      room-same = omega (arith, size-same, room)
+
+      -- ---- the widths
+
+      pub widths-asked : Listable n 0 (f .reached) (f .k) X₁ × Listable n (2 * n) (f .reached) (f .k) X₁
+      widths-asked = widths-ask S N ok z-node found-is (drop (4 * n) X) E is room-same tally-clean
 
       -- a search from a node of the part reaches as many nodes
       reaches : (x : ℕ) → memb x (part g z) ≡ true → reached (levels g x) ≡ to - from
@@ -194,8 +207,8 @@ module _ (S N : List ℕ) (ok : graphRefusal S N ≡ 0) {from to : ℕ} (X : Lis
       O : EndsOf g z e
       O = ends-of G z-node
 
-      given : Given g from to (f .k) (f .widthv) (f .widthu) W₁ (slice (5 * n) (6 * n) X₁)
-      given = record {
+      given : {a b : ℕ} → a ≡ e .widthV → b ≡ e .widthU → Given g from to (f .k) a b W₁ (slice (5 * n) (6 * n) X₁)
+      given at-v at-u = record {
         words = omega (arith, length-take (5 * n) X₁, size-same, room);
         order = A .order;
         most = A .most;
@@ -204,8 +217,8 @@ module _ (S N : List ℕ) (ok : graphRefusal S N ≡ 0) {from to : ℕ} (X : Lis
             (λ i m. member-same i (omega (arith, upFrom-in from (to - from) i m .1, A .most, A .order)))
             ∙ A .members ∙ ap (part g) (sym z-same);
         depth = ap (λ (x : Found). x .k) found-is ∙ ap (λ (x : Ends). x .k) (sym ends-same);
-        width-v = ap (λ (x : Found). x .widthv) found-is ∙ ap (λ (x : Ends). x .widthV) (sym ends-same);
-        width-u = ap (λ (x : Found). x .widthu) found-is ∙ ap (λ (x : Ends). x .widthU) (sym ends-same);
+        width-v = at-v ∙ ap (λ (x : Ends). x .widthV) (sym ends-same);
+        width-u = at-u ∙ ap (λ (x : Ends). x .widthU) (sym ends-same);
         firsts =
             take-take n (5 * n) X₁ (omega arith) ∙ take-append-le n Y (postOf 0 (4 * n - 0) X) (omega (arith, Y-size))
             ∙ sym (take-take n (half S) Y (omega arith)) ∙ E .first .listed ∙ ap (λ (x : Ends). levelList g (levels g (x .v))) (sym ends-same);
@@ -222,18 +235,25 @@ module _ (S N : List ℕ) (ok : graphRefusal S N ≡ 0) {from to : ℕ} (X : Lis
             let q : half S + (i - half S) ≡ i = omega arith in
             in-front i (omega arith) ∙ ap (λ (j : ℕ). getD Y j 0) (sym q) ∙ sym (getD-drop (half S) Y (i - half S) 0)
             ∙ past-queue (E .second .holds) (i - half S) (omega (arith, reaches (e .u) (O .u-part)));
-        clean = levels-same ∙ A .clean;
+        clean = tally-clean;
       }
 
-      pub combine-ask : (graphRefusal S N ≡ 0) × Given g from to (f .k) (f .widthv) (f .widthu) W₁ (slice (5 * n) (6 * n) X₁)
-      combine-ask = (ok, given)
+      -- with the widths, in the same words
+      pub combine-ask : {a b : ℕ} {X₂ : List ℕ} → a ≡ widthOf (f .k) (levelsAt n 0 X₁) → b ≡ widthOf (f .k) (levelsAt n (2 * n) X₁) → X₂ ≡ X₁
+          → (graphRefusal S N ≡ 0) × Given g from to (f .k) a b (wordsOf n X₂) (slice (5 * n) (6 * n) X₂)
+      combine-ask {a} {b} at-v at-u kept =
+          let v = at-v ∙ width-v S N ok z-node found-is (drop (4 * n) X) E is room-same tally-clean in
+          let u = at-u ∙ width-u S N ok z-node found-is (drop (4 * n) X) E is room-same tally-clean in
+          (ok, subst (λ (x : List ℕ). Given g from to (f .k) a b (wordsOf n x) (slice (5 * n) (6 * n) x)) (sym kept) (given v u))
 
       -- ---- what is returned and left
 
-      module _ {w : ℕ} (wide : w ≡ widthOf (f .k) (combined g (endsOf g from W₁))) where
+      module _ {w : ℕ} {X₂ : List ℕ} (kept : X₂ ≡ X₁) (wide : w ≡ widthOf (f .k) (combined g (endsOf g from (wordsOf n X₂)))) where
         pub figures : _≡_ {A = PartLevels} (record { v = f .v; u = f .u; k = f .k; width = w; passes = f .passes }) (partLevelsOf g e)
         figures =
-            let q : w ≡ widthOf (e .k) (combined g e) = wide ∙ (λ i. widthOf (found-is i .k) (combined g (ends-same i))) in
+            let q : w ≡ widthOf (e .k) (combined g e) =
+            wide ∙ ap (λ (x : List ℕ). widthOf (f .k) (combined g (endsOf g from (wordsOf n x)))) kept
+            ∙ (λ i. widthOf (found-is i .k) (combined g (ends-same i))) in
             λ i. record { v = found-is i .v; u = found-is i .u; k = found-is i .k; width = q i; passes = found-is i .passes }
 
       -- the words are as before, and the levels are merged
@@ -244,9 +264,13 @@ module _ (S N : List ℕ) (ok : graphRefusal S N ≡ 0) {from to : ℕ} (X : Lis
           (λ i l. getD-drop (4 * n) W₁ i 0 ∙ member-same i (omega (arith, length-drop (4 * n) W₁, length-take (5 * n) X₁)) ∙ sym (getD-drop (4 * n) W i 0)) in
           zeroed-is (4 * n) W₁ ∙ (λ i. sym (A .blank) i ++ b i) ∙ take-append-drop (4 * n) W
 
-      pub part-merged : {R : List ℕ} → R ≡ zeroed (4 * n) W₁ ++ (merged g (firstOf n from W₁) (endsOf g from W₁) (slice (5 * n) (6 * n) X₁) ++ drop (6 * n) X₁)
-          → R ≡ W ++ (merged g z e L ++ drop (6 * n) X)
-      part-merged r =
+      abbrev after : List ℕ → List ℕ
+      after x =
+          zeroed (4 * n) (wordsOf n x)
+          ++ (merged g (firstOf n from (wordsOf n x)) (endsOf g from (wordsOf n x)) (slice (5 * n) (6 * n) x) ++ drop (6 * n) x)
+
+      pub part-merged : {R X₂ : List ℕ} → X₂ ≡ X₁ → R ≡ after X₂ → R ≡ W ++ (merged g z e L ++ drop (6 * n) X)
+      part-merged kept r =
           let m : merged g (firstOf n from W₁) (endsOf g from W₁) (slice (5 * n) (6 * n) X₁) ≡ merged g z e L =
           ap (λ (y : ℕ). merged g y (ends g y) (slice (5 * n) (6 * n) X₁)) z-same ∙ ap (merged g z e) levels-same in
-          r ∙ (λ i. words-same i ++ (m i ++ further (6 * n) (omega arith) i))
+          r ∙ ap after kept ∙ (λ i. words-same i ++ (m i ++ further (6 * n) (omega arith) i))

@@ -12,6 +12,7 @@ use Rattle.spec.specs.Levels.{part}
 use Rattle.laws.specs.Scratch.{membersArea, tallyArea}
 use Rattle.levels_laws.specs.Given.{firstOf}
 use Rattle.levels_laws.specs.Starts.{membersOf}
+use Rattle.levels.specs.declared.shape.PartEnds.{PartEnds}
 use Rattle.levels.specs.declared.shape.PartLevels.{PartLevels}
 
 -- the nodes that have a level in the first n of the words W, rising
@@ -26,6 +27,10 @@ pub record PartGiven (g : Graph) (from to : ℕ) (W L : List ℕ) : Type 0 where
   pub members : membersOf (g .size) from to W ≡ part g (firstOf (g .size) from W)
   pub blank : take (membersArea (g .size)) W ≡ replicate (membersArea (g .size)) 0
   pub clean : L ≡ replicate (g .size) 0
+
+-- v, u, k, both widths and the passes
+abbrev pub partEndsOf : Ends → PartEnds
+partEndsOf e = record { v = e .v; u = e .u; k = e .k; widthv = e .widthV; widthu = e .widthU; passes = e .passes }
 
 -- the ends, k, the greatest level count and the passes
 abbrev pub partLevelsOf : Graph → Ends → PartLevels

@@ -1,6 +1,7 @@
 // For crates above: the test of a given node, and the combined levels of one part of a legal graph, for callers that have its members. The
 // scratch has the areas of `graph_words::areas`: the levels and queues of two searches in the four in front of MEMBERS, and TALLY is 0 until
-// the ends are found. That then has the counts of the levels, and at last the combined levels.
+// the ends are found. That then has the sizes of the levels rooted at v, those at u, the counts of the levels, and at last the combined
+// levels.
 ghost use mathlib.Core.Path.{_≡_};
 ghost use Prim.Native.Nat.{_≤_};
 ghost use lib.ListN.{length, take, replicate};
@@ -22,6 +23,7 @@ use levels_ends::legal::ends_from;
 use levels_ends::legal::first_in_e;
 use levels_search::legal::search;
 use levels_search::legal::wipe;
+use levels_sizes::legal::end_widths;
 
 // "6n words of scratch" (document 02, A.7)
 pub const WORDS_PER_NODE: usize = 6;
@@ -87,16 +89,8 @@ pub fn combine_part(
     let n = starts.len() - 1;
     let first = first_in_e(starts, &scratch[MEMBERS * n + from..MEMBERS * n + to]);
     let f = ends_from(starts, neighbours, first, &mut scratch[0..MEMBERS * n]);
-    let width = combine(
-        starts,
-        neighbours,
-        scratch,
-        from,
-        to,
-        f.k,
-        f.widthv,
-        f.widthu,
-    );
+    let w = end_widths(scratch, n, f.reached, f.k);
+    let width = combine(starts, neighbours, scratch, from, to, f.k, w.v, w.u);
     PartLevels {
         v: f.v,
         u: f.u,

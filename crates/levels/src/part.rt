@@ -8,25 +8,30 @@ ghost use Rattle.spec.specs.Ends.{ends};
 ghost use Rattle.spec.specs.Graph.{graphRefusal};
 ghost use Rattle.spec.specs.Lent.{zeroed, wordsPerNode};
 ghost use Rattle.laws.specs.Handed.{sizeNow, graphWas, sizeWas};
-ghost use Rattle.levels_ends.specs.Answer.{foundOf};
-ghost use Rattle.levels.specs.Part.{partLevelsOf};
+ghost use Rattle.levels.specs.Part.{partEndsOf, partLevelsOf};
 use crate::legal::WORDS_PER_NODE;
 use crate::legal::combine_part;
 use crate::legal::gather_part;
+use crate::shape::PartEnds;
 use crate::shape::PartLevels;
 use graph_words::areas::AREAS;
 use graph_words::areas::TALLY;
 use graph_words::legal::clear;
 use levels_ends::legal::ends_from;
 use levels_ends::legal::first_of_part;
-use levels_ends::shape::Found;
+use levels_sizes::legal::end_widths;
 
 // The ends of the part of `node`, in scratch that is set to 0 before and after.
-pub(crate) fn find_ends(starts: &[u16], neighbours: &[u16], node: u16, scratch: &mut [u16]) -> Found
+pub(crate) fn find_ends(
+    starts: &[u16],
+    neighbours: &[u16],
+    node: u16,
+    scratch: &mut [u16],
+) -> PartEnds
     requires { ⌜ graphRefusal (now starts) (now neighbours) ≡ 0 ⌝ }
     requires { ⌜ (1 ≤ node) × (node ≤ sizeNow starts) ⌝ }
     requires { ⌜ wordsPerNode * sizeNow starts ≤ length (now scratch) ⌝ }
-    ensures { λ r. ⌜ r ≡ foundOf (ends (graphWas starts neighbours) node) ⌝ }
+    ensures { λ r. ⌜ r ≡ partEndsOf (ends (graphWas starts neighbours) node) ⌝ }
     ensures { λ _. ⌜ left scratch ≡ zeroed (wordsPerNode * sizeWas starts) (was scratch) ⌝ }
 {
     let n = starts.len() - 1;
@@ -34,8 +39,16 @@ pub(crate) fn find_ends(starts: &[u16], neighbours: &[u16], node: u16, scratch: 
     clear(scratch, WORDS_PER_NODE * n);
     let v = first_of_part(starts, neighbours, node, &mut scratch[0..half]);
     let f = ends_from(starts, neighbours, v, &mut scratch[0..half + half]);
+    let w = end_widths(scratch, n, f.reached, f.k);
     clear(scratch, WORDS_PER_NODE * n);
-    f
+    PartEnds {
+        v: f.v,
+        u: f.u,
+        k: f.k,
+        widthv: w.v,
+        widthu: w.u,
+        passes: f.passes,
+    }
 }
 
 // Copies the words of `from` over those of `to`, which are as many.

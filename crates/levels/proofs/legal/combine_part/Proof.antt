@@ -5,7 +5,7 @@ use borrow.Author.Needs.{needs}
 use lib.ListN.{length}
 use Rattle.spec.specs.Graph.{sizeOf}
 use Rattle.laws.proofs.Refused.{passed, starts-of}
-use Rattle.levels.proofs.OnePart.{room, first-ask, ends-ask, combine-ask, figures, part-merged}
+use Rattle.levels.proofs.OnePart.{room, first-ask, ends-ask, widths-asked, combine-ask, figures, part-merged}
 use Rattle.levels.proofs.legal.combine_part.Statement.{statement}
 use Rattle.levels.proofs.legal.combine_part.Tie as tie
 
@@ -14,6 +14,19 @@ few s = starts-of (passed (s .args .starts .now) (s .args .neighbours .now) (s .
 
 words : (s : tie.Start) → 6 * sizeOf (s .args .starts .now) ≤ length (s .args .scratch .now)
 words s = room (s .args .starts .now) (s .args .neighbours .now) (s .pre .0) (s .args .scratch .now) (s .pre .1)
+
+-- the places: the first node is found, and before it the start; the ends are found; the widths are counted
+abbrev lent : tie.After-first-in-e → tie.After-slice-known
+lent c = c .before .before .before
+
+abbrev start : tie.After-first-in-e → tie.Start
+start c = lent c .before .before .before
+
+abbrev first : tie.After-ends-from → tie.After-first-in-e
+first c = c .before .before
+
+abbrev ended : tie.After-end-widths → tie.After-ends-from
+ended c = c .before .before .before .before
 
 sub-n : tie.Need-sub-n
 sub-n c = search needs
@@ -64,25 +77,39 @@ ends-from-requires c κs =
     let s = c .before .before .before .before .before .before .before in
     ends-ask (s .args .starts .now) (s .args .neighbours .now) (s .pre .0) (s .args .scratch .now) (s .pre .1) (c .before .first-in-e .ensures)
 
+end-widths-requires : tie.Need-end-widths-requires
+end-widths-requires c κs =
+    let at = c .before .before .before in
+    let s = start (first at) in
+    let w = at .ends-from .ensures in
+    widths-asked (s .args .starts .now) (s .args .neighbours .now) (s .pre .0) (s .args .scratch .now) (s .pre .1) (first at .first-in-e .ensures) (w .0) (w .1)
+
 combine-requires : tie.Need-combine-requires
 combine-requires c κs =
-    let s = c .before .before .before .before .before .before .before .before .before .before .before in
-    let w = c .before .before .before .ends-from .ensures in
-    combine-ask (s .args .starts .now) (s .args .neighbours .now) (s .pre .0) (s .args .scratch .now) (s .pre .1) (c .before .before .before .before .before .first-in-e .ensures) (w .0) (w .1)
+    let x = c .before .before .before in
+    let at = ended x in
+    let s = start (first at) in
+    let w = at .ends-from .ensures in
+    let k = x .end-widths .ensures in
+    combine-ask (s .args .starts .now) (s .args .neighbours .now) (s .pre .0) (s .args .scratch .now) (s .pre .1) (first at .first-in-e .ensures) (w .0) (w .1) (k .0) (k .1 .0) (k .1 .1)
 
 same-length : tie.Need-same-length
 same-length c = search needs
 
 returns : tie.Need-returns
 returns c =
-    let s = c .before .before .before .before .before .before .before .before .before .before .before .before .before .before in
+    let y = c .before .before in
+    let x = y .before .before .before .before in
+    let at = ended x in
+    let s = start (first at) in
     let S = s .args .starts .now in
     let N = s .args .neighbours .now in
     let X = s .args .scratch .now in
-    let v = c .before .before .before .before .before .before .before .before .first-in-e .ensures in
-    let w = c .before .before .before .before .before .before .ends-from .ensures in
-    let x = c .before .before .combine .ensures in
-    (figures S N (s .pre .0) X (s .pre .1) v (w .0) (w .1) (x .0), part-merged S N (s .pre .0) X (s .pre .1) v (w .0) (w .1) (x .1))
+    let v = first at .first-in-e .ensures in
+    let w = at .ends-from .ensures in
+    let k = x .end-widths .ensures .1 .1 in
+    let m = y .combine .ensures in
+    (figures S N (s .pre .0) X (s .pre .1) v (w .0) (w .1) k (m .0), part-merged S N (s .pre .0) X (s .pre .1) v (w .0) (w .1) k (m .1))
 
 pub combine-part-spec : {M : Type 1} → statement M
 combine-part-spec =
@@ -103,6 +130,7 @@ combine-part-spec =
     part-ends-from-start
     part-ends-from-end
     ends-from-requires
+    end-widths-requires
     combine-requires
     same-length
     returns)

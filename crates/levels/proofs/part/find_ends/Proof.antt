@@ -3,18 +3,19 @@ use mathlib.Core.Path.{_≡_, ap, _∙_}
 use mathlib.Core.List.{List, _++_}
 use Prim.Native.Nat.{ℕ, _+_, _-_, _*_}
 use native.Mathlib.Omega.{arith}
-use lib.ListN.{take, drop, take-append-drop}
+use lib.ListN.{length, take, drop, take-append-drop}
 use borrow.Author.Needs.{needs}
 use borrow.Rule.Slice.PartMut.{postOf}
 use Rattle.spec.specs.Graph.{graphOf, sizeOf}
 use Rattle.spec.specs.Lent.{zeroed, wordsPerNode}
 use Rattle.laws.specs.Legal.{Node}
 use Rattle.laws.proofs.Lent.{zeroed-behind}
-use Rattle.levels_ends.specs.Answer.{foundOf}
+use Rattle.laws.proofs.Refused.{passed, starts-of}
 use Rattle.levels_ends.specs.Passes.{half}
 use Rattle.levels_ends.proofs.Areas.{front-lent, front-back}
-use Rattle.levels.proofs.Firsts.{first-range, first-own, same-ends}
+use Rattle.levels.proofs.Firsts.{first-range, first-own}
 use Rattle.levels.proofs.Scratch.{zero-front, behind-front, zeroed-again}
+use Rattle.levels.proofs.Widths.{alone-ask, alone-ends, room-back}
 use Rattle.levels.proofs.part.find_ends.Statement.{statement}
 use Rattle.levels.proofs.part.find_ends.Tie as tie
 
@@ -95,27 +96,58 @@ ends-from-requires c κs =
       ),
     )
 
+-- the places: the first node is found, the ends are found, the widths are counted
+abbrev first : tie.After-ends-from → tie.After-first-of-part
+first c = c .before .before .before .before
+
+abbrev cleared : tie.After-first-of-part → tie.After-clear
+cleared c = c .before .before .before .before
+
+abbrev found : tie.After-end-widths → tie.After-ends-from
+found c = c .before .before .before .before
+
+end-widths-requires : tie.Need-end-widths-requires
+end-widths-requires c κs =
+    let on = c .before .before .before in
+    let at = first on in
+    let s = start (cleared at) in
+    let w = on .ends-from .ensures in
+    alone-ask (s .args .starts .now) (s .args .neighbours .now) (s .pre .0) (node s) (at .first-of-part .ensures .0) (w .0) (w .1) (s .args .scratch .now) (words-are at) (s .pre .1 .1)
+
 mul-clear-2 : tie.Need-mul-clear-2
-mul-clear-2 c = search needs
+mul-clear-2 c =
+    let s = start (cleared (first (found (c .before .before .before)))) in
+    omega (arith, starts-of (passed (s .args .starts .now) (s .args .neighbours .now) (s .pre .0)) .few)
 
 clear-requires-2 : tie.Need-clear-requires-2
-clear-requires-2 c κs = search needs
+clear-requires-2 c κs =
+    let x = c .before .before .before in
+    let on = found x in
+    let at = first on in
+    let s = start (cleared at) in
+    let w = on .ends-from .ensures in
+    let r = room-back (s .args .starts .now) (s .args .neighbours .now) (s .pre .0) (node s) (at .first-of-part .ensures .0) (w .0) (w .1) (s .args .scratch .now) (words-are at) (s .pre .1 .1) in
+    omega (arith, r, ap length (x .end-widths .ensures .1 .1))
 
 same-length : tie.Need-same-length
 same-length c = search needs
 
 returns : tie.Need-returns
 returns c =
-    let on = c .before .before .before .before .before .before in
-    let at = on .before .before .before .before in
-    let s = start (at .before .before .before .before) in
+    let z = c .before .before in
+    let x = z .before .before .before .before in
+    let on = found x in
+    let at = first on in
+    let s = start (cleared at) in
     let h : ℕ = half (s .args .starts .now) in
     let m : ℕ = wordsPerNode * sizeOf (s .args .starts .now) in
-    let Y : List ℕ = on .ends-from .last .1 .1 .1 .0 in (
-      on .ends-from .ensures .0 ∙ ap foundOf (same-ends (s .args .starts .now) (s .args .neighbours .now) (s .pre .0) (node s) (at .first-of-part .ensures .0)),
-      c .before .before .clear2 .ensures
-          ∙ zeroed-again m (Y ++ postOf 0 (h + h - 0) (words at)) (s .args .scratch .now)
-          (ap (drop m) (front-back (h + h) (words at) Y) ∙ behind-front (h + h) m Y (words at) (on .ends-from .ensures .1 .full) (omega arith)
+    let Y : List ℕ = on .ends-from .last .1 .1 .1 .0 in
+    let w = on .ends-from .ensures in
+    let k = x .end-widths .ensures in (
+      alone-ends (s .args .starts .now) (s .args .neighbours .now) (s .pre .0) (node s) (at .first-of-part .ensures .0) (w .0) (w .1) (s .args .scratch .now) (words-are at) (s .pre .1 .1) (k .0) (k .1 .0),
+      z .clear2 .ensures
+          ∙ zeroed-again m (x .end-widths .last .0) (s .args .scratch .now)
+          (ap (drop m) (k .1 .1 ∙ front-back (h + h) (words at) Y) ∙ behind-front (h + h) m Y (words at) (w .1 .full) (omega arith)
           ∙ ap (drop m) (words-are at) ∙ zeroed-behind m (s .args .scratch .now)),
     )
 
@@ -136,6 +168,7 @@ find-ends-spec =
     part-ends-from-start
     part-ends-from-end
     ends-from-requires
+    end-widths-requires
     mul-clear-2
     clear-requires-2
     same-length
