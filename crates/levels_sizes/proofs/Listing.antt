@@ -8,7 +8,7 @@ use native.Mathlib.Nat.{add-zero}
 use native.Mathlib.Numerals.{add-one}
 use native.Mathlib.Omega.{arith}
 use lib.ListN.{length, getD, set, take, drop, replicate, length-set, length-map, length-take}
-use lib.Seq.{slice, sets, length-sets, length-slice, ext-getD, getD-take, getD-drop, take-suc, take-all}
+use lib.Seq.{slice, sets, getD-set-same, length-sets, length-slice, ext-getD, getD-take, getD-drop, take-suc, take-all}
 use lib.Dec.{eqb, ltb}
 use borrow.Author.Tests.{ne-eqb, eqb-true, eq-eqb, ltb-true}
 use Rattle.basis.specs.Lists.{bit, countb, upFrom, memb}
@@ -103,34 +103,43 @@ module _ {n base count k : ℕ} {X : List ℕ} (A : Listable n base count k X) w
       sym (queue-counts L Q (A .each) i (omega arith))
       ∙ count-none (λ p. eqb i (ofNode L p)) Q (λ p m. ne-eqb i (ofNode L p) (λ e. omega (arith, e, A .under p)))
 
--- ---- the nodes up to i are counted
+-- ---- the nodes up to i are counted, and the word at `last` is known
 
-pub record Listing (n base count k : ℕ) (X Y : List ℕ) (i : ℕ) : Type 0 where
+pub record Listing (n base count k : ℕ) (X Y : List ℕ) (last size i : ℕ) : Type 0 where
   pub ask : Listable n base count k X
   pub most : i ≤ count
-  pub size : length Y ≡ length X
+  pub words : length Y ≡ length X
+  pub known : size ≡ getD Y last 0
   pub at : (j : ℕ) → getD Y j 0 ≡ getD X j 0 + counted ask j (take i (queueAt n base count X))
 
-pub list-begin : {n base count k : ℕ} {X : List ℕ} → Listable n base count k X → Listing n base count k X X 0
-list-begin {X = X} A = record { ask = A; most = omega arith; size = refl; at = λ j. sym (add-zero (getD X j 0)) }
+pub list-begin : {n base count k : ℕ} {X : List ℕ} → Listable n base count k X → Listing n base count k X X (5 * n) 0 0
+list-begin {n} {X = X} A =
+    let e : 5 * n + 0 ≡ 5 * n = omega arith in
+    record {
+      ask = A;
+      most = omega arith;
+      words = refl;
+      known = sym (ap (λ (j : ℕ). getD X j 0) (sym e) ∙ blank A 0 (A .some));
+      at = λ j. sym (add-zero (getD X j 0));
+    }
 
-module _ {n base count k : ℕ} {X Y : List ℕ} {i : ℕ} (I : Listing n base count k X Y i) where
+module _ {n base count k : ℕ} {X Y : List ℕ} {last size i : ℕ} (I : Listing n base count k X Y last size i) where
   A : Listable n base count k X
   A = I .ask
 
   pub list-room : 6 * n ≤ length Y
-  list-room = omega (arith, A .room, I .size)
+  list-room = omega (arith, A .room, I .words)
 
   front-same : (j : ℕ) → j < 5 * n → getD Y j 0 ≡ getD X j 0
   front-same j h = I .at j ∙ ap (λ (c : ℕ). getD X j 0 + c) (counted-before A j i h) ∙ add-zero (getD X j 0)
 
   -- one more fits into each word of TALLY
-  pub list-fits : {j : ℕ} → 5 * n ≤ j → j < 6 * n → getD Y j 0 + 1 < 65536
-  list-fits {j} l h =
+  pub list-fits : {j s : ℕ} → s ≡ getD Y j 0 → 5 * n ≤ j → j < 6 * n → s + 1 < 65536
+  list-fits {j} q l h =
       let e : 5 * n + (j - 5 * n) ≡ j = omega arith in
       let z : getD X j 0 ≡ 0 = ap (λ (m : ℕ). getD X m 0) (sym e) ∙ blank A (j - 5 * n) (omega arith) in
       let c = count-length (λ q. eqb j (word A q)) (take i (queueAt n base count X)) in
-      omega (arith, I .at j, c, z, length-take i (queueAt n base count X), A .most, A .few, I .most)
+      omega (arith, I .at j, q, c, z, length-take i (queueAt n base count X), A .most, A .few, I .most)
 
   module _ (h : i < count) {p : ℕ} (read : p ≡ getD Y (base + n + i) 0) where
     p-is : p ≡ getD (queueAt n base count X) i 0
@@ -157,21 +166,23 @@ module _ {n base count k : ℕ} {X Y : List ℕ} {i : ℕ} (I : Listing n base c
       slot-is : slot ≡ word A p
       slot-is = ap (λ (l : ℕ). 5 * n + l - 1) level-is
 
-      pub list-step : Listing n base count k X (set Y slot (getD Y slot 0 + 1)) (i + 1)
-      list-step =
+      pub list-step : {s : ℕ} → s ≡ getD Y slot 0 → Listing n base count k X (set Y slot (s + 1)) slot (s + 1) (i + 1)
+      list-step {s} e =
           let w = list-level in
           let Z : List ℕ = queueAt n base count X in
           let u : take (i + 1) Z ≡ take i Z ++ (p ∷ []) =
           ap (λ (m : ℕ). take m Z) (add-one i) ∙ take-suc Z i 0 (omega (arith, Q-size A)) ∙ ap (λ (q : ℕ). take i Z ++ (q ∷ [])) (sym p-is) in
-          record {
+          let in-words : slot < length Y = omega (arith, list-room, w .0, w .1) in
+          rw e record {
             ask = A;
             most = omega arith;
-            size = length-set Y slot (getD Y slot 0 + 1) ∙ I .size;
+            words = length-set Y slot (getD Y slot 0 + 1) ∙ I .words;
+            known = sym (getD-set-same Y slot (getD Y slot 0 + 1) 0 in-words);
             at = λ j.
                 let c : counted A j (take (i + 1) Z) ≡ counted A j (take i Z) + counted A j (p ∷ []) =
                 ap (counted A j) u ∙ count-append (λ q. eqb j (word A q)) (take i Z) (p ∷ []) in
                 let b : bit (eqb j slot) ≡ counted A j (p ∷ []) = ap (λ (s : ℕ). bit (eqb j s)) slot-is ∙ sym (add-zero (bit (eqb j (word A p)))) in
-                let s = bump-at Y slot j (omega (arith, list-room, w .0, w .1)) in
+                let s = bump-at Y slot j in-words in
                 omega (arith, I .at j);
           }
 
@@ -209,15 +220,15 @@ module _ {n base count k : ℕ} {X Y : List ℕ} {i : ℕ} (I : Listing n base c
         (lt-or-le j (5 * n))
 
     pub list-done : Y ≡ sets X (5 * n) zs
-    list-done = ext-getD 0 Y (sets X (5 * n) zs) (I .size ∙ sym (length-sets X (5 * n) zs)) (λ j l. word-done j)
+    list-done = ext-getD 0 Y (sets X (5 * n) zs) (I .words ∙ sym (length-sets X (5 * n) zs)) (λ j l. word-done j)
 
     -- such a list is the definition's
     pub list-rooted : (g : Graph) (r : ℕ) → RootedAt g r n (levelsAt n base X) → tallyOf n Y ≡ sizeList g (levels g r)
     list-rooted g r R =
-        ext-getD 0 (tallyOf n Y) zs (size ∙ sym zs-size)
+        ext-getD 0 (tallyOf n Y) zs (tally-size ∙ sym zs-size)
         (λ j l.
-        getD-drop (5 * n) (take (6 * n) Y) j 0 ∙ getD-take (6 * n) Y (5 * n + j) 0 (omega (arith, size)) ∙ in-tally j (omega (arith, size)))
+        getD-drop (5 * n) (take (6 * n) Y) j 0 ∙ getD-take (6 * n) Y (5 * n + j) 0 (omega (arith, tally-size)) ∙ in-tally j (omega (arith, tally-size)))
         ∙ (λ e. sizesOf (R .size e) (R .listed e)) ∙ sizes-listed (R .legal) (R .root)
       where
-        size : length (tallyOf n Y) ≡ n
-        size = length-slice (5 * n) (6 * n) Y list-room ∙ omega arith
+        tally-size : length (tallyOf n Y) ≡ n
+        tally-size = length-slice (5 * n) (6 * n) Y list-room ∙ omega arith

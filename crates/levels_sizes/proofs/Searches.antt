@@ -59,6 +59,7 @@ module _ (S N : List ℕ) (ok : graphRefusal S N ≡ 0) {r : ℕ} (R : Node (gra
       let g = graphOf S N in
       let Q = K .holds in
       record {
+        some = omega (arith, R .low, R .high);
         few = starts-of (passed S N ok) .few;
         room = l;
         front = f;

@@ -95,6 +95,7 @@ listable-same A c d y = rw (c, d, y) A
 -- no level is above n
 pub any-depth : {n base count k : ℕ} {X : List ℕ} → Listable n base count k X → Listable n base count n X
 any-depth A = record {
+  some = A .some;
   few = A .few;
   room = A .room;
   front = A .front;

@@ -28,6 +28,7 @@ sizesOf n L = map (countAt L) (upFrom 1 n)
 
 -- what is asked: the search stands in front of TALLY, its queue has the nodes with a level, each once, no level is above k, and TALLY is 0
 pub record Listable (n base count k : ℕ) (X : List ℕ) : Type 0 where
+  pub some : 1 ≤ n
   pub few : n ≤ 4096
   pub room : areasEnd n ≤ length X
   pub front : base + secondArea n ≤ tallyArea n

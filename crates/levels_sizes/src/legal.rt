@@ -1,8 +1,8 @@
 // Of the scratch's areas (`graph_words::areas`) TALLY has the sizes of the levels of one search, in order from level 1; it is 0 before and
 // after. The levels of the search stand by old number from word `base` on, and its queue behind them: `count` nodes, none deeper than k.
 ghost use mathlib.Core.Path.{_≡_};
-ghost use Prim.Native.Nat.{ℕ, _+_, _≤_};
-ghost use lib.ListN.{length, replicate};
+ghost use Prim.Native.Nat.{ℕ, _+_, _≤_, _<_};
+ghost use lib.ListN.{length, getD, replicate};
 ghost use lib.Seq.{slice, sets};
 ghost use Prim.Native.Nat.{max};
 ghost use Rattle.basis.specs.Lists.{greatest};
@@ -18,18 +18,34 @@ use graph_words::areas::SECOND;
 use graph_words::areas::TALLY;
 use graph_words::wide;
 
+// The word at `at`, where the one at `last` is `size`: the nodes of a level follow one another in the queue, so that it is seldom read.
+fn size_at(scratch: &[u16], last: usize, size: u16, at: usize) -> u16
+    requires { ⌜ at < length (now scratch) ⌝ }
+    requires { ⌜ size ≡ getD (now scratch) last 0 ⌝ }
+    ensures { λ r. ⌜ r ≡ getD (was scratch) at 0 ⌝ }
+{
+    if at == last {
+        return size;
+    }
+    scratch[at]
+}
+
 // The size of each level, n words in order from level 1, zeros after the depth: each node of the queue adds 1 to the word of its level.
 fn list_sizes(scratch: &mut [u16], n: usize, base: usize, count: usize)
     requires { ⌜ Listable n base count n (now scratch) ⌝ }
     ensures { λ _. ⌜ left scratch ≡ sets (was scratch) (tallyArea n) (sizesOf n (levelsAt n base (was scratch))) ⌝ }
     ensures { λ _. ⌜ ((g : Graph) (r : ℕ) → RootedAt g r n (levelsAt n base (was scratch)) → tallyOf n (left scratch) ≡ sizeList g (levels g r)) ⌝ }
 {
+    let mut last = TALLY * n;
+    let mut size = 0;
     let mut i = 0;
     while i < count {
         let p = wide(scratch[base + n + i]);
         let level = wide(scratch[base + p - 1]);
         let at = TALLY * n + level - 1;
-        scratch[at] = scratch[at] + 1;
+        size = size_at(scratch, last, size, at) + 1;
+        scratch[at] = size;
+        last = at;
         i += 1;
     }
 }

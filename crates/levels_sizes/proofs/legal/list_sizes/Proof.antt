@@ -8,10 +8,10 @@ use Rattle.levels_sizes.proofs.legal.list_sizes.Statement.{statement}
 use Rattle.levels_sizes.proofs.legal.list_sizes.Tie as tie
 
 abbrev Inv-loop : tie.InvT-loop
-Inv-loop scratch₀ n base count i₀ scratch i = Listing n base count n scratch₀ scratch i
+Inv-loop scratch₀ n base count last₀ size₀ i₀ scratch last size i = Listing n base count n scratch₀ scratch last size i
 
 abbrev μ-loop : tie.MeasureT-loop
-μ-loop scratch₀ n base count i₀ scratch i = count - i
+μ-loop scratch₀ n base count last₀ size₀ i₀ scratch last size i = count - i
 
 -- the node read is one, and its level stands in front of TALLY
 in-levels : (c : tie.After-wide Inv-loop μ-loop) → let s = c .before .before .before .before .before in
@@ -25,6 +25,9 @@ test c = c .before .before .before .before
 -- its level is one of 1..n
 level : (c : tie.After-wide2 Inv-loop μ-loop) → (1 ≤ c .wide2 .result) × (c .wide2 .result ≤ test c .before .before .before .args .n)
 level c = list-level (test c .before .loop .inv) (test c .loop-test .taken) (c .before .before .wide .ensures) (c .wide2 .ensures)
+
+mul-last : tie.Need-mul-last Inv-loop μ-loop
+mul-last c = omega (arith, c .before .pre .few)
 
 loop-holds : tie.Need-loop-holds Inv-loop μ-loop
 loop-holds c = list-begin (c .before .pre)
@@ -68,32 +71,43 @@ add-at c = let A = test c .before .loop .inv .ask in let w = level c in omega (a
 sub-at : tie.Need-sub-at Inv-loop μ-loop
 sub-at c = let w = level c in omega (arith, w .0)
 
+size-at-requires : tie.Need-size-at-requires Inv-loop μ-loop
+size-at-requires c κs =
+    let I = test (c .before) .before .loop .inv in
+    let w = level (c .before) in
+    (omega (arith, list-room I, w .0, w .1), I .known)
+
+add-size : tie.Need-add-size Inv-loop μ-loop
+add-size c =
+    let r = c .before .before in
+    let w = level r in
+    record { fits = list-fits (test r .before .loop .inv) (c .size-at .ensures) (omega (arith, w .0, w .1)) (omega (arith, w .0, w .1)) }
+
 mul-scratch : tie.Need-mul-scratch Inv-loop μ-loop
-mul-scratch c = let w = level c in omega (arith, test c .before .loop .inv .ask .few, w .0, w .1)
-
-slice-read-scratch : tie.Need-slice-read-scratch Inv-loop μ-loop
-slice-read-scratch c = let w = level (c .before) in omega (arith, list-room (test (c .before) .before .loop .inv), w .0, w .1)
-
-add-scratch : tie.Need-add-scratch Inv-loop μ-loop
-add-scratch c = let w = level (c .before) in record { fits = list-fits (test (c .before) .before .loop .inv) (omega (arith, w .0, w .1)) (omega (arith, w .0, w .1)) }
-
-mul-scratch-2 : tie.Need-mul-scratch-2 Inv-loop μ-loop
-mul-scratch-2 c = let w = level (c .before) in omega (arith, test (c .before) .before .loop .inv .ask .few, w .0, w .1)
+mul-scratch c =
+    let r = c .before .before in
+    let w = level r in
+    omega (arith, test r .before .loop .inv .ask .few, w .0, w .1)
 
 slice-write-scratch : tie.Need-slice-write-scratch Inv-loop μ-loop
-slice-write-scratch c = let w = level (c .before) in omega (arith, list-room (test (c .before) .before .loop .inv), w .0, w .1)
+slice-write-scratch c =
+    let r = c .before .before in
+    let w = level r in
+    omega (arith, list-room (test r .before .loop .inv), w .0, w .1)
 
 add-i : tie.Need-add-i Inv-loop μ-loop
-add-i c = let I = test (c .before) .before .loop .inv in omega (arith, I .ask .few, I .ask .most, I .most)
+add-i c = let I = test (c .before .before) .before .loop .inv in omega (arith, I .ask .few, I .ask .most, I .most)
 
 loop-less : tie.Need-loop-less Inv-loop μ-loop
-loop-less c = let t = test (c .before) .loop-test .taken in omega arith
+loop-less c = let t = test (c .before .before) .loop-test .taken in omega arith
 
 loop-again : tie.Need-loop-again Inv-loop μ-loop
-loop-again c = let r = c .before in list-step (test r .before .loop .inv) (test r .loop-test .taken) (r .before .before .wide .ensures) (r .wide2 .ensures)
+loop-again c =
+    let r = c .before .before in
+    list-step (test r .before .loop .inv) (test r .loop-test .taken) (r .before .before .wide .ensures) (r .wide2 .ensures) (c .size-at .ensures)
 
 same-length : tie.Need-same-length Inv-loop μ-loop
-same-length c = c .before .loop .inv .size
+same-length c = c .before .loop .inv .words
 
 returns : tie.Need-returns Inv-loop μ-loop
 returns c = let I = c .before .loop .inv in let t = c .loop-test .left in (list-done I t, list-rooted I t)
@@ -104,6 +118,7 @@ list-sizes-spec =
     (tie.spec
     Inv-loop
     μ-loop
+    mul-last
     loop-holds
     add-wide
     add-wide-2
@@ -118,10 +133,9 @@ list-sizes-spec =
     mul-at
     add-at
     sub-at
+    size-at-requires
+    add-size
     mul-scratch
-    slice-read-scratch
-    add-scratch
-    mul-scratch-2
     slice-write-scratch
     add-i
     loop-less
