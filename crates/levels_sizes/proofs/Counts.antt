@@ -1,6 +1,6 @@
 -- The sizes of levels as counts: in a queue of the nodes that have a level, and in the definition's list of sizes. Assumes nothing.
 use mathlib.Core.Path.{_≡_, sym, ap, _∙_}
-use mathlib.Core.Bool.{Bool, true, false, _&&_}
+use mathlib.Core.Bool.{Bool, _&&_}
 use mathlib.Core.List.{List, map, _++_}
 use Prim.Native.Nat.{ℕ, _+_, _-_, _≤_, _<_}
 use native.Mathlib.Omega.{arith}
@@ -12,8 +12,8 @@ use Rattle.basis.specs.Lists.{bit, countb, filterb, upFrom, memb}
 use Rattle.basis.specs.Perm.{times, Perm}
 use Rattle.basis.proofs.Count.{count-map, count-filter, count-cong, count-none, filter-once, upFrom-once}
 use Rattle.basis.proofs.Index.{getD-map-upFrom}
-use Rattle.basis.proofs.Lists.{memb-filter, upFrom-make, upFrom-in, upFrom-append, length-upFrom, map-append}
-use Rattle.basis.proofs.Logic.{by-test, same, and-split, and-make}
+use Rattle.basis.proofs.Lists.{memb-filter, upFrom-make, upFrom-append, length-upFrom, map-append}
+use Rattle.basis.proofs.Logic.{same, and-split, and-make}
 use Rattle.basis.proofs.Perm.{perm-count}
 use Rattle.spec.specs.Combined.{countAt}
 use Rattle.spec.specs.Graph.{Graph, nodes, ofNode}
@@ -23,7 +23,7 @@ use Rattle.laws.proofs.Figures.{sizes-counts}
 use Rattle.laws.proofs.Legal.{ofNode-at}
 use Rattle.laws.proofs.Levels.{level-most, depth-most}
 use Rattle.levels_search.proofs.Tallies.{ofNode-some, once-bit}
-use Rattle.levels_sizes.specs.Sizes.{sizesOf}
+use Rattle.levels_sizes.specs.Sizes.{levelSizes}
 
 -- ---- the queue
 
@@ -79,17 +79,17 @@ count-above g r i h =
     ∙ count-none (λ q. eqb i (levelOf (levels g r) q)) (nodes g) (λ q m. ne-eqb i (levelOf (levels g r) q) (λ e. omega (arith, e, level-most g r q)))
 
 -- the list of sizes has the count of each level
-pub sizes-listed : {g : Graph} (G : LegalGraph g) {r : ℕ} → Node g r → sizesOf (g .size) (levelList g (levels g r)) ≡ sizeList g (levels g r)
+pub sizes-listed : {g : Graph} (G : LegalGraph g) {r : ℕ} → Node g r → levelSizes (g .size) (levelList g (levels g r)) ≡ sizeList g (levels g r)
 unfolding sizeList
 sizes-listed {g} G {r} N =
     let L : List ℕ = levelList g (levels g r) in
     let d : ℕ = depth (levels g r) in
     let e : d + (g .size - d) ≡ g .size = omega (arith, depth-most g r) in
-    ap (sizesOf′ L) (sym e) ∙ ap (map (countAt L)) (sym (upFrom-append 1 d (g .size - d)))
+    ap (levelSizes′ L) (sym e) ∙ ap (map (countAt L)) (sym (upFrom-append 1 d (g .size - d)))
     ∙ map-append (countAt L) (upFrom 1 d) (upFrom (1 + d) (g .size - d)) ∙ (λ i. sym (sizes-counts G N) i ++ rest i)
   where
-    sizesOf′ : List ℕ → ℕ → List ℕ
-    sizesOf′ L m = sizesOf m L
+    levelSizes′ : List ℕ → ℕ → List ℕ
+    levelSizes′ L m = levelSizes m L
 
     rest : map (countAt (levelList g (levels g r))) (upFrom (1 + depth (levels g r)) (g .size - depth (levels g r))) ≡ replicate (g .size - depth (levels g r)) 0
     rest =

@@ -1,18 +1,17 @@
 -- The loop of `list_sizes` over lists: the words of TALLY have the counts of the nodes passed. Assumes nothing.
 use mathlib.Core.Logic.{⊎-elim}
 use mathlib.Core.Path.{_≡_, refl, sym, ap, _∙_, subst}
-use mathlib.Core.Bool.{Bool, true, false}
-use mathlib.Core.List.{List, [], _∷_, _++_, map}
-use Prim.Native.Nat.{ℕ, suc, _+_, _-_, _*_, _≤_, _<_}
+use mathlib.Core.Bool.{true}
+use mathlib.Core.List.{List, [], _∷_, _++_}
+use Prim.Native.Nat.{ℕ, _+_, _-_, _*_, _≤_, _<_}
 use native.Mathlib.Nat.{add-zero}
 use native.Mathlib.Numerals.{add-one}
 use native.Mathlib.Omega.{arith}
-use lib.ListN.{length, getD, set, take, drop, replicate, length-set, length-map, length-take}
-use lib.Seq.{slice, sets, getD-set-same, length-sets, length-slice, ext-getD, getD-take, getD-drop, take-suc, take-all}
+use lib.ListN.{length, getD, set, take, length-set, length-map, length-take}
+use lib.Seq.{sets, getD-set-same, length-sets, length-slice, ext-getD, getD-take, getD-drop, take-suc, take-all}
 use lib.Dec.{eqb, ltb}
 use borrow.Author.Tests.{ne-eqb, eqb-true, eq-eqb, ltb-true}
 use Rattle.basis.specs.Lists.{bit, countb, upFrom, memb}
-use Rattle.basis.specs.Perm.{times}
 use Rattle.basis.proofs.Count.{bit-true, count-append, count-cong, count-length, count-none, memb-times, bit-most}
 use Rattle.basis.proofs.Index.{getD-map-upFrom, memb-getD, zeros-at}
 use Rattle.basis.proofs.Lists.{length-upFrom, memb-take}
@@ -25,10 +24,10 @@ use Rattle.laws.proofs.Legal.{ofNode-at}
 use Rattle.levels_laws.specs.Areas.{tallyOf}
 use Rattle.levels_laws.proofs.Tally.{bump-at}
 use Rattle.levels_search.proofs.Tallies.{ofNode-some}
-use Rattle.levels_sizes.specs.Sizes.{levelsAt, queueAt, sizesOf, Listable, RootedAt}
+use Rattle.levels_sizes.specs.Sizes.{levelsAt, queueAt, levelSizes, Listable, RootedAt}
 use Rattle.levels_sizes.proofs.Counts.{queue-counts, sizes-listed}
 
-pub length-sizes : (n : ℕ) (L : List ℕ) → length (sizesOf n L) ≡ n
+pub length-sizes : (n : ℕ) (L : List ℕ) → length (levelSizes n L) ≡ n
 length-sizes n L = length-map (upFrom 1 n) (countAt L) ∙ length-upFrom 1 n
 
 -- ---- what is read
@@ -189,7 +188,7 @@ module _ {n base count k : ℕ} {X Y : List ℕ} {last size i : ℕ} (I : Listin
   -- every node is counted
   module _ (h : count ≤ i) where
     abbrev zs : List ℕ
-    zs = sizesOf n (levelsAt n base X)
+    zs = levelSizes n (levelsAt n base X)
 
     zs-size : length zs ≡ n
     zs-size = length-sizes n (levelsAt n base X)
@@ -228,7 +227,7 @@ module _ {n base count k : ℕ} {X Y : List ℕ} {last size i : ℕ} (I : Listin
         ext-getD 0 (tallyOf n Y) zs (tally-size ∙ sym zs-size)
         (λ j l.
         getD-drop (5 * n) (take (6 * n) Y) j 0 ∙ getD-take (6 * n) Y (5 * n + j) 0 (omega (arith, tally-size)) ∙ in-tally j (omega (arith, tally-size)))
-        ∙ (λ e. sizesOf (R .size e) (R .listed e)) ∙ sizes-listed (R .legal) (R .root)
+        ∙ (λ e. levelSizes (R .size e) (R .listed e)) ∙ sizes-listed (R .legal) (R .root)
       where
         tally-size : length (tallyOf n Y) ≡ n
         tally-size = length-slice (5 * n) (6 * n) Y list-room ∙ omega arith

@@ -1,19 +1,18 @@
 -- The loop of `take_widest` over lists, and the width from the list of sizes. Assumes nothing.
 use mathlib.Core.Logic.{⊎-elim}
 use mathlib.Core.Path.{_≡_, refl, sym, ap, _∙_, subst}
-use mathlib.Core.List.{List, [], _∷_, _++_, map}
-use Prim.Native.Nat.{ℕ, _+_, _-_, _*_, _≤_, _<_, max}
-use native.Mathlib.Numerals.{add-one}
+use mathlib.Core.List.{List, [], _∷_, map}
+use Prim.Native.Nat.{ℕ, suc, _+_, _-_, _*_, _≤_, _<_, max}
 use native.Mathlib.Omega.{arith}
-use lib.ListN.{length, getD, set, take, drop, replicate, length-replicate, replicate-append-replicate}
-use lib.Seq.{slice, sets, length-sets, length-slice, length-take-le, slice-empty, ext-getD, getD-take, getD-drop, take-suc, drop-append-le}
+use lib.ListN.{length, getD, set, replicate, length-replicate, replicate-append-replicate}
+use lib.Seq.{sets, length-sets, ext-getD}
 use Rattle.basis.specs.Lists.{greatest, upFrom}
-use Rattle.basis.proofs.Index.{greatest-append, getD-map-upFrom, zeros-at}
-use Rattle.basis.proofs.Lists.{length-upFrom}
+use Rattle.basis.proofs.Index.{greatest-step, getD-map-upFrom, zeros-at}
+use Rattle.basis.proofs.Lists.{map-cong, upFrom-in}
 use Rattle.basis.proofs.Logic.{lt-or-le}
 use Rattle.basis.proofs.Next.{sets-append, sets-at, sets-before, sets-behind}
 use Rattle.spec.specs.Combined.{countAt, widthOf}
-use Rattle.levels_sizes.specs.Sizes.{levelsAt, sizesOf, Listable}
+use Rattle.levels_sizes.specs.Sizes.{levelsAt, levelSizes, sizeIn, Listable}
 use Rattle.levels_sizes.proofs.Listing.{length-sizes, blank, count-deep}
 
 -- the levels in front of this one are taken
@@ -24,7 +23,7 @@ pub record Taking (n k : ℕ) (X Y : List ℕ) (top level : ℕ) : Type 0 where
   pub some : 1 ≤ level
   pub most : level ≤ k + 1
   pub cleared : Y ≡ sets X (5 * n) (replicate (level - 1) 0)
-  pub reach : top ≡ greatest (slice (5 * n) (5 * n + (level - 1)) X)
+  pub reach : top ≡ greatest (map (sizeIn n X) (upFrom 1 (level - 1)))
 
 pub take-begin : {n k : ℕ} {X : List ℕ} → n ≤ 4096 → k ≤ n → 6 * n ≤ length X → Taking n k X X 0 1
 take-begin {n} {k} {X} f d r = record {
@@ -34,14 +33,8 @@ take-begin {n} {k} {X} f d r = record {
   some = omega arith;
   most = omega arith;
   cleared = refl;
-  reach = let e : 5 * n ≡ 5 * n + (1 - 1) = omega arith in sym (ap greatest (slice-empty (5 * n) X)) ∙ ap (λ (b : ℕ). greatest (slice (5 * n) b X)) e;
+  reach = refl;
 }
-
--- one word more
-slice-more : (a i : ℕ) (l : List ℕ) → a ≤ i → i < length l → slice a (i + 1) l ≡ slice a i l ++ (getD l i 0 ∷ [])
-slice-more a i l h k =
-    ap (λ (m : ℕ). drop a (take m l)) (add-one i) ∙ ap (drop a) (take-suc l i 0 k)
-    ∙ drop-append-le a (take i l) (getD l i 0 ∷ []) (omega (arith, length-take-le i l (omega arith)))
 
 module _ {n k : ℕ} {X Y : List ℕ} {top level : ℕ} (I : Taking n k X Y top level) where
   pub take-size : length Y ≡ length X
@@ -61,10 +54,8 @@ module _ {n k : ℕ} {X Y : List ℕ} {top level : ℕ} (I : Taking n k X Y top 
         let zs : List ℕ = replicate (level - 1) 0 in
         let a : 5 * n + level - 1 ≡ 5 * n + length zs = omega (arith, length-replicate {A = ℕ} (level - 1) 0, I .some) in
         let b : level - 1 + 1 ≡ level + 1 - 1 = omega (arith, I .some) in
-        let w : ℕ = getD X (5 * n + level - 1) 0 in
-        let c : 5 * n + (level - 1) ≡ 5 * n + level - 1 = omega (arith, I .some) in
-        let m : max (greatest (slice (5 * n) (5 * n + level - 1) X)) w ≡ max (greatest (slice (5 * n) (5 * n + level - 1) X)) (greatest (w ∷ [])) = omega arith in
-        let d : 5 * n + level - 1 + 1 ≡ 5 * n + (level + 1 - 1) = omega (arith, I .some) in
+        let c : 1 + (level - 1) ≡ level = omega (arith, I .some) in
+        let d : suc (level - 1) ≡ level + 1 - 1 = omega (arith, I .some) in
         record {
           few = I .few;
           deep = I .deep;
@@ -75,16 +66,14 @@ module _ {n k : ℕ} {X Y : List ℕ} {top level : ℕ} (I : Taking n k X Y top 
               (λ i. set (I .cleared i) (a i) 0) ∙ sym (sets-append X (5 * n) zs (0 ∷ []))
               ∙ ap (sets X (5 * n)) (replicate-append-replicate (level - 1) 1 0 ∙ ap (λ (m : ℕ). replicate m 0) b);
           reach =
-              t ∙ (λ i. max (I .reach i) (word-same i)) ∙ ap (λ (m : ℕ). max (greatest (slice (5 * n) m X)) w) c
-              ∙ m ∙ sym (greatest-append (slice (5 * n) (5 * n + level - 1) X) (w ∷ []))
-              ∙ sym (ap greatest (slice-more (5 * n) (5 * n + level - 1) X (omega (arith, I .some)) (omega (arith, take-in, take-size))))
-              ∙ ap (λ (m : ℕ). greatest (slice (5 * n) m X)) d;
+              t ∙ (λ i. max (I .reach i) (word-same i)) ∙ ap (λ (m : ℕ). max (greatest (map (sizeIn n X) (upFrom 1 (level - 1)))) (sizeIn n X m)) (sym c)
+              ∙ sym (greatest-step (sizeIn n X) 1 (level - 1)) ∙ ap (λ (m : ℕ). greatest (map (sizeIn n X) (upFrom 1 m))) d;
         }
 
-  pub take-done : k < level → (top ≡ greatest (slice (5 * n) (5 * n + k) X)) × (Y ≡ sets X (5 * n) (replicate k 0))
+  pub take-done : k < level → (top ≡ greatest (map (sizeIn n X) (upFrom 1 k))) × (Y ≡ sets X (5 * n) (replicate k 0))
   take-done h =
       let e : level - 1 ≡ k = omega (arith, I .some, I .most) in
-      (I .reach ∙ ap (λ (m : ℕ). greatest (slice (5 * n) (5 * n + m) X)) e, I .cleared ∙ ap (λ (m : ℕ). sets X (5 * n) (replicate m 0)) e)
+      (I .reach ∙ ap (λ (m : ℕ). greatest (map (sizeIn n X) (upFrom 1 m))) e, I .cleared ∙ ap (λ (m : ℕ). sets X (5 * n) (replicate m 0)) e)
 
 -- ---- the width, and the words as they were
 
@@ -106,28 +95,29 @@ any-depth A = record {
   clean = A .clean;
 }
 
-module _ {n base count k : ℕ} {X Y : List ℕ} (A : Listable n base count k X) (listed : Y ≡ sets X (5 * n) (sizesOf n (levelsAt n base X))) where
+module _ {n base count k : ℕ} {X Y : List ℕ} (A : Listable n base count k X) (listed : Y ≡ sets X (5 * n) (levelSizes n (levelsAt n base X))) where
   abbrev L : List ℕ
   L = levelsAt n base X
 
   pub listed-size : length Y ≡ length X
-  listed-size = ap length listed ∙ length-sets X (5 * n) (sizesOf n L)
+  listed-size = ap length listed ∙ length-sets X (5 * n) (levelSizes n L)
 
   tally-word : (j : ℕ) → j < n → getD Y (5 * n + j) 0 ≡ countAt L (1 + j)
   tally-word j h =
       ap (λ (l : List ℕ). getD l (5 * n + j) 0) listed
-      ∙ sets-at X (5 * n) (sizesOf n L) j (omega (arith, length-sizes n L, A .room)) (omega (arith, length-sizes n L))
+      ∙ sets-at X (5 * n) (levelSizes n L) j (omega (arith, length-sizes n L, A .room)) (omega (arith, length-sizes n L))
       ∙ getD-map-upFrom (countAt L) 1 n j 0 h
 
-  pub width-listed : greatest (slice (5 * n) (5 * n + k) Y) ≡ widthOf k L
+  pub width-listed : greatest (map (sizeIn n Y) (upFrom 1 k)) ≡ widthOf k L
   unfolding widthOf
   width-listed =
-      let s : length (slice (5 * n) (5 * n + k) Y) ≡ k = length-slice (5 * n) (5 * n + k) Y (omega (arith, listed-size, A .room, A .deep)) ∙ omega arith in
       ap greatest
-      (ext-getD 0 (slice (5 * n) (5 * n + k) Y) (map (countAt L) (upFrom 1 k)) (s ∙ sym (length-sizes k L))
-      (λ j l.
-      getD-drop (5 * n) (take (5 * n + k) Y) j 0 ∙ getD-take (5 * n + k) Y (5 * n + j) 0 (omega (arith, s))
-      ∙ tally-word j (omega (arith, s, A .deep)) ∙ sym (getD-map-upFrom (countAt L) 1 k j 0 (omega (arith, s)))))
+      (map-cong (sizeIn n Y) (countAt L) (upFrom 1 k)
+      (λ i m.
+      let u = upFrom-in 1 k i m in
+      let e : 5 * n + i - 1 ≡ 5 * n + (i - 1) = omega (arith, u .0) in
+      let f : 1 + (i - 1) ≡ i = omega (arith, u .0) in
+      ap (λ (j : ℕ). getD Y j 0) e ∙ tally-word (i - 1) (omega (arith, u .0, u .1, A .deep)) ∙ ap (countAt L) f))
 
   tally-zero : (j : ℕ) → k ≤ j → j < n → getD Y (5 * n + j) 0 ≡ 0
   tally-zero j l h = tally-word j h ∙ count-deep A (1 + j) (omega arith)
@@ -142,7 +132,7 @@ module _ {n base count k : ℕ} {X Y : List ℕ} (A : Listable n base count k X)
   word-back j =
       ⊎-elim
       (λ (l : j < 5 * n).
-      sets-before Y (5 * n) zeros j l ∙ ap (λ (x : List ℕ). getD x j 0) listed ∙ sets-before X (5 * n) (sizesOf n L) j l)
+      sets-before Y (5 * n) zeros j l ∙ ap (λ (x : List ℕ). getD x j 0) listed ∙ sets-before X (5 * n) (levelSizes n L) j l)
       (λ (l : 5 * n ≤ j).
       ⊎-elim
       (λ (m : j < 6 * n).
@@ -150,7 +140,7 @@ module _ {n base count k : ℕ} {X Y : List ℕ} (A : Listable n base count k X)
       subst (λ (x : ℕ). getD (sets Y (5 * n) zeros) x 0 ≡ getD X x 0) e (in-tally (j - 5 * n) (omega arith) ∙ sym (blank A (j - 5 * n) (omega arith))))
       (λ (m : 6 * n ≤ j).
       sets-behind Y (5 * n) zeros j (omega (arith, zeros-size, A .deep)) ∙ ap (λ (x : List ℕ). getD x j 0) listed
-      ∙ sets-behind X (5 * n) (sizesOf n L) j (omega (arith, length-sizes n L)))
+      ∙ sets-behind X (5 * n) (levelSizes n L) j (omega (arith, length-sizes n L)))
       (lt-or-le j (6 * n)))
       (lt-or-le j (5 * n))
     where

@@ -1,18 +1,18 @@
 // Of the scratch's areas (`graph_words::areas`) TALLY has the sizes of the levels of one search, in order from level 1; it is 0 before and
 // after. The levels of the search stand by old number from word `base` on, and its queue behind them: `count` nodes, none deeper than k.
+ghost use mathlib.Core.List.{map};
 ghost use mathlib.Core.Path.{_≡_};
-ghost use Prim.Native.Nat.{ℕ, _+_, _≤_, _<_};
+ghost use Prim.Native.Nat.{ℕ, _≤_, _<_, max};
 ghost use lib.ListN.{length, getD, replicate};
-ghost use lib.Seq.{slice, sets};
-ghost use Prim.Native.Nat.{max};
-ghost use Rattle.basis.specs.Lists.{greatest};
+ghost use lib.Seq.{sets};
+ghost use Rattle.basis.specs.Lists.{upFrom, greatest};
 ghost use Rattle.basis.specs.Moments.{was, left};
 ghost use Rattle.spec.specs.Combined.{widthOf};
 ghost use Rattle.spec.specs.Graph.{Graph};
 ghost use Rattle.spec.specs.Levels.{levels, sizeList};
 ghost use Rattle.laws.specs.Scratch.{secondArea, tallyArea, areasEnd};
 ghost use Rattle.levels_laws.specs.Areas.{tallyOf};
-ghost use Rattle.levels_sizes.specs.Sizes.{levelsAt, sizesOf, Listable, RootedAt};
+ghost use Rattle.levels_sizes.specs.Sizes.{levelsAt, levelSizes, sizeIn, Listable, RootedAt};
 use crate::shape::Widths;
 use graph_words::areas::SECOND;
 use graph_words::areas::TALLY;
@@ -33,7 +33,7 @@ fn size_at(scratch: &[u16], last: usize, size: u16, at: usize) -> u16
 // The size of each level, n words in order from level 1, zeros after the depth: each node of the queue adds 1 to the word of its level.
 fn list_sizes(scratch: &mut [u16], n: usize, base: usize, count: usize)
     requires { ⌜ Listable n base count n (now scratch) ⌝ }
-    ensures { λ _. ⌜ left scratch ≡ sets (was scratch) (tallyArea n) (sizesOf n (levelsAt n base (was scratch))) ⌝ }
+    ensures { λ _. ⌜ left scratch ≡ sets (was scratch) (tallyArea n) (levelSizes n (levelsAt n base (was scratch))) ⌝ }
     ensures { λ _. ⌜ ((g : Graph) (r : ℕ) → RootedAt g r n (levelsAt n base (was scratch)) → tallyOf n (left scratch) ≡ sizeList g (levels g r)) ⌝ }
 {
     let mut last = TALLY * n;
@@ -60,7 +60,7 @@ fn wider(x: u16, y: u16) -> u16
 // The greatest of the sizes of the levels 1..k, whose words are then 0.
 fn take_widest(scratch: &mut [u16], n: usize, k: usize) -> u16
     requires { ⌜ (n ≤ 4096) × (k ≤ n) × (areasEnd n ≤ length (now scratch)) ⌝ }
-    ensures { λ r. ⌜ r ≡ greatest (slice (tallyArea n) (tallyArea n + k) (was scratch)) ⌝ }
+    ensures { λ r. ⌜ r ≡ greatest (map (sizeIn n (was scratch)) (upFrom 1 k)) ⌝ }
     ensures { λ _. ⌜ left scratch ≡ sets (was scratch) (tallyArea n) (replicate k 0) ⌝ }
 {
     let mut top = 0;

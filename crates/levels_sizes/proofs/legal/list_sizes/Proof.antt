@@ -1,8 +1,7 @@
 -- `levels_sizes::legal::list_sizes` meets its contract: the loop is `Listing.antt`'s. Assumes nothing.
-use Prim.Native.Nat.{ℕ, _+_, _-_, _*_, _≤_, _<_}
+use Prim.Native.Nat.{_-_, _≤_}
 use native.Mathlib.Omega.{arith}
 use borrow.Author.Needs.{needs}
-use lib.ListN.{length}
 use Rattle.levels_sizes.proofs.Listing.{Listing, list-begin, list-room, list-node, list-level, list-fits, list-step, list-done, list-rooted}
 use Rattle.levels_sizes.proofs.legal.list_sizes.Statement.{statement}
 use Rattle.levels_sizes.proofs.legal.list_sizes.Tie as tie
