@@ -15,7 +15,7 @@ import sys
 
 # by family, in the order of docs/ARCHITECTURE.md
 NEW = {'words': 'graph_words', 'envelope': 'graph_envelope',
-       'search': 'levels_search', 'scan': 'levels_scan', 'sorting': 'levels_sort', 'ends': 'levels_ends', 'placing': 'levels_place', 'dealing': 'levels_pieces',
+       'search': 'levels_search', 'scan': 'levels_rooted', 'sorting': 'levels_sort', 'ends': 'levels_ends', 'placing': 'levels_place', 'dealing': 'levels_pieces',
        'combine': 'levels_combine', 'combining': 'levels_laws', 'piecing': 'levels_laws',
        'parts': 'numbering_parts', 'ranking': 'numbering_stacks', 'order': 'numbering_order', 'turning': 'numbering_reverse', 'sequence': 'numbering_sequence',
        'renumbering': 'numbering_part', 'report': 'numbering_report', 'measures': 'numbering_measures',

@@ -50,8 +50,7 @@ pub rooted-adds-up : (S N : List ℕ) (r : ℕ) (L Z : List ℕ) (f : LevelFigur
 unfolding rootedAnswer rootedSizes levelFigures
 rooted-adds-up S N r L Z f e =
     let w = outcome-accepted (rootedRefusal S N r L Z) (levelFigures (levels (graphOf S N) r)) f e in
-    let front = filled-front (rootedRefusal S N r L Z) (sizeOf S) (sizeList (graphOf S N) (levels (graphOf S N) r)) Z (w .0) (sizes-length (graphOf S N) r) in
-    (
+    let front = filled-front (rootedRefusal S N r L Z) (sizeOf S) (sizeList (graphOf S N) (levels (graphOf S N) r)) Z (w .0) (sizes-length (graphOf S N) r) in (
       ap sum front ∙ sizes-add-up (graphOf S N) r ∙ ap (λ (x : LevelFigures). x .reached) (w .1),
       ap greatest front ∙ sizes-width (graphOf S N) r ∙ ap (λ (x : LevelFigures). x .width) (w .1),
     )
