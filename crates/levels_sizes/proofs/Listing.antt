@@ -1,9 +1,10 @@
--- The loop of `list_sizes` over lists: the words of TALLY have the counts of the nodes passed. Assumes nothing.
+-- The loop of `list_sizes` over lists: the words of TALLY have the counts of the nodes passed, and `top` is the greatest of them. Assumes
+-- nothing.
 use mathlib.Core.Logic.{⊎-elim}
 use mathlib.Core.Path.{_≡_, refl, sym, ap, _∙_, subst}
 use mathlib.Core.Bool.{true}
-use mathlib.Core.List.{List, [], _∷_, _++_}
-use Prim.Native.Nat.{ℕ, _+_, _-_, _*_, _≤_, _<_}
+use mathlib.Core.List.{List, [], _∷_, _++_, map}
+use Prim.Native.Nat.{ℕ, _+_, _-_, _*_, _≤_, _<_, max}
 use native.Mathlib.Nat.{add-zero}
 use native.Mathlib.Numerals.{add-one}
 use native.Mathlib.Omega.{arith}
@@ -11,17 +12,18 @@ use lib.ListN.{length, getD, set, take, length-set, length-map, length-take}
 use lib.Seq.{sets, getD-set-same, length-sets, length-slice, ext-getD, getD-take, getD-drop, take-suc, take-all}
 use lib.Dec.{eqb, ltb}
 use borrow.Author.Tests.{ne-eqb, eqb-true, eq-eqb, ltb-true}
-use Rattle.basis.specs.Lists.{bit, countb, upFrom, memb}
-use Rattle.basis.proofs.Count.{bit-true, count-append, count-cong, count-length, count-none, memb-times, bit-most}
-use Rattle.basis.proofs.Index.{getD-map-upFrom, memb-getD, zeros-at}
-use Rattle.basis.proofs.Lists.{length-upFrom, memb-take}
-use Rattle.basis.proofs.Logic.{same, lt-or-le}
-use Rattle.basis.proofs.Next.{sets-at, sets-before, sets-behind}
+use Rattle.basis.specs.Lists.{bit, countb, upFrom, memb, greatest}
+use Rattle.basis.proofs.Count.{bit-true, bit-none, count-append, count-cong, count-length, count-none, memb-times, bit-most}
+use Rattle.basis.proofs.Index.{getD-map-upFrom, memb-getD, zeros-at, greatest-memb, greatest-le}
+use Rattle.basis.proofs.Lists.{length-upFrom, memb-take, upFrom-in, upFrom-make}
+use Rattle.basis.proofs.Logic.{same, lt-or-le, by-test}
+use Rattle.basis.proofs.Next.{sets-at, sets-before, sets-behind, map-shift}
 use Rattle.spec.specs.Combined.{countAt}
 use Rattle.spec.specs.Graph.{Graph, ofNode}
 use Rattle.spec.specs.Levels.{levels, sizeList}
 use Rattle.laws.proofs.Legal.{ofNode-at}
 use Rattle.levels_laws.specs.Areas.{tallyOf}
+use Rattle.levels_laws.specs.Tally.{bump}
 use Rattle.levels_laws.proofs.Tally.{bump-at}
 use Rattle.levels_search.proofs.Tallies.{ofNode-some}
 use Rattle.levels_sizes.specs.Sizes.{levelsAt, queueAt, levelSizes, Listable, RootedAt}
@@ -29,6 +31,28 @@ use Rattle.levels_sizes.proofs.Counts.{queue-counts, sizes-listed}
 
 pub length-sizes : (n : ℕ) (L : List ℕ) → length (levelSizes n L) ≡ n
 length-sizes n L = length-map (upFrom 1 n) (countAt L) ∙ length-upFrom 1 n
+
+-- ---- the greatest word
+
+-- one word is raised: it, or the greatest before
+greatest-bump : (W : List ℕ) (i : ℕ) (l : List ℕ) → i < length W → memb i l ≡ true
+    → greatest (map (λ j. getD (bump W i) j 0) l) ≡ max (greatest (map (λ j. getD W j 0) l)) (getD W i 0 + 1)
+greatest-bump W i l h m =
+    let old : ℕ → ℕ = λ j. getD W j 0 in
+    let new : ℕ → ℕ = λ j. getD (bump W i) j 0 in
+    let raised : new i ≡ old i + 1 = getD-set-same W i (old i + 1) 0 h in
+    let most : greatest (map new l) ≤ max (greatest (map old l)) (old i + 1) =
+    greatest-le new l (max (greatest (map old l)) (old i + 1))
+    (λ j t.
+    by-test (eqb j i) (λ e. omega (arith, ap new (eqb-true j i e), raised))
+    (λ e. omega (arith, bump-at W i j h, bit-none (eqb j i) e, greatest-memb old l j t))) in
+    let grown : greatest (map old l) ≤ greatest (map new l) =
+    greatest-le old l (greatest (map new l)) (λ j t. omega (arith, bump-at W i j h, greatest-memb new l j t)) in
+    omega (arith, most, grown, raised, greatest-memb new l i m)
+
+-- the greatest word of TALLY
+abbrev topOf : ℕ → List ℕ → ℕ
+topOf n Y = greatest (map (λ j. getD Y j 0) (upFrom (5 * n) n))
 
 -- ---- what is read
 
@@ -102,16 +126,17 @@ module _ {n base count k : ℕ} {X : List ℕ} (A : Listable n base count k X) w
       sym (queue-counts L Q (A .each) i (omega arith))
       ∙ count-none (λ p. eqb i (ofNode L p)) Q (λ p m. ne-eqb i (ofNode L p) (λ e. omega (arith, e, A .under p)))
 
--- ---- the nodes up to i are counted, and the word at `last` is known
+-- ---- the nodes up to i are counted, and the word at `last` and the greatest are known
 
-pub record Listing (n base count k : ℕ) (X Y : List ℕ) (last size i : ℕ) : Type 0 where
+pub record Listing (n base count k : ℕ) (X Y : List ℕ) (last size top i : ℕ) : Type 0 where
   pub ask : Listable n base count k X
   pub most : i ≤ count
   pub words : length Y ≡ length X
   pub known : size ≡ getD Y last 0
+  pub reach : top ≡ topOf n Y
   pub at : (j : ℕ) → getD Y j 0 ≡ getD X j 0 + counted ask j (take i (queueAt n base count X))
 
-pub list-begin : {n base count k : ℕ} {X : List ℕ} → Listable n base count k X → Listing n base count k X X (5 * n) 0 0
+pub list-begin : {n base count k : ℕ} {X : List ℕ} → Listable n base count k X → Listing n base count k X X (5 * n) 0 0 0
 list-begin {n} {X = X} A =
     let e : 5 * n + 0 ≡ 5 * n = omega arith in
     record {
@@ -119,10 +144,17 @@ list-begin {n} {X = X} A =
       most = omega arith;
       words = refl;
       known = sym (ap (λ (j : ℕ). getD X j 0) (sym e) ∙ blank A 0 (A .some));
+      reach = omega (arith, greatest-le (λ j. getD X j 0) (upFrom (5 * n) n) 0 zero-word);
       at = λ j. sym (add-zero (getD X j 0));
     }
+  where
+    zero-word : (j : ℕ) → memb j (upFrom (5 * n) n) ≡ true → getD X j 0 ≤ 0
+    zero-word j m =
+        let u = upFrom-in (5 * n) n j m in
+        let e : 5 * n + (j - 5 * n) ≡ j = omega (arith, u .0) in
+        omega (arith, ap (λ (x : ℕ). getD X x 0) e, blank A (j - 5 * n) (omega (arith, u .0, u .1)))
 
-module _ {n base count k : ℕ} {X Y : List ℕ} {last size i : ℕ} (I : Listing n base count k X Y last size i) where
+module _ {n base count k : ℕ} {X Y : List ℕ} {last size top i : ℕ} (I : Listing n base count k X Y last size top i) where
   A : Listable n base count k X
   A = I .ask
 
@@ -165,8 +197,8 @@ module _ {n base count k : ℕ} {X Y : List ℕ} {last size i : ℕ} (I : Listin
       slot-is : slot ≡ word A p
       slot-is = ap (λ (l : ℕ). 5 * n + l - 1) level-is
 
-      pub list-step : {s : ℕ} → s ≡ getD Y slot 0 → Listing n base count k X (set Y slot (s + 1)) slot (s + 1) (i + 1)
-      list-step {s} e =
+      pub list-step : {s top′ : ℕ} → s ≡ getD Y slot 0 → top′ ≡ max top (s + 1) → Listing n base count k X (set Y slot (s + 1)) slot (s + 1) top′ (i + 1)
+      list-step {s} {top′} e t =
           let w = list-level in
           let Z : List ℕ = queueAt n base count X in
           let u : take (i + 1) Z ≡ take i Z ++ (p ∷ []) =
@@ -177,6 +209,9 @@ module _ {n base count k : ℕ} {X Y : List ℕ} {last size i : ℕ} (I : Listin
             most = omega arith;
             words = length-set Y slot (getD Y slot 0 + 1) ∙ I .words;
             known = sym (getD-set-same Y slot (getD Y slot 0 + 1) 0 in-words);
+            reach =
+                t ∙ (λ r. max (I .reach r) (e r + 1))
+                ∙ sym (greatest-bump Y slot (upFrom (5 * n) n) in-words (upFrom-make (5 * n) n slot (omega (arith, w .0)) (omega (arith, w .0, w .1))));
             at = λ j.
                 let c : counted A j (take (i + 1) Z) ≡ counted A j (take i Z) + counted A j (p ∷ []) =
                 ap (counted A j) u ∙ count-append (λ q. eqb j (word A q)) (take i Z) (p ∷ []) in
@@ -196,13 +231,19 @@ module _ {n base count k : ℕ} {X Y : List ℕ} {last size i : ℕ} (I : Listin
     none : (j : ℕ) → counted A j (take i (queueAt n base count X)) ≡ 0 → getD Y j 0 ≡ getD X j 0
     none j e = I .at j ∙ ap (λ (c : ℕ). getD X j 0 + c) e ∙ add-zero (getD X j 0)
 
-    in-tally : (j : ℕ) → j < n → getD Y (5 * n + j) 0 ≡ getD zs j 0
-    in-tally j l =
+    size-in : (j : ℕ) → j < n → getD Y (5 * n + j) 0 ≡ countAt (levelsAt n base X) (1 + j)
+    size-in j l =
         let Z : List ℕ = queueAt n base count X in
         let all : take i Z ≡ Z = take-all i Z (omega (arith, Q-size A)) in
         let e : getD Y (5 * n + j) 0 ≡ counted A (5 * n + j) Z =
         omega (arith, I .at (5 * n + j), blank A j l, ap (counted A (5 * n + j)) all) in
-        e ∙ counted-all A j ∙ sym (getD-map-upFrom (countAt (levelsAt n base X)) 1 n j 0 l)
+        e ∙ counted-all A j
+
+    in-tally : (j : ℕ) → j < n → getD Y (5 * n + j) 0 ≡ getD zs j 0
+    in-tally j l = size-in j l ∙ sym (getD-map-upFrom (countAt (levelsAt n base X)) 1 n j 0 l)
+
+    pub list-top : top ≡ greatest zs
+    list-top = I .reach ∙ ap greatest (map-shift (λ j. getD Y j 0) (countAt (levelsAt n base X)) (5 * n) 1 n size-in)
 
     word-done : (j : ℕ) → getD Y j 0 ≡ getD (sets X (5 * n) zs) j 0
     word-done j =

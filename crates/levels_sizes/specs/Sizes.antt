@@ -1,8 +1,8 @@
 -- The levels and the queue of a search in the run's scratch, and the sizes of its levels. Assumes nothing.
 use mathlib.Core.Path.{_≡_}
 use mathlib.Core.List.{List, map}
-use Prim.Native.Nat.{ℕ, _+_, _-_, _≤_}
-use lib.ListN.{length, getD, replicate}
+use Prim.Native.Nat.{ℕ, _+_, _≤_}
+use lib.ListN.{length, replicate}
 use lib.Seq.{slice}
 use lib.Dec.{ltb}
 use Rattle.basis.specs.Lists.{bit, upFrom}
@@ -25,10 +25,6 @@ queueAt n base count X = slice (base + n) (base + n + count) X
 -- the size of each level in order from level 1, n words
 abbrev pub levelSizes : ℕ → List ℕ → List ℕ
 levelSizes n L = map (countAt L) (upFrom 1 n)
-
--- the size of level i as it stands in TALLY
-abbrev pub sizeIn : ℕ → List ℕ → ℕ → ℕ
-sizeIn n X i = getD X (tallyArea n + i - 1) 0
 
 -- what is asked: the search stands in front of TALLY, its queue has the nodes with a level, each once, no level is above k, and TALLY is 0
 pub record Listable (n base count k : ℕ) (X : List ℕ) : Type 0 where

@@ -2,15 +2,15 @@
 use Prim.Native.Nat.{_-_, _≤_}
 use native.Mathlib.Omega.{arith}
 use borrow.Author.Needs.{needs}
-use Rattle.levels_sizes.proofs.Listing.{Listing, list-begin, list-room, list-node, list-level, list-fits, list-step, list-done, list-rooted}
+use Rattle.levels_sizes.proofs.Listing.{Listing, list-begin, list-room, list-node, list-level, list-fits, list-step, list-done, list-rooted, list-top}
 use Rattle.levels_sizes.proofs.legal.list_sizes.Statement.{statement}
 use Rattle.levels_sizes.proofs.legal.list_sizes.Tie as tie
 
 abbrev Inv-loop : tie.InvT-loop
-Inv-loop scratch₀ n base count last₀ size₀ i₀ scratch last size i = Listing n base count n scratch₀ scratch last size i
+Inv-loop scratch₀ n base count last₀ size₀ top₀ i₀ scratch last size top i = Listing n base count n scratch₀ scratch last size top i
 
 abbrev μ-loop : tie.MeasureT-loop
-μ-loop scratch₀ n base count last₀ size₀ i₀ scratch last size i = count - i
+μ-loop scratch₀ n base count last₀ size₀ top₀ i₀ scratch last size top i = count - i
 
 -- the node read is one, and its level stands in front of TALLY
 in-levels : (c : tie.After-wide Inv-loop μ-loop) → let s = c .before .before .before .before .before in
@@ -24,6 +24,10 @@ test c = c .before .before .before .before
 -- its level is one of 1..n
 level : (c : tie.After-wide2 Inv-loop μ-loop) → (1 ≤ c .wide2 .result) × (c .wide2 .result ≤ test c .before .before .before .args .n)
 level c = list-level (test c .before .loop .inv) (test c .loop-test .taken) (c .before .before .wide .ensures) (c .wide2 .ensures)
+
+-- where the level is read, from where its size is
+abbrev read : tie.After-size-at Inv-loop μ-loop → tie.After-wide2 Inv-loop μ-loop
+read c = c .before .before
 
 mul-last : tie.Need-mul-last Inv-loop μ-loop
 mul-last c = omega (arith, c .before .pre .few)
@@ -78,38 +82,42 @@ size-at-requires c κs =
 
 add-size : tie.Need-add-size Inv-loop μ-loop
 add-size c =
-    let r = c .before .before in
+    let r = read c in
     let w = level r in
     record { fits = list-fits (test r .before .loop .inv) (c .size-at .ensures) (omega (arith, w .0, w .1)) (omega (arith, w .0, w .1)) }
 
 mul-scratch : tie.Need-mul-scratch Inv-loop μ-loop
 mul-scratch c =
-    let r = c .before .before in
+    let r = read c in
     let w = level r in
     omega (arith, test r .before .loop .inv .ask .few, w .0, w .1)
 
 slice-write-scratch : tie.Need-slice-write-scratch Inv-loop μ-loop
 slice-write-scratch c =
-    let r = c .before .before in
+    let r = read c in
     let w = level r in
     omega (arith, list-room (test r .before .loop .inv), w .0, w .1)
 
+wider-requires : tie.Need-wider-requires Inv-loop μ-loop
+wider-requires c κs = search needs
+
 add-i : tie.Need-add-i Inv-loop μ-loop
-add-i c = let I = test (c .before .before) .before .loop .inv in omega (arith, I .ask .few, I .ask .most, I .most)
+add-i c = let I = test (read (c .before)) .before .loop .inv in omega (arith, I .ask .few, I .ask .most, I .most)
 
 loop-less : tie.Need-loop-less Inv-loop μ-loop
-loop-less c = let t = test (c .before .before) .loop-test .taken in omega arith
+loop-less c = let t = test (read (c .before)) .loop-test .taken in omega arith
 
 loop-again : tie.Need-loop-again Inv-loop μ-loop
 loop-again c =
-    let r = c .before .before in
-    list-step (test r .before .loop .inv) (test r .loop-test .taken) (r .before .before .wide .ensures) (r .wide2 .ensures) (c .size-at .ensures)
+    let r = read (c .before) in
+    list-step (test r .before .loop .inv) (test r .loop-test .taken) (r .before .before .wide .ensures) (r .wide2 .ensures)
+    (c .before .size-at .ensures) (c .wider .ensures)
 
 same-length : tie.Need-same-length Inv-loop μ-loop
 same-length c = c .before .loop .inv .words
 
 returns : tie.Need-returns Inv-loop μ-loop
-returns c = let I = c .before .loop .inv in let t = c .loop-test .left in (list-done I t, list-rooted I t)
+returns c = let I = c .before .loop .inv in let t = c .loop-test .left in (list-top I t, (list-done I t, list-rooted I t))
 
 pub list-sizes-spec : {M : Type 1} → statement M
 list-sizes-spec =
@@ -136,6 +144,7 @@ list-sizes-spec =
     add-size
     mul-scratch
     slice-write-scratch
+    wider-requires
     add-i
     loop-less
     loop-again

@@ -12,11 +12,11 @@ start c = c .before .before .before
 list-sizes-requires : tie.Need-list-sizes-requires
 list-sizes-requires c κs = any-depth (c .before .before .pre)
 
-take-widest-requires : tie.Need-take-widest-requires
-take-widest-requires c κs =
+wipe-sizes-requires : tie.Need-wipe-sizes-requires
+wipe-sizes-requires c κs =
     let at = c .before .before .before in
     let A = start at .pre in
-    (A .few, A .deep, omega (arith, A .room, listed-size A (at .list-sizes .ensures .0)))
+    (A .few, A .deep, omega (arith, A .room, listed-size A (at .list-sizes .ensures .1 .0)))
 
 same-length : tie.Need-same-length
 same-length c = search needs
@@ -26,8 +26,8 @@ returns c =
     let w = c .before .before in
     let at = w .before .before .before .before in
     let A = start at .pre in
-    let e = at .list-sizes .ensures .0 in
-    (w .take-widest .ensures .0 ∙ width-listed A e, w .take-widest .ensures .1 ∙ words-back A e)
+    let E = at .list-sizes .ensures in
+    (E .0 ∙ width-listed A, w .wipe-sizes .ensures ∙ words-back A (E .1 .0))
 
 pub width-of-spec : {M : Type 1} → statement M
-width-of-spec = tie.close (tie.spec list-sizes-requires take-widest-requires same-length returns)
+width-of-spec = tie.close (tie.spec list-sizes-requires wipe-sizes-requires same-length returns)
