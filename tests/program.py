@@ -162,8 +162,9 @@ def explained(c, folder):
     """--explain leaves standard output and the status as they are."""
     told = b'In words (the answer is proved, this help is not):\n  '
     figures = b'5 nodes, 4 elements (bar 4)\n  bandwidth 3 before, 1 after\n  profile 7 before, 4 after\n  front 3 before, 2 after\n'
-    c.equal('explained', run('--explain', written(folder, SAMPLE)), (0, sample_text(), told + figures))
-    c.equal('explained, standard input', run('--explain', given=SAMPLE), (0, sample_text(), told + figures))
+    thickest = b'  thickest at combined level 1 of 5, 1 node, the first of 5 such: 4\n    nodes in each level: [1] 1 1 1 1\n'
+    c.equal('explained', run('--explain', written(folder, SAMPLE)), (0, sample_text(), told + figures + thickest))
+    c.equal('explained, standard input', run('--explain', given=SAMPLE), (0, sample_text(), told + figures + thickest))
     for content, where in ((grd_file(3, (2, 1, 2, 3), (2, 1, 2, 4)), b'element 2 (byte 17), a triangle, has node 4, and the nodes are 1 to 3'),
                            (b'', b'the file has only 0 bytes'), (LONGEST + bytes(9), b'the file is too long')):
         status, out, err = run('--explain', written(folder, content))
