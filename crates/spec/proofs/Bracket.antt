@@ -10,7 +10,7 @@ use Rattle.spec.specs.Text.{ascii}
 use Rattle.spec.specs.File.{programOutput}
 use Rattle.spec.specs.Lent.{refused, accepted}
 use Rattle.spec.proofs.Compute.{computes}
-use Rattle.spec.proofs.Called.{Lists, numbersFor, levelsFor, figuresFor, rootedFor, reportFor, measuresFor, eliminationFor, bytesFor, eight}
+use Rattle.spec.proofs.Called.{Lists, numbersFor, levelsFor, figuresFor, rootedFor, reportFor, measuresFor, eliminationFor, bytesFor, seven, passesFor}
 
 -- one node
 one : Lists
@@ -54,24 +54,25 @@ sample =
 record BracketTable : Type 0 where
   -- One node: number 1, bandwidth 0, profile 0, front 1
   one-numbers : numbersFor one ≡ 1 ∷ []
-  one-figures : figuresFor one ≡ eight 1 1 0 0 1 1 1 1
-  -- Two isolated nodes: numbers 1, 2; two parts; passes 2
+  one-figures : figuresFor one ≡ seven 1 1 0 0 1 1 1
+  -- Two isolated nodes: numbers 1, 2; two parts; passes 1, 1 (document 02, A.9)
   isolated-numbers : numbersFor isolated ≡ 1 ∷ 2 ∷ []
-  isolated-figures : figuresFor isolated ≡ eight 2 2 0 0 1 2 1 2
+  isolated-figures : figuresFor isolated ≡ seven 2 2 0 0 1 2 1
+  isolated-passes : passesFor isolated ≡ 1 ∷ 1 ∷ []
   -- Triangle 1-2-3: levels 1, 2, 2; numbers 1, 2, 3; bandwidth 2, profile 3, front 3
   triangle-levels : levelsFor triangle ≡ 1 ∷ 2 ∷ 2 ∷ []
   triangle-numbers : numbersFor triangle ≡ 1 ∷ 2 ∷ 3 ∷ []
-  triangle-figures : figuresFor triangle ≡ eight 3 1 2 3 3 2 2 1
+  triangle-figures : figuresFor triangle ≡ seven 3 1 2 3 3 2 2
   -- Star, centre 1, leaves 2, 3, 4: levels 2, 1, 3, 3; numbers 3, 4, 2, 1, Reversed (4 falls to 3); bandwidth 2, front 2
   star-levels : levelsFor star ≡ 2 ∷ 1 ∷ 3 ∷ 3 ∷ []
   star-numbers : numbersFor star ≡ 3 ∷ 4 ∷ 2 ∷ 1 ∷ []
   star-report : reportFor star 1 ≡ accepted (record { v = 2; u = 3; k = 3; width = 2; passes = 1; direction = Reversed })
   star-forward : profile (inOrder (graphOf (star .starts) (star .neighbours)) (2 ∷ 1 ∷ 3 ∷ 4 ∷ [])) ≡ 4
-  star-figures : figuresFor star ≡ eight 4 1 2 3 2 3 2 1
+  star-figures : figuresFor star ≡ seven 4 1 2 3 2 3 2
   -- Ring 1-2-3-4-1: levels 1, 2, 3, 2; numbers 1, 2, 4, 3; bandwidth 2, profile 5; marks 5, new 1
   ring-levels : levelsFor ring ≡ 1 ∷ 2 ∷ 3 ∷ 2 ∷ []
   ring-numbers : numbersFor ring ≡ 1 ∷ 2 ∷ 4 ∷ 3 ∷ []
-  ring-figures : figuresFor ring ≡ eight 4 1 2 5 3 3 2 1
+  ring-figures : figuresFor ring ≡ seven 4 1 2 5 3 3 2
   ring-marks : eliminationFor ring (1 ∷ 2 ∷ 4 ∷ 3 ∷ []) 1 ≡ accepted (record { marked = 5; new = 1 })
   ring-bytes : bytesFor ring (1 ∷ 2 ∷ 4 ∷ 3 ∷ []) 2 ≡ 31 ∷ 9 ∷ []
   -- Edges 1-2, 1-4, 2-3, 3-5 under numbers 1 to 5: bandwidth 3, profile 7, fronts 3, 3, 3, 2, 1
@@ -96,6 +97,7 @@ bracket-table = record {
   one-figures = refl;
   isolated-numbers = refl;
   isolated-figures = refl;
+  isolated-passes = refl;
   triangle-levels = refl;
   triangle-numbers = refl;
   triangle-figures = refl;

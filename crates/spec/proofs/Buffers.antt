@@ -7,7 +7,7 @@ use mathlib.Core.List.{List, [], _∷_, _++_}
 use lib.ListN.{replicate, take}
 use Rattle.spec.specs.CallsLevels.{rootedAnswer, rootedLevels, rootedSizes, endsAnswer, endsScratch, combinedAnswer, combinedLevels, combinedScratch}
 use Rattle.spec.specs.CallsNumbering.{measuresAnswer, measuresScratch, reportAnswer, reportScratch}
-use Rattle.spec.specs.CallsNumbering.{runAnswer, runNumbers, runLevels, runScratch}
+use Rattle.spec.specs.CallsNumbering.{runAnswer, runNumbers, runLevels, runPasses, runScratch}
 use Rattle.spec.specs.CallsStore.{eliminationAnswer, eliminationScratch, eliminationBytes}
 use Rattle.spec.specs.CallsMesh.{meshAnswer, meshStarts, meshNeighbours, meshScratch}
 use Rattle.spec.proofs.Compute.{computes}
@@ -47,12 +47,13 @@ combined l z j k =
 report : Lists → ℕ → ℕ → Left
 report l z k = leaves (numberOf (reportAnswer (l .starts) (l .neighbours) z (lent k))) (reportScratch (l .starts) (l .neighbours) z (lent k) ∷ [])
 
-wholeRun : Lists → ℕ → ℕ → ℕ → Left
-wholeRun l i j k =
-    leaves (numberOf (runAnswer (l .starts) (l .neighbours) (lent i) (lent j) (lent k)))
-    (runNumbers (l .starts) (l .neighbours) (lent i) (lent j) (lent k)
-    ∷ runLevels (l .starts) (l .neighbours) (lent i) (lent j) (lent k)
-    ∷ runScratch (l .starts) (l .neighbours) (lent i) (lent j) (lent k)
+wholeRun : Lists → ℕ → ℕ → ℕ → ℕ → Left
+wholeRun l i j p k =
+    leaves (numberOf (runAnswer (l .starts) (l .neighbours) (lent i) (lent j) (lent p) (lent k)))
+    (runNumbers (l .starts) (l .neighbours) (lent i) (lent j) (lent p) (lent k)
+    ∷ runLevels (l .starts) (l .neighbours) (lent i) (lent j) (lent p) (lent k)
+    ∷ runPasses (l .starts) (l .neighbours) (lent i) (lent j) (lent p) (lent k)
+    ∷ runScratch (l .starts) (l .neighbours) (lent i) (lent j) (lent p) (lent k)
     ∷ [])
 
 measured : Lists → List ℕ → ℕ → Left
@@ -79,6 +80,10 @@ pair = record { starts = 0 ∷ 1 ∷ 2 ∷ []; neighbours = 2 ∷ 1 ∷ [] }
 apart : Lists
 apart = record { starts = 0 ∷ 0 ∷ 0 ∷ []; neighbours = [] }
 
+-- nodes 2 and 3, joined, and node 1 alone
+loneFirst : Lists
+loneFirst = record { starts = 0 ∷ 0 ∷ 1 ∷ 2 ∷ []; neighbours = 3 ∷ 2 ∷ [] }
+
 -- rows {2}, {}: 4
 unpaired : Lists
 unpaired = record { starts = 0 ∷ 1 ∷ 1 ∷ []; neighbours = 2 ∷ [] }
@@ -95,7 +100,7 @@ record BufferTable : Type 0 where
   ends-accepted : ends pair 1 13 ≡ leaves 0 (cleared 12 ∷ [])
   combined-accepted : combined pair 1 3 13 ≡ leaves 0 ((1 ∷ 2 ∷ 9 ∷ []) ∷ cleared 12 ∷ [])
   report-accepted : report pair 1 13 ≡ leaves 0 (cleared 12 ∷ [])
-  run-accepted : wholeRun pair 3 3 13 ≡ leaves 0 ((1 ∷ 2 ∷ 9 ∷ []) ∷ (1 ∷ 2 ∷ 9 ∷ []) ∷ cleared 12 ∷ [])
+  run-accepted : wholeRun pair 3 3 3 13 ≡ leaves 0 ((1 ∷ 2 ∷ 9 ∷ []) ∷ (1 ∷ 2 ∷ 9 ∷ []) ∷ (1 ∷ 0 ∷ 9 ∷ []) ∷ cleared 12 ∷ [])
   measures-accepted : measured pair (1 ∷ 2 ∷ []) 3 ≡ leaves 0 (cleared 2 ∷ [])
   elimination-accepted : eliminated pair (1 ∷ 2 ∷ []) 3 2 ≡ leaves 0 (cleared 2 ∷ (1 ∷ 9 ∷ []) ∷ [])
   mesh-accepted : meshed 2 (1 ∷ 1 ∷ 2 ∷ []) 4 32768 3 ≡ leaves 0 ((0 ∷ 1 ∷ 2 ∷ 9 ∷ []) ∷ (2 ∷ 1 ∷ 9 ∷ 9 ∷ []) ∷ cleared 2 ∷ [])
@@ -103,21 +108,24 @@ record BufferTable : Type 0 where
   ends-exact : ends pair 1 12 ≡ leaves 0 (replicate 12 0 ∷ [])
   combined-exact : combined pair 1 2 12 ≡ leaves 0 ((1 ∷ 2 ∷ []) ∷ replicate 12 0 ∷ [])
   report-exact : report pair 1 12 ≡ leaves 0 (replicate 12 0 ∷ [])
-  run-exact : wholeRun pair 2 2 12 ≡ leaves 0 ((1 ∷ 2 ∷ []) ∷ (1 ∷ 2 ∷ []) ∷ replicate 12 0 ∷ [])
+  run-exact : wholeRun pair 2 2 2 12 ≡ leaves 0 ((1 ∷ 2 ∷ []) ∷ (1 ∷ 2 ∷ []) ∷ (1 ∷ 0 ∷ []) ∷ replicate 12 0 ∷ [])
   ends-eight : ends pair 1 16 ≡ leaves 0 ((replicate 12 0 ++ lent 4) ∷ [])
   combined-eight : combined pair 1 2 16 ≡ leaves 0 ((1 ∷ 2 ∷ []) ∷ (replicate 12 0 ++ lent 4) ∷ [])
   report-eight : report pair 1 16 ≡ leaves 0 ((replicate 12 0 ++ lent 4) ∷ [])
-  run-eight : wholeRun pair 2 2 16 ≡ leaves 0 ((1 ∷ 2 ∷ []) ∷ (1 ∷ 2 ∷ []) ∷ (replicate 12 0 ++ lent 4) ∷ [])
+  run-eight : wholeRun pair 2 2 2 16 ≡ leaves 0 ((1 ∷ 2 ∷ []) ∷ (1 ∷ 2 ∷ []) ∷ (1 ∷ 0 ∷ []) ∷ (replicate 12 0 ++ lent 4) ∷ [])
   -- "the size of each level in order, zeros after the depth" (document 02, A.2): from the centre, from a leaf, and of a lone node's part
   sizes-centre : rooted star 1 5 6 ≡ leaves 0 ((1 ∷ 2 ∷ 2 ∷ 2 ∷ 2 ∷ []) ∷ (1 ∷ 4 ∷ 0 ∷ 0 ∷ 0 ∷ 9 ∷ []) ∷ [])
   sizes-leaf : rooted star 3 5 5 ≡ leaves 0 ((2 ∷ 3 ∷ 1 ∷ 3 ∷ 3 ∷ []) ∷ (1 ∷ 1 ∷ 3 ∷ 0 ∷ 0 ∷ []) ∷ [])
   sizes-lone : rooted apart 2 2 2 ≡ leaves 0 ((0 ∷ 1 ∷ []) ∷ (1 ∷ 0 ∷ []) ∷ [])
+  -- "a count for every part .. zeros after the last part" (document 02, A.9): two lone nodes, and a lone node before a pair
+  passes-apart : wholeRun apart 2 2 3 12 ≡ leaves 0 ((1 ∷ 2 ∷ []) ∷ (1 ∷ 1 ∷ []) ∷ (1 ∷ 1 ∷ 9 ∷ []) ∷ replicate 12 0 ∷ [])
+  passes-after : wholeRun loneFirst 3 3 3 18 ≡ leaves 0 ((1 ∷ 2 ∷ 3 ∷ []) ∷ (1 ∷ 1 ∷ 2 ∷ []) ∷ (1 ∷ 1 ∷ 0 ∷ []) ∷ replicate 18 0 ∷ [])
   -- 1 to 4 leave everything
   rooted-4 : rooted unpaired 1 3 3 ≡ leaves 4 (lent 3 ∷ lent 3 ∷ [])
   ends-4 : ends unpaired 1 13 ≡ leaves 4 (lent 13 ∷ [])
   combined-4 : combined unpaired 1 3 13 ≡ leaves 4 (lent 3 ∷ lent 13 ∷ [])
   report-4 : report unpaired 1 13 ≡ leaves 4 (lent 13 ∷ [])
-  run-4 : wholeRun unpaired 3 3 13 ≡ leaves 4 (lent 3 ∷ lent 3 ∷ lent 13 ∷ [])
+  run-4 : wholeRun unpaired 3 3 3 13 ≡ leaves 4 (lent 3 ∷ lent 3 ∷ lent 3 ∷ lent 13 ∷ [])
   measures-4 : measured unpaired (1 ∷ 2 ∷ []) 3 ≡ leaves 4 (lent 3 ∷ [])
   elimination-4 : eliminated unpaired (1 ∷ 2 ∷ []) 3 2 ≡ leaves 4 (lent 3 ∷ lent 2 ∷ [])
   mesh-1 : meshed 0 [] 4 32768 3 ≡ leaves 1 (lent 4 ∷ lent 4 ∷ lent 3 ∷ [])
@@ -128,9 +136,10 @@ record BufferTable : Type 0 where
   combined-5 : combined pair 0 1 13 ≡ leaves 5 (lent 1 ∷ lent 13 ∷ [])
   combined-5-scratch : combined pair 0 3 11 ≡ leaves 5 (lent 3 ∷ lent 11 ∷ [])
   report-5 : report pair 0 11 ≡ leaves 5 (lent 11 ∷ [])
-  run-5-numbers : wholeRun pair 1 3 13 ≡ leaves 5 (lent 1 ∷ lent 3 ∷ lent 13 ∷ [])
-  run-5-levels : wholeRun pair 3 1 13 ≡ leaves 5 (lent 3 ∷ lent 1 ∷ lent 13 ∷ [])
-  run-5-scratch : wholeRun pair 3 3 11 ≡ leaves 5 (lent 3 ∷ lent 3 ∷ lent 11 ∷ [])
+  run-5-numbers : wholeRun pair 1 3 3 13 ≡ leaves 5 (lent 1 ∷ lent 3 ∷ lent 3 ∷ lent 13 ∷ [])
+  run-5-levels : wholeRun pair 3 1 3 13 ≡ leaves 5 (lent 3 ∷ lent 1 ∷ lent 3 ∷ lent 13 ∷ [])
+  run-5-passes : wholeRun pair 3 3 1 13 ≡ leaves 5 (lent 3 ∷ lent 3 ∷ lent 1 ∷ lent 13 ∷ [])
+  run-5-scratch : wholeRun pair 3 3 3 11 ≡ leaves 5 (lent 3 ∷ lent 3 ∷ lent 3 ∷ lent 11 ∷ [])
   measures-5 : measured pair (1 ∷ 1 ∷ []) 1 ≡ leaves 5 (lent 1 ∷ [])
   elimination-5 : eliminated pair (1 ∷ 1 ∷ []) 1 0 ≡ leaves 5 (lent 1 ∷ [] ∷ [])
   mesh-5-starts : meshed 2 (11 ∷ []) 2 32768 3 ≡ leaves 5 (lent 2 ∷ lent 4 ∷ lent 3 ∷ [])
@@ -153,7 +162,7 @@ record BufferTable : Type 0 where
 
 -- the whole table
 buffer-table : BufferTable
-unfolding computes numberOf leaves lent cleared rooted ends combined report wholeRun measured eliminated meshed pair apart unpaired star
+unfolding computes numberOf leaves lent cleared rooted ends combined report wholeRun measured eliminated meshed pair apart loneFirst unpaired star
 buffer-table = record {
   rooted-accepted = refl;
   ends-accepted = refl;
@@ -174,6 +183,8 @@ buffer-table = record {
   sizes-centre = refl;
   sizes-leaf = refl;
   sizes-lone = refl;
+  passes-apart = refl;
+  passes-after = refl;
   rooted-4 = refl;
   ends-4 = refl;
   combined-4 = refl;
@@ -190,6 +201,7 @@ buffer-table = record {
   report-5 = refl;
   run-5-numbers = refl;
   run-5-levels = refl;
+  run-5-passes = refl;
   run-5-scratch = refl;
   measures-5 = refl;
   elimination-5 = refl;

@@ -7,7 +7,7 @@ use Rattle.spec.specs.Ends.{Ends}
 use Rattle.spec.specs.Numbering.{PartReport, Figures}
 use Rattle.spec.specs.Lent.{Outcome, refused, accepted}
 use Rattle.spec.specs.CallsLevels.{LevelFigures, rootedAnswer, endsAnswer, combinedLevels}
-use Rattle.spec.specs.CallsNumbering.{MeasureFigures, measuresAnswer, reportAnswer, runAnswer, runNumbers, runLevels}
+use Rattle.spec.specs.CallsNumbering.{MeasureFigures, measuresAnswer, reportAnswer, runAnswer, runNumbers, runLevels, runPasses}
 use Rattle.spec.specs.CallsStore.{EliminationFigures, eliminationAnswer, eliminationBytes}
 
 -- a refusal's number, 0 for an accepted call
@@ -26,15 +26,19 @@ words l k = replicate (k * sizeOf (l .starts)) 9
 
 -- the numbers that the run writes
 abbrev pub numbersFor : Lists → List ℕ
-numbersFor l = runNumbers (l .starts) (l .neighbours) (words l 1) (words l 1) (words l 6)
+numbersFor l = runNumbers (l .starts) (l .neighbours) (words l 1) (words l 1) (words l 1) (words l 6)
 
 -- the levels that the run writes
 abbrev pub levelsFor : Lists → List ℕ
-levelsFor l = runLevels (l .starts) (l .neighbours) (words l 1) (words l 1) (words l 6)
+levelsFor l = runLevels (l .starts) (l .neighbours) (words l 1) (words l 1) (words l 1) (words l 6)
+
+-- the passes that the run writes
+abbrev pub passesFor : Lists → List ℕ
+passesFor l = runPasses (l .starts) (l .neighbours) (words l 1) (words l 1) (words l 1) (words l 6)
 
 -- what the run answers
 abbrev pub figuresFor : Lists → Outcome Figures
-figuresFor l = runAnswer (l .starts) (l .neighbours) (words l 1) (words l 1) (words l 6)
+figuresFor l = runAnswer (l .starts) (l .neighbours) (words l 1) (words l 1) (words l 1) (words l 6)
 
 -- the levels rooted at r
 abbrev pub rootedFor : Lists → ℕ → Outcome LevelFigures
@@ -64,7 +68,7 @@ eliminationFor l x b = eliminationAnswer (l .starts) (l .neighbours) x (words l 
 abbrev pub bytesFor : Lists → List ℕ → ℕ → List ℕ
 bytesFor l x b = eliminationBytes (l .starts) (l .neighbours) x (words l 1) (replicate b 9)
 
--- the eight figures in the order of the program's first line
-abbrev pub eight : ℕ → ℕ → ℕ → ℕ → ℕ → ℕ → ℕ → ℕ → Outcome Figures
-eight n parts b p f ls w passes =
-    accepted (record { nodes = n; parts = parts; bandwidth = b; profile = p; front = f; levels = ls; width = w; passes = passes })
+-- the seven figures in the order of the program's first line
+abbrev pub seven : ℕ → ℕ → ℕ → ℕ → ℕ → ℕ → ℕ → Outcome Figures
+seven n parts b p f ls w =
+    accepted (record { nodes = n; parts = parts; bandwidth = b; profile = p; front = f; levels = ls; width = w })

@@ -47,7 +47,7 @@ refusals S N node x k =
     numberOf (adjacencyAnswer S N)
     ∷ numberOf (rootedAnswer S N node w w)
     ∷ numberOf (endsAnswer S N node w)
-    ∷ numberOf (runAnswer S N w w w)
+    ∷ numberOf (runAnswer S N w w w w)
     ∷ numberOf (measuresAnswer S N x w)
     ∷ numberOf (eliminationAnswer S N x w [])
     ∷ []
@@ -66,7 +66,7 @@ names-found = record {
   report = accepted (record { v = 7; u = 1; k = 4; width = 3; passes = 2; direction = Forward });
   levels = 4 ∷ 2 ∷ 2 ∷ 3 ∷ 3 ∷ 3 ∷ 1 ∷ [];
   numbers = 7 ∷ 2 ∷ 3 ∷ 5 ∷ 4 ∷ 6 ∷ 1 ∷ [];
-  figures = accepted (record { nodes = 7; parts = 1; bandwidth = 3; profile = 13; front = 4; levels = 4; width = 3; passes = 2 });
+  figures = accepted (record { nodes = 7; parts = 1; bandwidth = 3; profile = 13; front = 4; levels = 4; width = 3 });
   marks = accepted (record { marked = 13; new = 2 });
   bytes = 255 ∷ 31 ∷ 9 ∷ 9 ∷ [];
 }
@@ -85,7 +85,7 @@ deeper-found = record {
   report = accepted (record { v = 8; u = 5; k = 6; width = 2; passes = 2; direction = Forward });
   levels = 3 ∷ 5 ∷ 2 ∷ 4 ∷ 6 ∷ 5 ∷ 2 ∷ 1 ∷ [];
   numbers = 4 ∷ 6 ∷ 3 ∷ 5 ∷ 8 ∷ 7 ∷ 2 ∷ 1 ∷ [];
-  figures = accepted (record { nodes = 8; parts = 1; bandwidth = 2; profile = 8; front = 3; levels = 6; width = 2; passes = 2 });
+  figures = accepted (record { nodes = 8; parts = 1; bandwidth = 2; profile = 8; front = 3; levels = 6; width = 2 });
   marks = accepted (record { marked = 8; new = 0 });
   bytes = 255 ∷ 9 ∷ 9 ∷ 9 ∷ [];
 }
@@ -104,7 +104,7 @@ passes-found = record {
   report = accepted (record { v = 6; u = 3; k = 6; width = 2; passes = 3; direction = Forward });
   levels = 4 ∷ 4 ∷ 6 ∷ 5 ∷ 5 ∷ 1 ∷ 2 ∷ 2 ∷ 3 ∷ [];
   numbers = 5 ∷ 6 ∷ 9 ∷ 7 ∷ 8 ∷ 1 ∷ 2 ∷ 3 ∷ 4 ∷ [];
-  figures = accepted (record { nodes = 9; parts = 1; bandwidth = 2; profile = 13; front = 3; levels = 6; width = 2; passes = 3 });
+  figures = accepted (record { nodes = 9; parts = 1; bandwidth = 2; profile = 13; front = 3; levels = 6; width = 2 });
   marks = accepted (record { marked = 13; new = 3 });
   bytes = 255 ∷ 31 ∷ 9 ∷ 9 ∷ [];
 }
@@ -123,7 +123,7 @@ inE-found = record {
   report = accepted (record { v = 7; u = 2; k = 5; width = 2; passes = 2; direction = Reversed });
   levels = 2 ∷ 5 ∷ 4 ∷ 5 ∷ 4 ∷ 3 ∷ 1 ∷ [];
   numbers = 6 ∷ 2 ∷ 3 ∷ 1 ∷ 4 ∷ 5 ∷ 7 ∷ [];
-  figures = accepted (record { nodes = 7; parts = 1; bandwidth = 2; profile = 7; front = 3; levels = 5; width = 2; passes = 2 });
+  figures = accepted (record { nodes = 7; parts = 1; bandwidth = 2; profile = 7; front = 3; levels = 5; width = 2 });
   marks = accepted (record { marked = 7; new = 0 });
   bytes = 127 ∷ 9 ∷ 9 ∷ 9 ∷ [];
 }
@@ -142,7 +142,7 @@ equal-found = record {
   report = accepted (record { v = 3; u = 4; k = 4; width = 2; passes = 1; direction = Forward });
   levels = 3 ∷ 2 ∷ 1 ∷ 4 ∷ 4 ∷ 2 ∷ [];
   numbers = 4 ∷ 2 ∷ 1 ∷ 5 ∷ 6 ∷ 3 ∷ [];
-  figures = accepted (record { nodes = 6; parts = 1; bandwidth = 2; profile = 6; front = 3; levels = 4; width = 2; passes = 1 });
+  figures = accepted (record { nodes = 6; parts = 1; bandwidth = 2; profile = 6; front = 3; levels = 4; width = 2 });
   marks = accepted (record { marked = 6; new = 1 });
   bytes = 63 ∷ 9 ∷ 9 ∷ 9 ∷ [];
 }
@@ -161,7 +161,7 @@ larger-found = record {
   report = accepted (record { v = 3; u = 5; k = 3; width = 3; passes = 1; direction = Forward });
   levels = 1 ∷ 2 ∷ 1 ∷ 1 ∷ 3 ∷ 2 ∷ 3 ∷ 2 ∷ [];
   numbers = 2 ∷ 3 ∷ 1 ∷ 8 ∷ 7 ∷ 4 ∷ 6 ∷ 5 ∷ [];
-  figures = accepted (record { nodes = 8; parts = 2; bandwidth = 4; profile = 13; front = 5; levels = 4; width = 3; passes = 2 });
+  figures = accepted (record { nodes = 8; parts = 2; bandwidth = 4; profile = 13; front = 5; levels = 4; width = 3 });
   marks = accepted (record { marked = 13; new = 4 });
   bytes = 255 ∷ 31 ∷ 9 ∷ 9 ∷ [];
 }
@@ -180,7 +180,7 @@ untouched-found = record {
   report = accepted (record { v = 3; u = 4; k = 3; width = 3; passes = 1; direction = Forward });
   levels = 2 ∷ 3 ∷ 1 ∷ 3 ∷ 1 ∷ 1 ∷ 2 ∷ [];
   numbers = 4 ∷ 6 ∷ 1 ∷ 7 ∷ 3 ∷ 2 ∷ 5 ∷ [];
-  figures = accepted (record { nodes = 7; parts = 1; bandwidth = 3; profile = 11; front = 4; levels = 3; width = 3; passes = 1 });
+  figures = accepted (record { nodes = 7; parts = 1; bandwidth = 3; profile = 11; front = 4; levels = 3; width = 3 });
   marks = accepted (record { marked = 11; new = 1 });
   bytes = 255 ∷ 7 ∷ 9 ∷ 9 ∷ [];
 }
@@ -199,7 +199,7 @@ narrower-found = record {
   report = accepted (record { v = 2; u = 1; k = 4; width = 2; passes = 1; direction = Forward });
   levels = 4 ∷ 1 ∷ 3 ∷ 2 ∷ 2 ∷ 3 ∷ [];
   numbers = 6 ∷ 1 ∷ 4 ∷ 2 ∷ 3 ∷ 5 ∷ [];
-  figures = accepted (record { nodes = 6; parts = 1; bandwidth = 2; profile = 6; front = 3; levels = 4; width = 2; passes = 1 });
+  figures = accepted (record { nodes = 6; parts = 1; bandwidth = 2; profile = 6; front = 3; levels = 4; width = 2 });
   marks = accepted (record { marked = 6; new = 0 });
   bytes = 63 ∷ 9 ∷ 9 ∷ 9 ∷ [];
 }
@@ -218,7 +218,7 @@ degrees-found = record {
   report = accepted (record { v = 1; u = 2; k = 3; width = 2; passes = 1; direction = Forward });
   levels = 1 ∷ 3 ∷ 2 ∷ 1 ∷ 2 ∷ 3 ∷ [];
   numbers = 1 ∷ 6 ∷ 3 ∷ 2 ∷ 4 ∷ 5 ∷ [];
-  figures = accepted (record { nodes = 6; parts = 1; bandwidth = 3; profile = 8; front = 4; levels = 3; width = 2; passes = 1 });
+  figures = accepted (record { nodes = 6; parts = 1; bandwidth = 3; profile = 8; front = 4; levels = 3; width = 2 });
   marks = accepted (record { marked = 8; new = 2 });
   bytes = 255 ∷ 9 ∷ 9 ∷ 9 ∷ [];
 }
@@ -237,7 +237,7 @@ leftover-found = record {
   report = accepted (record { v = 6; u = 2; k = 3; width = 3; passes = 1; direction = Forward });
   levels = 2 ∷ 3 ∷ 2 ∷ 1 ∷ 1 ∷ 1 ∷ [];
   numbers = 4 ∷ 6 ∷ 5 ∷ 3 ∷ 2 ∷ 1 ∷ [];
-  figures = accepted (record { nodes = 6; parts = 1; bandwidth = 3; profile = 8; front = 3; levels = 3; width = 3; passes = 1 });
+  figures = accepted (record { nodes = 6; parts = 1; bandwidth = 3; profile = 8; front = 3; levels = 3; width = 3 });
   marks = accepted (record { marked = 8; new = 0 });
   bytes = 255 ∷ 9 ∷ 9 ∷ 9 ∷ [];
 }
@@ -256,7 +256,7 @@ lowest-found = record {
   report = accepted (record { v = 2; u = 1; k = 4; width = 4; passes = 1; direction = Reversed });
   levels = 4 ∷ 1 ∷ 3 ∷ 2 ∷ 2 ∷ 3 ∷ 2 ∷ 2 ∷ 3 ∷ [];
   numbers = 1 ∷ 9 ∷ 4 ∷ 8 ∷ 6 ∷ 3 ∷ 7 ∷ 5 ∷ 2 ∷ [];
-  figures = accepted (record { nodes = 9; parts = 1; bandwidth = 5; profile = 23; front = 5; levels = 4; width = 4; passes = 1 });
+  figures = accepted (record { nodes = 9; parts = 1; bandwidth = 5; profile = 23; front = 5; levels = 4; width = 4 });
   marks = accepted (record { marked = 23; new = 9 });
   bytes = 255 ∷ 255 ∷ 127 ∷ 9 ∷ [];
 }
@@ -275,7 +275,7 @@ directions-found = record {
   report = accepted (record { v = 5; u = 6; k = 4; width = 3; passes = 1; direction = Reversed });
   levels = 3 ∷ 2 ∷ 3 ∷ 1 ∷ 1 ∷ 4 ∷ 3 ∷ [];
   numbers = 4 ∷ 5 ∷ 3 ∷ 7 ∷ 6 ∷ 1 ∷ 2 ∷ [];
-  figures = accepted (record { nodes = 7; parts = 2; bandwidth = 3; profile = 6; front = 3; levels = 5; width = 3; passes = 2 });
+  figures = accepted (record { nodes = 7; parts = 2; bandwidth = 3; profile = 6; front = 3; levels = 5; width = 3 });
   marks = accepted (record { marked = 6; new = 0 });
   bytes = 63 ∷ 9 ∷ 9 ∷ 9 ∷ [];
 }
@@ -294,7 +294,7 @@ profiles-found = record {
   report = accepted (record { v = 1; u = 2; k = 2; width = 2; passes = 1; direction = Forward });
   levels = 1 ∷ 2 ∷ 1 ∷ 2 ∷ [];
   numbers = 1 ∷ 2 ∷ 4 ∷ 3 ∷ [];
-  figures = accepted (record { nodes = 4; parts = 2; bandwidth = 2; profile = 3; front = 3; levels = 3; width = 2; passes = 2 });
+  figures = accepted (record { nodes = 4; parts = 2; bandwidth = 2; profile = 3; front = 3; levels = 3; width = 2 });
   marks = accepted (record { marked = 3; new = 0 });
   bytes = 7 ∷ 9 ∷ 9 ∷ 9 ∷ [];
 }

@@ -23,7 +23,7 @@ N = 2 ∷ 1 ∷ 3 ∷ 2 ∷ []
 
 -- the figures of the path but for bandwidth, profile and width
 abbrev pub figured : ℕ → ℕ → ℕ → Figures
-figured b p w = record { nodes = 3; parts = 1; bandwidth = b; profile = p; front = 2; levels = 3; width = w; passes = 1 }
+figured b p w = record { nodes = 3; parts = 1; bandwidth = b; profile = p; front = 2; levels = 3; width = w }
 
 -- its first level and its last
 first-level : IsLevel (graphOf S N) 1 1
@@ -67,7 +67,7 @@ pub no-other-profile : (L : List ℕ) → Numbered S N (figured 1 5 1) (1 ∷ 2 
 unfolding computes
 no-other-profile L C = let z : _≡_ {A = ℕ} 5 2 = C .profile-is in absurd (omega (arith, z))
 
-pub no-other-front : (L : List ℕ) → Numbered S N (record { nodes = 3; parts = 1; bandwidth = 1; profile = 2; front = 3; levels = 3; width = 1; passes = 1 }) (1 ∷ 2 ∷ 3 ∷ []) L → ⊥
+pub no-other-front : (L : List ℕ) → Numbered S N (record { nodes = 3; parts = 1; bandwidth = 1; profile = 2; front = 3; levels = 3; width = 1 }) (1 ∷ 2 ∷ 3 ∷ []) L → ⊥
 unfolding computes
 no-other-front L C = let z : _≡_ {A = ℕ} 3 2 = C .front-is in absurd (omega (arith, z))
 
@@ -116,7 +116,7 @@ alone (suc zero) (suc (suc i)) v e = let d : _≡_ {A = ℕ} (depthOf (graphOf (
 alone (suc (suc z)) i v e = absurd (omega (arith, eqb-true (suc (suc z)) 1 (sym (memb-one (suc (suc z)) 1) ∙ v .leads)))
 
 -- a width that no level has
-pub no-width-more : (X : List ℕ) → Numbered (0 ∷ 0 ∷ []) [] (record { nodes = 1; parts = 1; bandwidth = 0; profile = 0; front = 1; levels = 1; width = 2; passes = 1 }) X (1 ∷ []) → ⊥
+pub no-width-more : (X : List ℕ) → Numbered (0 ∷ 0 ∷ []) [] (record { nodes = 1; parts = 1; bandwidth = 0; profile = 0; front = 1; levels = 1; width = 2 }) X (1 ∷ []) → ⊥
 no-width-more X C = let w = C .width-met in alone (w .0) (w .1) (w .2) (w .3)
 
 -- ---- on the rows {2}, {}, whose entry lacks its partner

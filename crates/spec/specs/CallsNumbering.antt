@@ -50,18 +50,21 @@ module _ (starts neighbours : List ℕ) (node : ℕ) (scratch : List ℕ) where
   unfoldable pub reportScratch : List ℕ
   reportScratch = partScratch (partRefusal starts neighbours node scratch) starts scratch
 
--- ---- the whole run: numbers n, levels n and scratch 6n are lent
+-- ---- the whole run: numbers n, levels n, passes n and scratch 6n are lent
 
-module _ (starts neighbours numbersBuffer levelsBuffer scratch : List ℕ) where
-  -- 1 to 4, then 5 for any of the three buffers
+module _ (starts neighbours numbersBuffer levelsBuffer passesBuffer scratch : List ℕ) where
+  -- 1 to 4, then 5 for any of the four buffers
   unfoldable pub runRefusal : ℕ
   runRefusal =
       graphRefusal starts neighbours
       orElse refuse
-      (short numbersBuffer (sizeOf starts) || short levelsBuffer (sizeOf starts) || short scratch (wordsPerNode * sizeOf starts))
+      (short numbersBuffer (sizeOf starts)
+      || short levelsBuffer (sizeOf starts)
+      || short passesBuffer (sizeOf starts)
+      || short scratch (wordsPerNode * sizeOf starts))
       5
 
-  -- what the run answers: "the eight figures of the program's first line"
+  -- what the run answers: "seven figures"
   unfoldable pub runAnswer : Outcome Figures
   runAnswer = outcome runRefusal (run (graphOf starts neighbours) .figures)
 
@@ -72,6 +75,10 @@ module _ (starts neighbours numbersBuffer levelsBuffer scratch : List ℕ) where
   -- the levels afterwards, by old number, "as they stand after any change of names"
   unfoldable pub runLevels : List ℕ
   runLevels = filled runRefusal (run (graphOf starts neighbours) .levels) levelsBuffer
+
+  -- the passes afterwards: "a count for every part .. ordered as the parts are", "zeros after the last part"
+  unfoldable pub runPasses : List ℕ
+  runPasses = filled runRefusal (run (graphOf starts neighbours) .passes) passesBuffer
 
   -- the scratch afterwards
   unfoldable pub runScratch : List ℕ

@@ -44,38 +44,38 @@ module _ (starts neighbours numbering scratch bytes : List ℕ) where
   unfoldable pub eliminationBytes : List ℕ
   eliminationBytes = filled eliminationRefusal (markBytes (renumbered (graphOf starts neighbours) numbering)) bytes
 
--- ---- run and eliminate, a call of our own: numbers n, levels n, scratch 6n and the mark bytes are lent. The elimination works in the first
--- n scratch words. Numbers, levels and scratch end as the run leaves them: `runNumbers`, `runLevels` and `runScratch`.
+-- ---- run and eliminate, a call of our own: numbers n, levels n, passes n, scratch 6n and the mark bytes are lent. The elimination works in the
+-- first n scratch words. Numbers, levels, passes and scratch end as the run leaves them: `runNumbers`, `runLevels`, `runPasses`, `runScratch`.
 
 -- the run's figures, and what the elimination answers
 pub record RunElimination : Type 0 where
   pub figures : Figures
   pub elimination : Outcome EliminationFigures
 
-module _ (starts neighbours numbersBuffer levelsBuffer scratch : List ℕ) where
+module _ (starts neighbours numbersBuffer levelsBuffer passesBuffer scratch : List ℕ) where
   -- the numbers handed on: "the run's n, without the excess of a longer buffer"
   unfoldable pub handedNumbers : List ℕ
-  handedNumbers = take (sizeOf starts) (runNumbers starts neighbours numbersBuffer levelsBuffer scratch)
+  handedNumbers = take (sizeOf starts) (runNumbers starts neighbours numbersBuffer levelsBuffer passesBuffer scratch)
 
   -- the scratch handed on: its first n words, as the run leaves them
   unfoldable pub handedScratch : List ℕ
-  handedScratch = take (sizeOf starts) (runScratch starts neighbours numbersBuffer levelsBuffer scratch)
+  handedScratch = take (sizeOf starts) (runScratch starts neighbours numbersBuffer levelsBuffer passesBuffer scratch)
 
-module _ (starts neighbours numbersBuffer levelsBuffer scratch bytes : List ℕ) where
+module _ (starts neighbours numbersBuffer levelsBuffer passesBuffer scratch bytes : List ℕ) where
   -- Refused as the run is. Where the run is accepted and the elimination refuses, the run's figures stand beside that refusal.
   unfoldable pub runEliminateAnswer : Outcome RunElimination
   runEliminateAnswer =
-      outcome (runRefusal starts neighbours numbersBuffer levelsBuffer scratch) (record {
+      outcome (runRefusal starts neighbours numbersBuffer levelsBuffer passesBuffer scratch) (record {
         figures = run (graphOf starts neighbours) .figures;
         elimination =
-            eliminationAnswer starts neighbours (handedNumbers starts neighbours numbersBuffer levelsBuffer scratch)
-            (handedScratch starts neighbours numbersBuffer levelsBuffer scratch) bytes;
+            eliminationAnswer starts neighbours (handedNumbers starts neighbours numbersBuffer levelsBuffer passesBuffer scratch)
+            (handedScratch starts neighbours numbersBuffer levelsBuffer passesBuffer scratch) bytes;
       })
 
   -- the mark bytes afterwards: as the elimination leaves them, untouched where the run is refused
   unfoldable pub runEliminateBytes : List ℕ
   runEliminateBytes =
-      cond (eqb (runRefusal starts neighbours numbersBuffer levelsBuffer scratch) 0)
-      (eliminationBytes starts neighbours (handedNumbers starts neighbours numbersBuffer levelsBuffer scratch)
-      (handedScratch starts neighbours numbersBuffer levelsBuffer scratch) bytes)
+      cond (eqb (runRefusal starts neighbours numbersBuffer levelsBuffer passesBuffer scratch) 0)
+      (eliminationBytes starts neighbours (handedNumbers starts neighbours numbersBuffer levelsBuffer passesBuffer scratch)
+      (handedScratch starts neighbours numbersBuffer levelsBuffer passesBuffer scratch) bytes)
       bytes

@@ -6,7 +6,7 @@ use mathlib.Core.Bool.{Bool, not, _&&_, _||_}
 use mathlib.Core.List.{List, [], _∷_, _++_, map}
 use lib.ListN.{length, getD, drop}
 use lib.Dec.{eqb, ltb}
-use Rattle.basis.specs.Lists.{joinAll}
+use Rattle.basis.specs.Lists.{joinAll, sum}
 use Rattle.spec.specs.Refusal.{refuse, _orElse_}
 use Rattle.spec.specs.Text.{ascii, decimal, newline}
 use Rattle.spec.specs.Graph.{Graph, nodes, badSize, ofNode}
@@ -102,9 +102,9 @@ fileRefusal bs = headerRefusal bs orElse bodyRefusal bs
 unfoldable pub item : String → ℕ → List ℕ
 item label x = ascii label ++ decimal x
 
--- the first line: the eight figures
-unfoldable pub figuresLine : Figures → List ℕ
-figuresLine f =
+-- the first line: the seven figures, and the passes, "their sum under the old label"
+unfoldable pub figuresLine : Figures → ℕ → List ℕ
+figuresLine f passes =
     joinAll
     (item "nodes " (f .nodes)
     ∷ item " parts " (f .parts)
@@ -113,7 +113,7 @@ figuresLine f =
     ∷ item " front " (f .front)
     ∷ item " levels " (f .levels)
     ∷ item " width " (f .width)
-    ∷ item " passes " (f .passes)
+    ∷ item " passes " passes
     ∷ newline
     ∷ [])
 
@@ -123,7 +123,7 @@ nodeLine r z = decimal z ++ item " " (ofNode (r .numbers) z) ++ item " " (ofNode
 
 -- the first line, then the rows "by old number"
 unfoldable pub listing : Graph → Run → List ℕ
-listing g r = figuresLine (r .figures) ++ joinAll (map (nodeLine r) (nodes g))
+listing g r = figuresLine (r .figures) (sum (r .passes)) ++ joinAll (map (nodeLine r) (nodes g))
 
 -- "A refusal prints one line, as `refused 9`"
 unfoldable pub refusedLine : ℕ → List ℕ
