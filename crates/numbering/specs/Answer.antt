@@ -5,9 +5,9 @@ use Rattle.numbering.specs.declared.answer.RunAnswer.{RunAnswer}
 use Rattle.numbering.specs.declared.answer.RunAnswer.the-variants as run
 use Rattle.numbering.specs.declared.answer.RunFigures.{RunFigures}
 
--- "the eight figures of the program's first line"
-abbrev pub eight : RunFigures → Figures
-eight f = record {
+-- "seven figures"
+abbrev pub seven : RunFigures → Figures
+seven f = record {
   nodes = f .nodes;
   parts = f .parts;
   bandwidth = f .bandwidth;
@@ -15,10 +15,9 @@ eight f = record {
   front = f .front;
   levels = f .levels;
   width = f .width;
-  passes = f .passes;
 }
 
 abbrev pub meaning : RunAnswer → Outcome Figures
 -- 1 to 4 or 5, by its number
 meaning (run.Refused c) = refused c
-meaning (run.Numbered f) = accepted (eight f)
+meaning (run.Numbered f) = accepted (seven f)

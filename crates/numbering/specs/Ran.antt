@@ -8,7 +8,7 @@ use lib.Seq.{slice}
 use Rattle.basis.specs.Lists.{joinAll, memb, greatest, sum, position}
 use Rattle.spec.specs.Graph.{Graph, graphOf, sizeOf, graphRefusal, ofNode}
 use Rattle.spec.specs.Levels.{part, leaders, parts}
-use Rattle.spec.specs.Numbering.{PartResult, Figures, partResult, wholeOrder, wholeLevels}
+use Rattle.spec.specs.Numbering.{PartResult, Figures, partResult, wholeOrder, wholeLevels, partPasses}
 use Rattle.laws.specs.Legal.{Node}
 use Rattle.laws.specs.Scratch.{membersArea, tallyArea, areasEnd}
 use Rattle.numbering_parts.specs.Walked.{Walked}
@@ -19,10 +19,10 @@ use Rattle.numbering.specs.declared.legal.Tally.{Tally}
 abbrev pub foundTo : Graph → ℕ → List PartResult
 foundTo g j = map (partResult g) (take j (leaders g))
 
--- After j parts with a nodes: X and L are the numbers and the levels by old number, W the scratch with the members of all parts in
--- their area and zeros in the areas before and behind, and k, w and p what is summed up. The nodes of later parts have level 0; in place of
--- their numbers the lowest node of each has the part's size.
-pub record Ran (S N : List ℕ) (j a k w p : ℕ) (X L W : List ℕ) : Type 0 where
+-- After j parts with a nodes: X and L are the numbers and the levels by old number, P the passes of each part, W the scratch with the members
+-- of all parts in their area and zeros in the areas before and behind, and k and w what is summed up. The nodes of later parts have level 0; in
+-- place of their numbers the lowest node of each has the part's size.
+pub record Ran (S N : List ℕ) (j a k w : ℕ) (X L P W : List ℕ) : Type 0 where
   pub legal : graphRefusal S N ≡ 0
   pub walked : Walked (graphOf S N) j a
   pub room : length X ≡ sizeOf S
@@ -32,9 +32,8 @@ pub record Ran (S N : List ℕ) (j a k w p : ℕ) (X L W : List ℕ) : Type 0 wh
   pub levels : L ≡ wholeLevels (graphOf S N) (foundTo (graphOf S N) j)
   pub depths : k ≡ sum (map (λ r. r .report .k) (foundTo (graphOf S N) j))
   pub widest : w ≡ greatest (map (λ r. r .report .width) (foundTo (graphOf S N) j))
-  pub passes : p ≡ sum (map (λ r. r .report .passes) (foundTo (graphOf S N) j))
+  pub passes : P ≡ partPasses (graphOf S N) (foundTo (graphOf S N) j)
   pub few-levels : k ≤ 4096 * j
-  pub few-passes : p ≤ 4096 * j
   pub words : W ≡ replicate (membersArea (sizeOf S)) 0 ++ (joinAll (parts (graphOf S N)) ++ drop (tallyArea (sizeOf S)) W)
   pub full : areasEnd (sizeOf S) ≤ length W
   pub blank : slice (tallyArea (sizeOf S)) (areasEnd (sizeOf S)) W ≡ replicate (sizeOf S) 0
@@ -46,13 +45,11 @@ added t m f = record {
   nodes = t .nodes + m;
   levels = t .levels + f .k;
   width = max (t .width) (f .width);
-  passes = t .passes + f .passes;
 }
 
 -- what is summed up is that of the figures
-pub record Summed (F : Figures) (parts nodes levels width passes : ℕ) : Type 0 where
+pub record Summed (F : Figures) (parts nodes levels width : ℕ) : Type 0 where
   pub parts-are : parts ≡ F .parts
   pub nodes-are : nodes ≡ F .nodes
   pub levels-are : levels ≡ F .levels
   pub width-is : width ≡ F .width
-  pub passes-are : passes ≡ F .passes

@@ -1,4 +1,4 @@
-// What the whole run answers: "the eight figures of the program's first line", or the number of a refusal.
+// What the whole run answers: "seven figures", those of the program's first line but for the passes, or the number of a refusal.
 pub struct RunFigures {
     pub nodes: u16,
     pub parts: u16,
@@ -9,8 +9,6 @@ pub struct RunFigures {
     pub levels: u32,
     // the greatest count of a level
     pub width: u16,
-    // the passes of all parts
-    pub passes: u32,
 }
 
 pub enum RunAnswer {

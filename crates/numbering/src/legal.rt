@@ -8,7 +8,7 @@ ghost use Rattle.spec.specs.Lent.{zeroed, wordsPerNode};
 ghost use Rattle.spec.specs.Levels.{parts};
 ghost use Rattle.spec.specs.Numbering.{run};
 ghost use Rattle.laws.specs.Handed.{graphNow, graphWas, sizeNow, sizeWas};
-ghost use Rattle.numbering.specs.Answer.{eight};
+ghost use Rattle.numbering.specs.Answer.{seven};
 ghost use Rattle.numbering.specs.Ran.{added, Ran, Summed};
 use crate::answer::RunFigures;
 use graph_words::areas::MEMBERS;
@@ -27,7 +27,6 @@ struct Tally {
     nodes: u16,
     levels: u32,
     width: u16,
-    passes: u32,
 }
 
 // The larger of two widths.
@@ -40,7 +39,7 @@ fn wider(a: u16, b: u16) -> u16
 // What is summed up with one part more, of m nodes.
 fn add_part(t: Tally, m: u16, f: PartFigures) -> Tally
     requires { ⌜ (t .parts < 4096) × (t .nodes + m ≤ 4096) ⌝ }
-    requires { ⌜ (t .levels + f .k ≤ 4096 * 4096) × (t .passes + f .passes ≤ 4096 * 4096) ⌝ }
+    requires { ⌜ t .levels + f .k ≤ 4096 * 4096 ⌝ }
     ensures { λ r. ⌜ r ≡ added t m f ⌝ }
 {
     Tally {
@@ -48,23 +47,24 @@ fn add_part(t: Tally, m: u16, f: PartFigures) -> Tally
         nodes: t.nodes + m,
         levels: t.levels + f.k as u32,
         width: wider(t.width, f.width),
-        passes: t.passes + f.passes as u32,
     }
 }
 
-// "take the next free numbers": one part more, whose size stands where its lowest node gets its number. The scratch is as before.
+// "take the next free numbers": one part more, whose size stands where its lowest node gets its number; its passes stand in the word after
+// those of the parts before. The scratch is as before.
 fn next_part(
     starts: &[u16],
     neighbours: &[u16],
     numbers: &mut [u16],
     levels: &mut [u16],
+    passes: &mut [u16],
     scratch: &mut [u16],
     t: Tally,
 ) -> Tally
     requires { ⌜ t .parts < length (parts (graphNow starts neighbours)) ⌝ }
-    requires { ⌜ Ran (now starts) (now neighbours) (t .parts) (t .nodes) (t .levels) (t .width) (t .passes) (now numbers) (now levels) (now scratch) ⌝ }
+    requires { ⌜ Ran (now starts) (now neighbours) (t .parts) (t .nodes) (t .levels) (t .width) (now numbers) (now levels) (now passes) (now scratch) ⌝ }
     ensures { λ r. ⌜ r .parts ≡ t .parts + 1 ⌝ }
-    ensures { λ r. ⌜ Ran (was starts) (was neighbours) (r .parts) (r .nodes) (r .levels) (r .width) (r .passes) (left numbers) (left levels) (was scratch) ⌝ }
+    ensures { λ r. ⌜ Ran (was starts) (was neighbours) (r .parts) (r .nodes) (r .levels) (r .width) (left numbers) (left levels) (left passes) (was scratch) ⌝ }
     ensures { λ _. ⌜ left scratch ≡ was scratch ⌝ }
 {
     let n = starts.len() - 1;
@@ -74,6 +74,7 @@ fn next_part(
     // A part of one node adds constants, so that the part after it waits for no word that is read here.
     if m == 1 {
         number_lone(numbers, levels, lowest, from);
+        passes[wide(t.parts)] = 1;
         let f = PartFigures {
             k: 1,
             width: 1,
@@ -90,6 +91,7 @@ fn next_part(
         from,
         from + wide(m),
     );
+    passes[wide(t.parts)] = f.passes;
     add_part(t, m, f)
 }
 
@@ -99,14 +101,16 @@ fn number_parts(
     neighbours: &[u16],
     numbers: &mut [u16],
     levels: &mut [u16],
+    passes: &mut [u16],
     scratch: &mut [u16],
     count: u16,
 ) -> Tally
     requires { ⌜ count ≡ length (parts (graphNow starts neighbours)) ⌝ }
-    requires { ⌜ Ran (now starts) (now neighbours) 0 0 0 0 0 (now numbers) (now levels) (now scratch) ⌝ }
-    ensures { λ r. ⌜ Summed (run (graphWas starts neighbours) .figures) (r .parts) (r .nodes) (r .levels) (r .width) (r .passes) ⌝ }
+    requires { ⌜ Ran (now starts) (now neighbours) 0 0 0 0 (now numbers) (now levels) (now passes) (now scratch) ⌝ }
+    ensures { λ r. ⌜ Summed (run (graphWas starts neighbours) .figures) (r .parts) (r .nodes) (r .levels) (r .width) ⌝ }
     ensures { λ _. ⌜ left numbers ≡ run (graphWas starts neighbours) .numbers ⌝ }
     ensures { λ _. ⌜ left levels ≡ run (graphWas starts neighbours) .levels ⌝ }
+    ensures { λ _. ⌜ left passes ≡ run (graphWas starts neighbours) .passes ⌝ }
     ensures { λ _. ⌜ left scratch ≡ was scratch ⌝ }
 {
     let mut t = Tally {
@@ -114,35 +118,37 @@ fn number_parts(
         nodes: 0,
         levels: 0,
         width: 0,
-        passes: 0,
     };
     while t.parts < count {
-        t = next_part(starts, neighbours, numbers, levels, scratch, t);
+        t = next_part(starts, neighbours, numbers, levels, passes, scratch, t);
     }
     t
 }
 
-// Numbers and levels, n words each by old number, and the figures, in scratch that is set to 0 before and after.
+// Numbers and levels, n words each by old number, the passes of each part in n words, and the figures, in scratch that is set to 0 before and after.
 pub fn number_all(
     starts: &[u16],
     neighbours: &[u16],
     numbers: &mut [u16],
     levels: &mut [u16],
+    passes: &mut [u16],
     scratch: &mut [u16],
 ) -> RunFigures
     requires { ⌜ graphRefusal (now starts) (now neighbours) ≡ 0 ⌝ }
-    requires { ⌜ (length (now numbers) ≡ sizeNow starts) × (length (now levels) ≡ sizeNow starts) ⌝ }
+    requires { ⌜ (length (now numbers) ≡ sizeNow starts) × (length (now levels) ≡ sizeNow starts) × (length (now passes) ≡ sizeNow starts) ⌝ }
     requires { ⌜ wordsPerNode * sizeNow starts ≤ length (now scratch) ⌝ }
-    ensures { λ r. ⌜ eight r ≡ run (graphWas starts neighbours) .figures ⌝ }
+    ensures { λ r. ⌜ seven r ≡ run (graphWas starts neighbours) .figures ⌝ }
     ensures { λ _. ⌜ left numbers ≡ run (graphWas starts neighbours) .numbers ⌝ }
     ensures { λ _. ⌜ left levels ≡ run (graphWas starts neighbours) .levels ⌝ }
+    ensures { λ _. ⌜ left passes ≡ run (graphWas starts neighbours) .passes ⌝ }
     ensures { λ _. ⌜ left scratch ≡ zeroed (wordsPerNode * sizeWas starts) (was scratch) ⌝ }
 {
     let n = starts.len() - 1;
     clear(scratch, WORDS_PER_NODE * n);
     clear(levels, n);
+    clear(passes, n);
     let count = members(starts, neighbours, scratch, numbers);
-    let t = number_parts(starts, neighbours, numbers, levels, scratch, count);
+    let t = number_parts(starts, neighbours, numbers, levels, passes, scratch, count);
     let m = figures(starts, neighbours, numbers, &mut scratch[..n]);
     clear(scratch, WORDS_PER_NODE * n);
     RunFigures {
@@ -153,6 +159,5 @@ pub fn number_all(
         front: m.front,
         levels: t.levels,
         width: t.width,
-        passes: t.passes,
     }
 }

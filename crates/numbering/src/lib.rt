@@ -9,7 +9,7 @@ ghost use lib.Dec.{ltb};
 ghost use lib.ListN.{take};
 ghost use Rattle.basis.specs.Moments.{was, left};
 ghost use Rattle.spec.specs.Claim.{Numbered};
-ghost use Rattle.spec.specs.CallsNumbering.{runAnswer, runNumbers, runLevels, runScratch};
+ghost use Rattle.spec.specs.CallsNumbering.{runAnswer, runNumbers, runLevels, runPasses, runScratch};
 ghost use Rattle.spec.specs.Graph.{sizeOf};
 ghost use Rattle.spec.specs.Lent.{accepted, wordsPerNode};
 ghost use Rattle.spec.specs.Numbering.{Figures};
@@ -17,10 +17,10 @@ ghost use Rattle.numbering.specs.Answer.{meaning};
 use answer::RunAnswer;
 use graph::Adjacency;
 
-// 5: numbers, levels or scratch are short.
-fn any_short(n: usize, numbers: usize, levels: usize, scratch: usize) -> bool
+// 5: numbers, levels, passes or scratch are short.
+fn any_short(n: usize, numbers: usize, levels: usize, passes: usize, scratch: usize) -> bool
     requires { ⌜ n ≤ 4096 ⌝ }
-    ensures { λ r. ⌜ r ≡ ltb numbers n || ltb levels n || ltb scratch (wordsPerNode * n) ⌝ }
+    ensures { λ r. ⌜ r ≡ ltb numbers n || ltb levels n || ltb passes n || ltb scratch (wordsPerNode * n) ⌝ }
 {
     if numbers < n {
         return true;
@@ -28,28 +28,34 @@ fn any_short(n: usize, numbers: usize, levels: usize, scratch: usize) -> bool
     if levels < n {
         return true;
     }
+    if passes < n {
+        return true;
+    }
     scratch < levels::legal::WORDS_PER_NODE * n
 }
 
-// The whole run: new numbers and levels by old number in the first n words of the two lists lent, and the eight figures.
+// The whole run: new numbers and levels by old number and the passes of each part in the first n words of the three lists lent, and the seven
+// figures.
 pub fn run(
     starts: &[u16],
     neighbours: &[u16],
     numbers: &mut [u16],
     levels: &mut [u16],
+    passes: &mut [u16],
     scratch: &mut [u16],
 ) -> RunAnswer
-    ensures { λ r. ⌜ meaning r ≡ runAnswer (was starts) (was neighbours) (was numbers) (was levels) (was scratch) ⌝ }
-    ensures { λ _. ⌜ left numbers ≡ runNumbers (was starts) (was neighbours) (was numbers) (was levels) (was scratch) ⌝ }
-    ensures { λ _. ⌜ left levels ≡ runLevels (was starts) (was neighbours) (was numbers) (was levels) (was scratch) ⌝ }
-    ensures { λ _. ⌜ left scratch ≡ runScratch (was starts) (was neighbours) (was numbers) (was levels) (was scratch) ⌝ }
+    ensures { λ r. ⌜ meaning r ≡ runAnswer (was starts) (was neighbours) (was numbers) (was levels) (was passes) (was scratch) ⌝ }
+    ensures { λ _. ⌜ left numbers ≡ runNumbers (was starts) (was neighbours) (was numbers) (was levels) (was passes) (was scratch) ⌝ }
+    ensures { λ _. ⌜ left levels ≡ runLevels (was starts) (was neighbours) (was numbers) (was levels) (was passes) (was scratch) ⌝ }
+    ensures { λ _. ⌜ left passes ≡ runPasses (was starts) (was neighbours) (was numbers) (was levels) (was passes) (was scratch) ⌝ }
+    ensures { λ _. ⌜ left scratch ≡ runScratch (was starts) (was neighbours) (was numbers) (was levels) (was passes) (was scratch) ⌝ }
     ensures { λ r. ⌜ ((F : Figures) → meaning r ≡ accepted F → Numbered (was starts) (was neighbours) F (take (sizeOf (was starts)) (left numbers)) (take (sizeOf (was starts)) (left levels))) ⌝ }
 {
     match graph::test_adjacency(starts, neighbours) {
         Adjacency::Refused(c) => RunAnswer::Refused(c),
         Adjacency::Legal => {
             let n = starts.len() - 1;
-            if any_short(n, numbers.len(), levels.len(), scratch.len()) {
+            if any_short(n, numbers.len(), levels.len(), passes.len(), scratch.len()) {
                 return RunAnswer::Refused(5);
             }
             let f = legal::number_all(
@@ -57,6 +63,7 @@ pub fn run(
                 neighbours,
                 &mut numbers[..n],
                 &mut levels[..n],
+                &mut passes[..n],
                 scratch,
             );
             RunAnswer::Numbered(f)
