@@ -1,7 +1,7 @@
 // The whole run over a legal graph: the parts in order of lowest old number, each with the next free numbers.
 ghost use mathlib.Core.Path.{_≡_};
 ghost use Prim.Native.Nat.{_+_, _*_, _≤_, _<_, max};
-ghost use lib.ListN.{length};
+ghost use lib.ListN.{length, set};
 ghost use Rattle.basis.specs.Moments.{was, left};
 ghost use Rattle.spec.specs.Graph.{graphRefusal};
 ghost use Rattle.spec.specs.Lent.{zeroed, wordsPerNode};
@@ -36,12 +36,14 @@ fn wider(a: u16, b: u16) -> u16
     if a < b { b } else { a }
 }
 
-// What is summed up with one part more, of m nodes.
-fn add_part(t: Tally, m: u16, f: PartFigures) -> Tally
-    requires { ⌜ (t .parts < 4096) × (t .nodes + m ≤ 4096) ⌝ }
+// What is summed up with one part more, of m nodes, whose passes stand in the word after those of the parts before.
+fn add_part(t: Tally, m: u16, f: PartFigures, passes: &mut [u16]) -> Tally
+    requires { ⌜ (t .parts < length (now passes)) × (length (now passes) ≤ 4096) × (t .nodes + m ≤ 4096) ⌝ }
     requires { ⌜ t .levels + f .k ≤ 4096 * 4096 ⌝ }
     ensures { λ r. ⌜ r ≡ added t m f ⌝ }
+    ensures { λ _. ⌜ left passes ≡ set (was passes) (t .parts) (f .passes) ⌝ }
 {
+    passes[wide(t.parts)] = f.passes;
     Tally {
         parts: t.parts + 1,
         nodes: t.nodes + m,
@@ -50,8 +52,7 @@ fn add_part(t: Tally, m: u16, f: PartFigures) -> Tally
     }
 }
 
-// "take the next free numbers": one part more, whose size stands where its lowest node gets its number; its passes stand in the word after
-// those of the parts before. The scratch is as before.
+// "take the next free numbers": one part more, whose size stands where its lowest node gets its number. The scratch is as before.
 fn next_part(
     starts: &[u16],
     neighbours: &[u16],
@@ -74,13 +75,12 @@ fn next_part(
     // A part of one node adds constants, so that the part after it waits for no word that is read here.
     if m == 1 {
         number_lone(numbers, levels, lowest, from);
-        passes[wide(t.parts)] = 1;
         let f = PartFigures {
             k: 1,
             width: 1,
             passes: 1,
         };
-        return add_part(t, 1, f);
+        return add_part(t, 1, f, passes);
     }
     let f = number_part(
         starts,
@@ -91,8 +91,7 @@ fn next_part(
         from,
         from + wide(m),
     );
-    passes[wide(t.parts)] = f.passes;
-    add_part(t, m, f)
+    add_part(t, m, f, passes)
 }
 
 // "Parts come in order of lowest old number". The scratch is as before.
