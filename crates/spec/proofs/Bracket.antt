@@ -50,6 +50,10 @@ sample =
     ∷ 1 ∷ 0 ∷ 3 ∷ 0 ∷ 5 ∷ 0
     ∷ []
 
+-- the file of the two isolated nodes: GRD, version 1, 2 nodes, no element
+isolatedFile : List ℕ
+isolatedFile = 71 ∷ 82 ∷ 68 ∷ 1 ∷ 0 ∷ 2 ∷ 0 ∷ 0 ∷ 0 ∷ []
+
 -- the rows; the figures stand in the order of the program's first line
 record BracketTable : Type 0 where
   -- One node: number 1, bandwidth 0, profile 0, front 1
@@ -88,10 +92,12 @@ record BracketTable : Type 0 where
   root-zero : rootedFor triangle 0 ≡ refused 6
   -- the program's sample
   sample-output : programOutput sample ≡ ascii "nodes 5 parts 1 bandwidth 1 profile 4 front 2 levels 5 width 1 passes 1\n1 2 2\n2 3 3\n3 4 4\n4 1 1\n5 5 5\n"
+  -- "prints their sum under the old label" (document 02, A.9)
+  isolated-output : programOutput isolatedFile ≡ ascii "nodes 2 parts 2 bandwidth 0 profile 0 front 1 levels 2 width 1 passes 2\n1 1 1\n2 2 1\n"
 
 -- the whole table
 bracket-table : BracketTable
-unfolding computes one isolated triangle star ring path unpaired sample
+unfolding computes one isolated triangle star ring path unpaired sample isolatedFile
 bracket-table = record {
   one-numbers = refl;
   one-figures = refl;
@@ -119,4 +125,5 @@ bracket-table = record {
   unpaired-numbers = refl;
   root-zero = refl;
   sample-output = refl;
+  isolated-output = refl;
 }
