@@ -34,18 +34,18 @@ static const Calls PROGRAMS[] = {
 
 // What is lent to a call, and its answer. A list may be longer than it need be.
 struct Lent {
-  Words starts, neighbours, numbers, levels, sizes, scratch;
+  Words starts, neighbours, numbers, levels, sizes, passes, scratch;
   std::vector<u8> bytes;
   std::vector<u64> figures;
   u16 answer;
 
   explicit Lent(size_t n, size_t byte_count = 0)
       : starts(n + 3, 60001), neighbours(32770, 60002), numbers(n + 2, 60003), levels(n + 2, 60004), sizes(n + 2, 60007),
-        scratch(6 * n + 2, 60005), bytes(byte_count + 2, 165), figures(12, 60006), answer(65535) {}
+        passes(n + 2, 60008), scratch(6 * n + 2, 60005), bytes(byte_count + 2, 165), figures(12, 60006), answer(65535) {}
 
   bool operator==(const Lent &o) const {
     return answer == o.answer && starts == o.starts && neighbours == o.neighbours && numbers == o.numbers && levels == o.levels &&
-           sizes == o.sizes && scratch == o.scratch && bytes == o.bytes && figures == o.figures;
+           sizes == o.sizes && passes == o.passes && scratch == o.scratch && bytes == o.bytes && figures == o.figures;
   }
 };
 
@@ -77,7 +77,8 @@ static void mesh_job(const Calls &c, const Given &g, Lent &l) {
 }
 static void run_job(const Calls &c, const Given &g, Lent &l) {
   l.answer = c.run(data(g.starts), g.starts.size(), data(g.neighbours), g.neighbours.size(), l.numbers.data(), l.numbers.size(),
-                   l.levels.data(), l.levels.size(), l.scratch.data(), l.scratch.size(), l.figures.data(), l.figures.size());
+                   l.levels.data(), l.levels.size(), l.passes.data(), l.passes.size(), l.scratch.data(), l.scratch.size(), l.figures.data(),
+                   l.figures.size());
 }
 static void measures_job(const Calls &c, const Given &g, Lent &l) {
   l.answer = c.measures(data(g.starts), g.starts.size(), data(g.neighbours), g.neighbours.size(), data(g.numbering), g.numbering.size(),
@@ -146,6 +147,8 @@ static void try_refusals(const Given &good, size_t byte_count) {
   refused(rooted_job, 6, [n](Given &g, Lent &) { g.root = u16(n + 1); });
   refused(run_job, 5, [n](Given &, Lent &l) { l.numbers.resize(n - 1); });
   refused(run_job, 5, [n](Given &, Lent &l) { l.levels.resize(n - 1); });
+  refused(run_job, 5, [n](Given &, Lent &l) { l.passes.resize(n - 1); });
+  refused(run_job, 5, [](Given &, Lent &l) { l.figures.resize(6); });
   refused(run_job, 5, [n](Given &, Lent &l) { l.scratch.resize(6 * n - 1); });
   for (const Job &job : {Job(measures_job), Job(eliminate_job)}) {
     refused(job, 7, [](Given &g, Lent &) { g.numbering.pop_back(); });
@@ -283,7 +286,10 @@ static void time_lists(const Given &g, bool quick) {
   time_job("mesh", mesh_job, g, Lent(n),
            [&] { bare_mesh(n, data(g.elements), g.elements.size(), own.starts.data(), own.neighbours.data(), own.figures.data()); }, quick);
   time_job("whole run", run_job, g, Lent(n),
-           [&] { bare_run(starts, neighbours, n, own.numbers.data(), own.levels.data(), own.scratch.data(), own.figures.data()); }, quick);
+           [&] {
+             bare_run(starts, neighbours, n, own.numbers.data(), own.levels.data(), own.passes.data(), own.scratch.data(), own.figures.data());
+           },
+           quick);
 }
 
 // The calls that take a numbering, of this profile. They are compared first.
