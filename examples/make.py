@@ -213,9 +213,9 @@ an element counts once, so the graph and the listing are those of the same plate
 
 `tools/README.md` says how a picture is made, and how meshes come from other formats.
 
-`c`, `fortran` and `rust` have callers of the library: `bracket` renumbers a mesh file, says in which level, counted from the node with number 1,
-it is thickest, eliminates by the new numbers and opens the store. In `c`, `grd.c` reads such a file and makes its graph, refused as the program
-refuses it, and `renumber.c` prints its listing.
+`c`, `fortran` and `rust` have callers of the library: `bracket` renumbers a mesh file, says how many passes the search for the ends of each part
+took and in which level, counted from the node with number 1, it is thickest, eliminates by the new numbers and opens the store. In `c`, `grd.c`
+reads such a file and makes its graph, refused as the program refuses it, and `renumber.c` prints its listing.
 '''
 
 

@@ -48,9 +48,9 @@ def expected(file):
     starts, neighbours, scratch = [0] * (n + 1), [0] * 32768, [0] * calls.scratch_words(n)
     entries, = value(calls.mesh(n, words_after_header(file), starts, neighbours, scratch))
     del neighbours[entries:]
-    numbers, levels, sizes = [0] * n, [0] * n, [0] * n
+    numbers, levels, passes, sizes = [0] * n, [0] * n, [0] * n, [0] * n
     before = value(calls.measures(starts, neighbours, list(range(1, n + 1)), scratch))
-    value(calls.whole_run(starts, neighbours, numbers, levels, scratch))
+    parts = value(calls.whole_run(starts, neighbours, numbers, levels, passes, scratch))[1]
     after = value(calls.measures(starts, neighbours, numbers, scratch))
     root = numbers.index(1) + 1
     depth, width, _ = value(calls.rooted_levels(starts, neighbours, root, levels, sizes))
@@ -61,6 +61,7 @@ def expected(file):
         'mesh: nodes {} entries {}'.format(n, entries),
         measures.format('before', *before),
         measures.format('after', *after),
+        ' '.join(['passes:'] + [str(count) for count in passes[:parts]]),
         'levels: root {} depth {} thickest {} nodes {}'.format(root, depth, sizes.index(width) + 1, width),
         'elimination: marked {} new {}'.format(marks, new),
         'store: places {} marked {} edges {}'.format(profile, marks, entries // 2),

@@ -1,4 +1,5 @@
-/* Renumbers a mesh file, says where it is thickest, eliminates by the new numbers and opens the store: examples/bracket.grd, or the file named.
+/* Renumbers a mesh file, says how many passes each part took and where it is thickest, eliminates by the new numbers and opens the store:
+   examples/bracket.grd, or the file named.
    cc -Iinclude examples/c/bracket.c examples/c/grd.c target/staticlib/libcapi.a */
 #include <stdio.h>
 #include <stdlib.h>
@@ -7,7 +8,7 @@
 enum { NODES = WAGONEPOCH_NODES };
 
 static struct graph g;
-static uint16_t numbers[NODES], levels[NODES], rooted[NODES], sizes[NODES], scratch[6 * NODES];
+static uint16_t numbers[NODES], levels[NODES], passes[NODES], rooted[NODES], sizes[NODES], scratch[6 * NODES];
 
 /* The store: row q has the places from[q] on, for the numbers first[q] to q - 1. */
 static size_t first[NODES + 1], from[NODES + 2];
@@ -67,6 +68,16 @@ static void print_measures(const char *when)
     printf("%s: bandwidth %llu profile %llu front %llu\n", when, (unsigned long long)f[0], (unsigned long long)f[1], (unsigned long long)f[2]);
 }
 
+/* The passes of each part, parts by lowest old number: which of them the search for its ends was slow on. */
+static void print_passes(size_t parts)
+{
+    size_t i;
+    printf("passes:");
+    for (i = 0; i < parts; i++)
+        printf(" %u", passes[i]);
+    printf("\n");
+}
+
 /* Where the part that has number 1 is thickest, level by level from the node with that number: the first level with the most nodes. */
 static void print_thickest(void)
 {
@@ -92,11 +103,12 @@ int main(int argc, char **argv)
     for (p = 0; p < g.n; p++)
         numbers[p] = (uint16_t)(p + 1);
     print_measures("before");
-    stop_if(wagonepoch_run(g.starts, g.n + 1, g.neighbours, g.entries, numbers, g.n, levels, g.n, scratch, 6 * g.n, f, WAGONEPOCH_RUN_FIGURES),
-            "run");
+    stop_if(wagonepoch_run(g.starts, g.n + 1, g.neighbours, g.entries, numbers, g.n, levels, g.n, passes, g.n, scratch, 6 * g.n, f,
+                           WAGONEPOCH_RUN_FIGURES), "run");
     /* the run's profile says how many bytes the marks need */
     length = (size_t)(f[3] + 7) / 8;
     print_measures("after");
+    print_passes((size_t)f[1]);
     print_thickest();
     bytes = malloc(length + 1);
     if (bytes == NULL)

@@ -1,4 +1,5 @@
-! Renumbers a mesh file, says where it is thickest, eliminates by the new numbers and opens the store: examples/bracket.grd, or the file named.
+! Renumbers a mesh file, says how many passes each part took and where it is thickest, eliminates by the new numbers and opens the store:
+! examples/bracket.grd, or the file named.
 ! gfortran examples/fortran/wagonepoch.f90 examples/fortran/bracket.f90 target/staticlib/libcapi.a
 program bracket
   use, intrinsic :: iso_c_binding, only: c_int16_t, c_int64_t, c_int8_t, c_size_t
@@ -6,12 +7,13 @@ program bracket
   implicit none
 
   integer(c_int16_t) :: elements(32763), starts(max_nodes + 1), neighbours(max_entries)
-  integer(c_int16_t) :: numbers(max_nodes), levels(max_nodes), rooted(max_nodes), sizes(max_nodes), scratch(6 * max_nodes)
+  integer(c_int16_t) :: numbers(max_nodes), levels(max_nodes), passes(max_nodes), rooted(max_nodes), sizes(max_nodes)
+  integer(c_int16_t) :: scratch(6 * max_nodes)
   integer(c_int8_t), allocatable :: bytes(:)
-  integer(c_int64_t) :: figures(8)
+  integer(c_int64_t) :: figures(7)
   ! the store: row q has the places from(q) on, for the numbers first(q) to q - 1
   integer :: first(max_nodes), from(max_nodes + 1)
-  integer :: p
+  integer :: p, parts
   integer(c_size_t) :: n, words, entries, length
 
   call read_mesh()
@@ -21,10 +23,13 @@ program bracket
   print '(a,i0,a,i0)', 'mesh: nodes ', n, ' entries ', entries
   numbers(1:n) = [(int(p, c_int16_t), p = 1, int(n))]
   call print_measures('before')
-  call stop_if(wagonepoch_run(starts, n + 1, neighbours, entries, numbers, n, levels, n, scratch, 6 * n, figures, 8_c_size_t), &
-               'run')
+  call stop_if(wagonepoch_run(starts, n + 1, neighbours, entries, numbers, n, levels, n, passes, n, scratch, 6 * n, figures, &
+                              7_c_size_t), 'run')
+  parts = int(figures(2))
   length = (figures(4) + 7) / 8
   call print_measures('after')
+  ! the passes of each part, parts by lowest old number: which of them the search for its ends was slow on
+  print '(a,*(1x,i0))', 'passes:', passes(1:parts)
   call print_thickest()
   allocate (bytes(length))
   call stop_if(wagonepoch_eliminate(starts, n + 1, neighbours, entries, numbers, n, scratch, n, bytes, length, figures, &

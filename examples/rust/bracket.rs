@@ -1,4 +1,5 @@
-//! Renumbers a mesh file, says where it is thickest, eliminates by the new numbers and opens the store: examples/bracket.grd, or the file named.
+//! Renumbers a mesh file, says how many passes each part took and where it is thickest, eliminates by the new numbers and opens the store:
+//! examples/bracket.grd, or the file named.
 //! rustc --edition 2021 -L target/staticlib -l static=capi examples/rust/bracket.rs
 mod wagonepoch;
 
@@ -80,6 +81,11 @@ fn print_measures(when: &str, graph: &Graph, numbers: &[u16]) -> Result<(), Stri
     Ok(())
 }
 
+/// The passes of each part, parts by lowest old number: which of them the search for its ends was slow on.
+fn print_passes(passes: &[u16]) {
+    println!("passes:{}", passes.iter().map(|count| format!(" {count}")).collect::<String>());
+}
+
 /// Where the part that has number 1 is thickest, level by level from the node with that number: the first level with the most nodes.
 fn print_thickest(graph: &Graph, numbers: &[u16]) -> Result<(), String> {
     let root = 1 + numbers.iter().take_while(|&&number| number != 1).count();
@@ -109,6 +115,7 @@ fn run() -> Result<(), String> {
     print_measures("before", &graph, &before)?;
     let run = wagonepoch::run(&graph.starts, &graph.neighbours)?;
     print_measures("after", &graph, &run.numbers)?;
+    print_passes(&run.passes);
     print_thickest(&graph, &run.numbers)?;
     let (bytes, [marked, new]) = wagonepoch::eliminate(&graph.starts, &graph.neighbours, &run.numbers, run.figures[3])?;
     println!("elimination: marked {marked} new {new}");

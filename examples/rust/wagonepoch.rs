@@ -11,7 +11,8 @@ mod c {
         ) -> u16;
         pub fn wagonepoch_run(
             starts: *const u16, starts_len: usize, neighbours: *const u16, neighbours_len: usize, numbers: *mut u16, numbers_len: usize,
-            levels: *mut u16, levels_len: usize, scratch: *mut u16, scratch_len: usize, figures: *mut u64, figures_len: usize,
+            levels: *mut u16, levels_len: usize, passes: *mut u16, passes_len: usize, scratch: *mut u16, scratch_len: usize,
+            figures: *mut u64, figures_len: usize,
         ) -> u16;
         pub fn wagonepoch_eliminate(
             starts: *const u16, starts_len: usize, neighbours: *const u16, neighbours_len: usize, numbering: *const u16, numbering_len: usize,
@@ -81,23 +82,28 @@ pub fn measures(starts: &[u16], neighbours: &[u16], numbering: &[u16]) -> Result
     Ok(figures)
 }
 
-/// What the whole run gives: new number and level of each node; nodes, parts, bandwidth, profile, front, levels, width, passes.
+/// What the whole run gives: new number and level of each node; the passes of each part, parts by lowest node; nodes, parts, bandwidth, profile,
+/// front, levels, width.
 pub struct Run {
     pub numbers: Vec<u16>,
     #[allow(dead_code)]
     pub levels: Vec<u16>,
-    pub figures: [u64; 8],
+    pub passes: Vec<u16>,
+    pub figures: [u64; 7],
 }
 
 pub fn run(starts: &[u16], neighbours: &[u16]) -> Result<Run, String> {
     let n = nodes(starts);
-    let (mut scratch, mut run) = (vec![0; 6 * n], Run { numbers: vec![0; n], levels: vec![0; n], figures: [0; 8] });
+    let mut scratch = vec![0; 6 * n];
+    let mut run = Run { numbers: vec![0; n], levels: vec![0; n], passes: vec![0; n], figures: [0; 7] };
     refused("run", unsafe {
         c::wagonepoch_run(
             starts.as_ptr(), starts.len(), neighbours.as_ptr(), neighbours.len(), run.numbers.as_mut_ptr(), n,
-            run.levels.as_mut_ptr(), n, scratch.as_mut_ptr(), scratch.len(), run.figures.as_mut_ptr(), run.figures.len(),
+            run.levels.as_mut_ptr(), n, run.passes.as_mut_ptr(), n, scratch.as_mut_ptr(), scratch.len(), run.figures.as_mut_ptr(),
+            run.figures.len(),
         )
     })?;
+    run.passes.truncate(run.figures[1] as usize);
     Ok(run)
 }
 
