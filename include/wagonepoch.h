@@ -47,8 +47,8 @@ extern "C" {
 #endif
 
 /* The version, that of the file VERSION, as a text and as 10000 a + 100 b + c for a.b.c; CHANGES.md says what each of the three numbers means. */
-#define WAGONEPOCH_VERSION "1.3.0"
-#define WAGONEPOCH_VERSION_NUMBER 10300
+#define WAGONEPOCH_VERSION "1.4.0"
+#define WAGONEPOCH_VERSION_NUMBER 10400
 
 /* The most nodes and neighbour entries. */
 #define WAGONEPOCH_NODES 4096
@@ -60,7 +60,7 @@ extern "C" {
 #define WAGONEPOCH_COMBINED_FIGURES 2
 #define WAGONEPOCH_MEASURES_FIGURES 3
 #define WAGONEPOCH_PART_REPORT_FIGURES 6
-#define WAGONEPOCH_RUN_FIGURES 8
+#define WAGONEPOCH_RUN_FIGURES 7
 #define WAGONEPOCH_ELIMINATE_FIGURES 2
 #define WAGONEPOCH_MESH_FIGURES 1
 
@@ -128,8 +128,11 @@ uint16_t wagonepoch_part_report(const uint16_t *starts, size_t starts_len,
                                 uint64_t *figures, size_t figures_len);
 
 /* The whole run: every part renumbered.
-   Lent: numbers n (the new number of each node), levels n (the combined level of each node), scratch 6n, figures 8.
-   Figures: nodes, parts, bandwidth, profile, front, levels, width, passes. Levels and passes are sums over the parts, width is the greatest.
+   Lent: numbers n (the new number of each node), levels n (the combined level of each node), passes n (by part: word j - 1 is the count of the
+   passes that the search for the ends of part j took, 0 after the last part), scratch 6n, figures 7.
+   Parts come in order of their lowest nodes, in the numbers too: those of part 1 are 1 to its size, and so on.
+   Figures: nodes, parts, bandwidth, profile, front, levels, width. Levels is the sum over the parts, width the greatest. A part has at least 1
+   pass and at most as many as it has levels.
    The n numbers, without the excess of a longer list, are a numbering for wagonepoch_measures, which finds the same bandwidth, profile and
    front, and for wagonepoch_eliminate, whose mark bytes the profile gives.
    Refusals: 1 to 5. */
@@ -137,6 +140,7 @@ uint16_t wagonepoch_run(const uint16_t *starts, size_t starts_len,
                         const uint16_t *neighbours, size_t neighbours_len,
                         uint16_t *numbers, size_t numbers_len,
                         uint16_t *levels, size_t levels_len,
+                        uint16_t *passes, size_t passes_len,
                         uint16_t *scratch, size_t scratch_len,
                         uint64_t *figures, size_t figures_len);
 

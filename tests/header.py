@@ -1,7 +1,7 @@
 #!/usr/bin/env python3
 """Every exported function of crates/capi stands in include/wagonepoch.h with the same parameters and as many figures, and nothing else does.
 
-The declarations in examples/rust are compared too. A slice is a pointer and a length.
+The declarations in examples/rust are compared too, and the names of the parameters in examples/fortran. A slice is a pointer and a length.
 """
 
 import glob
@@ -56,6 +56,12 @@ def declared():
     return found
 
 
+def in_fortran():
+    """(name, names of the parameters) of each declaration."""
+    text = text_of('examples/fortran/wagonepoch.f90').replace('&\n', '')
+    return [(m.group(1), m.group(2).replace(',', ' ').split()) for m in re.finditer(r'function (wagonepoch_\w+)\(([^)]*)\) bind\(C\)', text)]
+
+
 def main():
     wanted, stands, wrong = exported(), declared(), []
     for name in sorted(set(wanted) | set(stands)):
@@ -70,6 +76,9 @@ def main():
     for m in re.finditer(r'pub fn (wagonepoch_\w+)\(([^)]*)\) -> u16;', text_of('examples/rust/wagonepoch.rs')):
         if parameters(m.group(2)) != [part for one in wanted[m.group(1)][0] for part in in_rust(*one)]:
             wrong.append('%s: other parameters in examples/rust' % m.group(1))
+    for name, names in in_fortran():
+        if names != [part[0] for one in wanted[name][0] for part in in_rust(*one)]:
+            wrong.append('%s: other parameters in examples/fortran' % name)
     print('\n'.join(wrong) or '%d functions' % len(wanted))
     return bool(wrong)
 
