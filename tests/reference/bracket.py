@@ -1,4 +1,4 @@
-"""Document 01's bracket table, every row, its sample output, and demand 3 and the sizes of levels (A.2) on random graphs."""
+"""Document 01's bracket table, every row, its sample output, and demand 3, the sizes of levels (A.2) and the passes of each part (A.9) on generated graphs."""
 
 import os
 import random
@@ -11,20 +11,22 @@ from graph import parts_of, rows_of
 from numbering import forward_order, part_profile
 from program import text_for
 
-FIGURES = ('nodes', 'parts', 'bandwidth', 'profile', 'front', 'levels', 'width', 'passes')
+FIGURES = ('nodes', 'parts', 'bandwidth', 'profile', 'front', 'levels', 'width')
 SAMPLE_EDGES = [(1, 2), (1, 4), (2, 3), (3, 5)]
 SAMPLE_OUTPUT = (b'nodes 5 parts 1 bandwidth 1 profile 4 front 2 levels 5 width 1 passes 1\n'
                  b'1 2 2\n2 3 3\n3 4 4\n4 1 1\n5 5 5\n')
 
 
 def run(starts, neighbours):
-    """The whole run as a dictionary: its figures by name, its numbers and its level list."""
+    """The whole run as a dictionary: its figures by name, its numbers, its level list and its list of passes, each lent in use."""
     n = len(starts) - 1
-    numbers, levels = [0] * n, [0] * n
-    state, value = calls.whole_run(starts, neighbours, numbers, levels, [0] * (6 * n))
+    numbers, levels, passes = [7] * n, [7] * n, [7] * n
+    state, value = calls.whole_run(starts, neighbours, numbers, levels, passes, [7] * (6 * n))
     if state == 'refused':
         raise AssertionError('the run refused %d' % value)
-    return dict(zip(FIGURES, value), numbers=numbers, by_node=levels)
+    if len(value) != len(FIGURES):
+        raise AssertionError('the run has %d figures' % len(value))
+    return dict(zip(FIGURES, value), numbers=numbers, by_node=levels, passes=passes)
 
 
 def report(starts, neighbours, node):
@@ -40,13 +42,17 @@ def one_node(checks):
     checks.equal('one node: bandwidth', got['bandwidth'], 0)
     checks.equal('one node: profile', got['profile'], 0)
     checks.equal('one node: front', got['front'], 1)
+    checks.equal('one node: passes', got['passes'], [1])
 
 
 def two_isolated_nodes(checks):
     got = run(*calls.from_edges(2, []))
     checks.equal('two isolated: numbers', got['numbers'], [1, 2])
     checks.equal('two isolated: parts', got['parts'], 2)
-    checks.equal('two isolated: passes', got['passes'], 2)
+    # A.9: "the two isolated nodes give counts 1, 1"; the program still prints 2.
+    checks.equal('two isolated: passes', got['passes'], [1, 1])
+    checks.equal('two isolated: program', text_for(grd_file(2, 0, [])),
+                 b'nodes 2 parts 2 bandwidth 0 profile 0 front 1 levels 2 width 1 passes 2\n1 1 1\n2 2 1\n')
 
 
 def triangle(checks):
@@ -99,7 +105,7 @@ def refused_rows(checks):
                  calls.elimination(*two, [1, 1], [0, 0], []), ('refused', 7))
     checks.equal('rows {2}, {}', calls.adjacency_test([0, 1, 1], [2]), ('refused', 4))
     checks.equal('rows {2}, {}: whole run',
-                 calls.whole_run([0, 1, 1], [2], [0] * 2, [0] * 2, [0] * 12), ('refused', 4))
+                 calls.whole_run([0, 1, 1], [2], [0] * 2, [0] * 2, [0] * 2, [0] * 12), ('refused', 4))
     checks.equal('root 0', calls.rooted_levels(*two, 0, [0, 0], [0, 0]), ('refused', 6))
 
 
@@ -112,10 +118,12 @@ def path_edges(n):
 def nodes_at_the_limit(checks):
     got = run(*calls.from_edges(4096, path_edges(4096)))
     checks.equal('4,096 nodes: path', (got['bandwidth'], got['profile'], got['front']), (1, 4095, 2))
-    checks.equal('4,096 nodes: isolated', run(*calls.from_edges(4096, []))['parts'], 4096)
+    checks.equal('4,096 nodes: passes of a path', got['passes'], [1] + [0] * 4095)
+    got = run(*calls.from_edges(4096, []))
+    checks.equal('4,096 nodes: isolated', (got['parts'], got['passes']), (4096, [1] * 4096))
     lent = [0] * 4096
     checks.equal('4,097 nodes: whole run',
-                 calls.whole_run(*calls.from_edges(4097, []), lent, lent, lent), ('refused', 1))
+                 calls.whole_run(*calls.from_edges(4097, []), lent, lent, lent, lent), ('refused', 1))
     checks.equal('4,096 nodes: mesh',
                  calls.mesh(4096, [], [0] * 4097, [0] * 32768, [0] * 4096), ('accepted', (0,)))
     checks.equal('4,097 nodes: mesh',
@@ -202,6 +210,28 @@ def sizes_of_small_graphs(checks):
             sizes_claims(checks, *graph)
 
 
+# The passes of each part.
+
+def passes_claims(checks, graph, got):
+    """A.9: "For every graph each count is at least 1 and at most its own part's depth." The search in each part says the same counts."""
+    rows = rows_of(*graph)
+    n, parts = len(rows), parts_of(rows)
+    ends = [calls.ends(*graph, part[0], [0] * (6 * n))[1] for part in parts]
+    checks.equal('a word for each node', len(got['passes']), n)
+    checks.equal('a count for every part, as the parts are ordered, then zeros', got['passes'],
+                 [found[5] for found in ends] + [0] * (n - len(parts)))
+    for found, count in zip(ends, got['passes']):
+        checks.holds('each count is at least 1 and at most the depth of its part', 1 <= count <= found[2])
+    checks.equal('the counts add up to the single counter of document 01', sum(got['passes']),
+                 sum(report(*graph, part[0])[4] for part in parts))
+
+
+def passes_of_small_graphs(checks):
+    for n in range(1, 6):
+        for graph in calls.small_graphs(n):
+            passes_claims(checks, graph, run(*graph))
+
+
 # Demand 3 on random graphs.
 
 def random_tree(rng, n):
@@ -245,9 +275,8 @@ def figures_claims(checks, graph, got, reports):
     checks.holds('front at most bandwidth + 1', got['front'] <= got['bandwidth'] + 1)
     checks.equal('measures of the numbers', calls.measures(*graph, got['numbers'], [0] * n)[1],
                  (got['bandwidth'], got['profile'], got['front']))
-    checks.equal('levels, width and passes of the parts',
-                 (got['levels'], got['width'], got['passes']),
-                 (sum(r[2] for r in reports), max(r[3] for r in reports), sum(r[4] for r in reports)))
+    checks.equal('levels and width of the parts', (got['levels'], got['width']),
+                 (sum(r[2] for r in reports), max(r[3] for r in reports)))
 
 
 def store_claims(checks, graph, numbers, profile):
@@ -270,7 +299,7 @@ def store_claims(checks, graph, numbers, profile):
 
 def demand_3(checks):
     rng = random.Random(1976)
-    names_changed = three_passes = both_directions = 0
+    names_changed = three_passes = both_directions = other_counts = 0
     for t in range(220):
         n = rng.randint(1, 60)
         graph = calls.from_edges(n, random_edges(rng, n))
@@ -278,21 +307,24 @@ def demand_3(checks):
         reports = levels_claims(checks, graph, got)
         figures_claims(checks, graph, got, reports)
         sizes_claims(checks, *graph)
+        passes_claims(checks, graph, got)
         if t % 4 == 0:
             store_claims(checks, graph, got['numbers'], got['profile'])
         names_changed += sum(calls.ends(*graph, r[0], [0] * (6 * n))[1][0] != r[0] for r in reports)
         three_passes += sum(r[4] >= 3 for r in reports)
         both_directions += {r[5] for r in reports} == {'Forward', 'Reversed'}
+        other_counts += len({r[4] for r in reports}) > 1
     # Small graphs never show these, so see that the random ones do.
     checks.holds('some part changes names', names_changed)
     checks.holds('some part takes three passes', three_passes)
     checks.holds('some run has both directions', both_directions)
+    checks.holds('some run has parts of one pass and of more', other_counts)
 
 
 def main():
     checks = Checks('bracket table')
     for row in (one_node, two_isolated_nodes, triangle, star, ring, sample_measures, refused_rows,
-                nodes_at_the_limit, entries_at_the_limit, sample_output, sizes_of_small_graphs, demand_3):
+                nodes_at_the_limit, entries_at_the_limit, sample_output, sizes_of_small_graphs, passes_of_small_graphs, demand_3):
         row(checks)
     return checks.report()
 

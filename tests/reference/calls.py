@@ -1,4 +1,4 @@
-"""The entry points with their lent buffers and refusals; document 01's 'Lent buffers' and table, with A.2 and A.7 of document 02.
+"""The entry points with their lent buffers and refusals; document 01's 'Lent buffers' and table, with A.2, A.7 and A.9 of document 02.
 
 Every call answers ('accepted', tuple) or ('refused', number).
 """
@@ -44,6 +44,12 @@ def scratch_words(n):
     # A.7: "with 6n words of scratch where it had 8n. The calls on one part ..
     # follow. Refusal 5 is measured against 6n."
     return 6 * n
+
+
+def pass_list(passes, n):
+    """n words: the passes of each part."""
+    # A.9: "the list, which has n words, zeros after the last part"
+    return passes + [0] * (n - len(passes))
 
 
 def is_short(*lent):
@@ -139,18 +145,20 @@ def part_report(starts, neighbours, node, scratch):
     return accepted(done.v, done.u, done.k, done.width, done.passes, done.direction)
 
 
-def whole_run(starts, neighbours, numbers, levels, scratch):
-    """(nodes, parts, bandwidth, profile, front, levels, width, passes)"""
+def whole_run(starts, neighbours, numbers, levels, passes, scratch):
+    """(nodes, parts, bandwidth, profile, front, levels, width)"""
     number = adjacency_refusal(starts, neighbours)
     if number:
         return refused(number)
     n = len(starts) - 1
-    if is_short((numbers, n), (levels, n), (scratch, scratch_words(n))):
+    # A.9: "Refusal 5 covers the list"
+    if is_short((numbers, n), (levels, n), (passes, n), (scratch, scratch_words(n))):
         return refused(5)
     run = run_of_graph(rows_of(starts, neighbours))
     # "Numbers and levels run by old number"
     put(numbers, [run.number_of[p] for p in range(1, n + 1)])
     put(levels, by_old_number(run.level_of, n))
+    put(passes, pass_list(run.passes, n))
     zero(scratch, scratch_words(n))
     return accepted(*run.figures)
 
@@ -194,9 +202,9 @@ def elimination(starts, neighbours, numbering, scratch, mark_bytes):
     return accepted(marks, new)
 
 
-def run_and_eliminate(starts, neighbours, numbers, levels, scratch, mark_bytes):
+def run_and_eliminate(starts, neighbours, numbers, levels, passes, scratch, mark_bytes):
     """(run figures, elimination's answer); refused as the run is refused."""
-    run = whole_run(starts, neighbours, numbers, levels, scratch)
+    run = whole_run(starts, neighbours, numbers, levels, passes, scratch)
     if run[0] == 'refused':
         return run
     n = len(starts) - 1

@@ -1,4 +1,4 @@
-"""The GRD file and the output text, from 'Mesh and file' and the program's part of document 01."""
+"""The GRD file and the output text, from 'Mesh and file' and the program's part of document 01, and A.9 of document 02."""
 
 from graph import wrong_node_count
 from mesh import NODE_COUNT, wrong_nodes
@@ -66,10 +66,11 @@ def element_refusal(file):
     return 12 if at < len(file) else 0
 
 
-def output_text(figures, numbers, levels):
+def output_text(figures, numbers, levels, passes):
     """The first line and the rows, as bytes."""
     words = []
-    for name, figure in zip(FIGURE_NAMES, figures):
+    # A.9: "The first line of the program's list prints their sum under the old label."
+    for name, figure in zip(FIGURE_NAMES, figures + (sum(passes),)):
         words += [name, str(figure)]
     lines = [' '.join(words)]
     # "The rows are old number, new number, level, by old number."

@@ -1,6 +1,6 @@
 """Numbering: change of names, order of a part, turning, part report, whole run.
 
-Written from the section 'Numbering' of document 01.
+Written from the section 'Numbering' of document 01 and A.9 of document 02.
 """
 
 from collections import namedtuple
@@ -13,7 +13,8 @@ from measures import adjoining, bandwidth, front, profile
 
 # v and u as now named; order holds the part's nodes by new number, after turning.
 NumberedPart = namedtuple('NumberedPart', 'v u k width passes direction level_of order')
-WholeRun = namedtuple('WholeRun', 'number_of level_of figures')
+# passes holds a count for each part.
+WholeRun = namedtuple('WholeRun', 'number_of level_of passes figures')
 
 
 def change_names(rows, ends, level_of):
@@ -126,15 +127,17 @@ def whole_run(rows):
         number_of.update(numbers_from(len(number_of) + 1, done.order))
         level_of.update(done.level_of)
         numbered.append(done)
-    return WholeRun(number_of, level_of, run_figures(rows, number_of, numbered))
+    # A.9: "Keep a count for every part, in a list .. ordered as the parts are"
+    passes = [done.passes for done in numbered]
+    return WholeRun(number_of, level_of, passes, run_figures(rows, number_of, numbered))
 
 
 def run_figures(rows, number_of, numbered):
-    """The eight figures of the program's first line."""
+    """The seven figures: those of the program's first line but the passes."""
     adjoins = adjoining(rows, number_of)
     # "Levels and passes are summed over parts; width is the greatest."
+    # A.9: "drop the single counter: both return seven figures"
     return (len(rows), len(numbered),
             bandwidth(adjoins), profile(adjoins), front(adjoins),
             sum(done.k for done in numbered),
-            max(done.width for done in numbered),
-            sum(done.passes for done in numbered))
+            max(done.width for done in numbered))

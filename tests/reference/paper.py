@@ -90,9 +90,10 @@ def components(checks, rows):
 def whole(checks, lists, column):
     """By hand: the columns are the levels. They are numbered one after the other from 9, so neighbours are at most 5 apart, and
     q - f_q is 4 at the head of a column and 5 below, in the first column 0 and 1."""
-    numbers, levels = [0] * 24, [0] * 24
-    figures = calls.whole_run(*lists, numbers, levels, [0] * (6 * 24))[1]
-    checks.equal('paper: figures', figures, (24, 1, 5, 98, 6, 6, 4, 1))
+    numbers, levels, passes = [0] * 24, [0] * 24, [0] * 24
+    figures = calls.whole_run(*lists, numbers, levels, passes, [0] * (6 * 24))[1]
+    checks.equal('paper: figures', figures, (24, 1, 5, 98, 6, 6, 4))
+    checks.equal('paper: passes', passes, [1] + [0] * 23)
     checks.equal('paper: levels', levels, [column[p] for p in range(1, 25)])
     checks.equal('paper: the numbers rise with the columns', [column[numbers.index(q) + 1] for q in range(1, 25)], sorted(column.values()))
     return figures[2]

@@ -23,9 +23,9 @@ def text_for(file):
     if state == 'refused':
         return refusal_line(value)
     (entries,) = value
-    numbers, levels = [0] * n, [0] * n
-    _, figures = whole_run(starts, neighbours[:entries], numbers, levels, scratch)
-    return output_text(figures, numbers, levels)
+    numbers, levels, passes = [0] * n, [0] * n, [0] * n
+    _, figures = whole_run(starts, neighbours[:entries], numbers, levels, passes, scratch)
+    return output_text(figures, numbers, levels, passes)
 
 
 if __name__ == '__main__':

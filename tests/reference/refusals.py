@@ -1,4 +1,4 @@
-"""The table of refusals: broken lists, short buffers, what each answer leaves in which buffer; collapsed elements (A.1); scratch of 6n (A.7)."""
+"""The table of refusals: broken lists, short buffers, what each answer leaves in which buffer; collapsed elements (A.1); scratch of 6n (A.7); the list of passes (A.9)."""
 
 import random
 import sys
@@ -8,6 +8,7 @@ from bracket import element_words, grd_file
 from checking import Checks
 from mesh import NODE_COUNT
 from program import text_for
+from worked import PASSES, of_parts
 
 # Fills lent buffers, so that untouched words show.
 OLD = 777
@@ -71,10 +72,10 @@ ADJACENCY_CALLS = [
     ('ends', calls.ends, [1], [6]),
     ('combined levels', calls.combined_levels, [1], [1, 6]),
     ('part report', calls.part_report, [1], [6]),
-    ('whole run', calls.whole_run, [], [1, 1, 6]),
+    ('whole run', calls.whole_run, [], [1, 1, 1, 6]),
     ('measures', calls.measures, [[1, 2, 3]], [1]),
     ('elimination', calls.elimination, [[1, 2, 3]], [1]),
-    ('run and eliminate', calls.run_and_eliminate, [], [1, 1, 6]),
+    ('run and eliminate', calls.run_and_eliminate, [], [1, 1, 1, 6]),
 ]
 
 
@@ -139,10 +140,10 @@ def short_mark_bytes(checks):
     answer_and_buffers(checks, 'elimination, 6 bytes for profile 45', calls.elimination,
                        [*star, numbering], [words(10), [OLD_BYTE] * 7], ('accepted', (45, 36)),
                        [[0] * 10, [255] * 5 + [31, OLD_BYTE]])
-    figures = (3, 1, 1, 2, 2, 3, 1, 1)
+    figures = (3, 1, 1, 2, 2, 3, 1)
     answer_and_buffers(checks, 'run and eliminate, no mark bytes', calls.run_and_eliminate, [*PATH],
-                       [words(4), words(4), words(19), []], ('accepted', (figures, ('refused', 8))),
-                       [[1, 2, 3, OLD], [1, 2, 3, OLD], [0] * 18 + [OLD], []])
+                       [words(4), words(4), words(4), words(19), []], ('accepted', (figures, ('refused', 8))),
+                       [[1, 2, 3, OLD], [1, 2, 3, OLD], [1, 0, 0, OLD], [0] * 18 + [OLD], []])
 
 
 def accepted_buffers(checks):
@@ -157,15 +158,15 @@ def accepted_buffers(checks):
             ('combined levels', calls.combined_levels, [2], [words(5), words(25)], (3, 1),
              [[1, 2, 3, 0, OLD], zeroed]),
             ('part report', calls.part_report, [3], [words(25)], (1, 3, 3, 1, 1, 'Forward'), [zeroed]),
-            ('whole run', calls.whole_run, [], [words(5), words(5), words(25)],
-             (4, 2, 1, 2, 2, 4, 1, 2), [[1, 2, 3, 4, OLD], [1, 2, 3, 1, OLD], zeroed]),
+            ('whole run', calls.whole_run, [], [words(5), words(5), words(6), words(25)],
+             (4, 2, 1, 2, 2, 4, 1), [[1, 2, 3, 4, OLD], [1, 2, 3, 1, OLD], [1, 1, 0, 0, OLD, OLD], zeroed]),
             ('measures', calls.measures, [[4, 1, 2, 3]], [words(5)], (3, 4, 3), [[0] * 4 + [OLD]]),
             ('elimination', calls.elimination, [[4, 1, 2, 3]], [words(5), [OLD_BYTE] * 2], (3, 1),
              [[0] * 4 + [OLD], [0b111, OLD_BYTE]]),
             ('run and eliminate', calls.run_and_eliminate, [],
-             [words(5), words(5), words(25), [OLD_BYTE] * 2],
-             ((4, 2, 1, 2, 2, 4, 1, 2), ('accepted', (2, 0))),
-             [[1, 2, 3, 4, OLD], [1, 2, 3, 1, OLD], zeroed, [3, OLD_BYTE]])]:
+             [words(5), words(5), words(5), words(25), [OLD_BYTE] * 2],
+             ((4, 2, 1, 2, 2, 4, 1), ('accepted', (2, 0))),
+             [[1, 2, 3, 4, OLD], [1, 2, 3, 1, OLD], [1, 1, 0, 0, OLD], zeroed, [3, OLD_BYTE]])]:
         answer_and_buffers(checks, name, call, graph + given, lent, ('accepted', value), after)
 
 
@@ -184,6 +185,27 @@ def six_for_each_node(checks):
             checks.equal('%s, %d nodes: the same whatever is lent' % (name, n), answers, answers[:1] * 4)
             lent = [words(n) for _ in sizes[1:]] + [words(6 * n - 1)] + mark_bytes_of(name, 9)
             untouched(checks, '%s, a word short of 6 for each of %d nodes' % (name, n), call, [*graph] + more, lent, 5)
+
+
+def list_of_passes(checks):
+    """A.9: a list of n words; longer ones keep their excess, and of a shorter one, or of none, everything that is lent stays."""
+    for name, parts, passes, _ in PASSES:
+        n, edges = of_parts(parts)
+        graph = calls.from_edges(n, edges)
+        due = passes + [0] * (n - len(passes))
+        for call in (calls.whole_run, calls.run_and_eliminate):
+            for length in (n, n + 2, 2 * n):
+                lent = [words(n), words(n), words(length), words(6 * n)] + mark_bytes_of(call.__name__, n * n)
+                checks.equal('%s, %d words of passes: accepted' % (name, length), call(*graph, *lent)[0], 'accepted')
+                checks.equal('%s, %d words of passes' % (name, length), lent[2], due + words(length - n))
+            for length in (n - 1, 0):
+                lent = [words(n), words(n), words(length), words(6 * n)] + mark_bytes_of(call.__name__, n * n)
+                untouched(checks, '%s, %d words of passes' % (name, length), call, [*graph], lent, 5)
+        # mark bytes that are short come after the run, which leaves its list
+        lent = [words(n), words(n), words(n + 2), words(6 * n), []]
+        if len(parts) < n:
+            checks.equal(name + ', no mark byte', calls.run_and_eliminate(*graph, *lent)[1][1], ('refused', 8))
+            checks.equal(name + ', no mark byte: passes', lent[2], due + words(2))
 
 
 # Mesh.
@@ -365,7 +387,7 @@ def random_files(checks):
 def main():
     checks = Checks('table of refusals')
     for subject in (broken_lists, short_buffers, wrong_nodes, wrong_numberings, short_mark_bytes,
-                    accepted_buffers, six_for_each_node, mesh_refusals, collapsed_elements, one_node_twice,
+                    accepted_buffers, six_for_each_node, list_of_passes, mesh_refusals, collapsed_elements, one_node_twice,
                     program_refusals, program_accepted, random_input, random_files):
         subject(checks)
     return checks.report()

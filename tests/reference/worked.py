@@ -1,9 +1,9 @@
-"""Graphs worked with pencil from document 01's steps: its slips, ties, names, passes; levels and their sizes; each kind; and stars by sums."""
+"""Graphs worked with pencil from document 01's steps: its slips, ties, names, passes; levels and their sizes; the passes of each part; each kind; and stars by sums."""
 
 import sys
 
 import calls
-from bracket import rooted, sizes_claims
+from bracket import passes_claims, rooted, run, sizes_claims
 from checking import Checks
 
 # name, edges, ends (v, u, k, width_v, width_u, passes), combined levels,
@@ -86,6 +86,37 @@ ROOTED = [
 ]
 
 
+# Parts as edges on nodes 1 to their size; a part gets its nodes by rising old number.
+# From v = 1, S is 3 and 6, and 3 has depth 5 where 1 has 4: two passes. From v = 3, S is 6 with depth 5.
+TWO = (6, [(1, 5), (2, 3), (2, 5), (4, 5), (4, 6)])
+# v is 1, then 5, then 6, with depths 4, 5, 6: from 1, S is 5, 6, 7 with depths 5, 6, 6; from 5, S is 6 and 7; from 6 it is 3.
+THREE = (9, [(1, 4), (1, 9), (2, 5), (2, 9), (3, 4), (3, 5), (6, 7), (6, 8), (7, 8), (8, 9)])
+
+
+def path(n):
+    return n, [(p, p + 1) for p in range(1, n)]
+
+
+# A.9: name, parts with their nodes, passes and depth of each
+PASSES = [
+    ('two isolated nodes', [(path(1), [1]), (path(1), [2])], [1, 1], [1, 1]),
+    ('one pass, then two', [(path(1), [1]), (TWO, range(2, 8))], [1, 2], [1, 5]),
+    ('two passes, then one', [(TWO, range(1, 7)), (path(1), [7])], [2, 1], [5, 1]),
+    ('the part of node 1 is not the first by degree', [(TWO, [1, 3, 4, 6, 7, 8]), (path(2), [2, 5])], [2, 1], [5, 2]),
+    ('neither by size nor by passes, nodes mixed',
+     [(TWO, [1, 4, 6, 9, 12, 14]), (THREE, [2, 5, 7, 8, 10, 11, 13, 15, 16]), (path(1), [3])], [2, 3, 1], [5, 6, 1]),
+    ('the largest part has one pass', [(THREE, range(1, 10)), (path(12), range(10, 22)), (TWO, range(22, 28))], [3, 1, 2], [6, 12, 5]),
+    ('equal parts between others', [(TWO, range(1, 7)), (THREE, range(7, 16)), (TWO, range(16, 22)), (path(1), [22]), (THREE, range(23, 32))],
+     [2, 3, 2, 1, 3], [5, 6, 5, 1, 6]),
+]
+
+
+def of_parts(parts):
+    """The count of nodes and the edges of all parts together."""
+    edges = [(nodes[p - 1], nodes[q - 1]) for (_, within), nodes in parts for p, q in within]
+    return sum(size for (size, _), _ in parts), edges
+
+
 def worked_graph(checks, name, edges, ends, combined, report, levels, numbers):
     n = len(numbers)
     graph = calls.from_edges(n, edges)
@@ -96,9 +127,11 @@ def worked_graph(checks, name, edges, ends, combined, report, levels, numbers):
                  (report[2], report[3]))
     checks.equal(name + ': combined levels', got_combined, combined)
     checks.equal(name + ': report', calls.part_report(*graph, n, scratch)[1], report)
-    calls.whole_run(*graph, got_numbers, got_levels, scratch)
+    got_passes = [0] * n
+    calls.whole_run(*graph, got_numbers, got_levels, got_passes, scratch)
     checks.equal(name + ': levels', got_levels, levels)
     checks.equal(name + ': numbers', got_numbers, numbers)
+    checks.equal(name + ': passes', got_passes, [ends[5]] + [0] * (n - 1))
     sizes_claims(checks, *graph)
 
 
@@ -106,6 +139,17 @@ def worked_levels(checks, name, n, edges, root, figures, levels, sizes):
     graph = calls.from_edges(n, edges)
     checks.equal(name + ': levels and sizes', rooted(*graph, root), (figures, levels, sizes))
     sizes_claims(checks, *graph)
+
+
+def worked_passes(checks, name, parts, passes, depths):
+    n, edges = of_parts(parts)
+    graph = calls.from_edges(n, edges)
+    got = run(*graph)
+    checks.equal(name + ': passes of each part', got['passes'], passes + [0] * (n - len(passes)))
+    checks.equal(name + ': parts, and their levels', (got['parts'], got['levels']), (len(parts), sum(depths)))
+    for (_, nodes), depth in zip(parts, depths):
+        checks.equal(name + ': depth of a part', max(got['by_node'][p - 1] for p in nodes), depth)
+    passes_claims(checks, graph, got)
 
 
 def long_paths(checks):
@@ -120,11 +164,12 @@ def long_paths(checks):
 def both_directions(checks):
     """Path 1-3-5, star of centre 2 and leaves 4, 6, 7, node 8: only the star turns."""
     graph = calls.from_edges(8, [(1, 3), (3, 5), (2, 4), (2, 6), (2, 7)])
-    numbers, levels = [0] * 8, [0] * 8
-    checks.equal('both directions: figures', calls.whole_run(*graph, numbers, levels, [0] * 48)[1],
-                 (8, 3, 2, 5, 2, 7, 2, 3))
+    numbers, levels, passes = [0] * 8, [0] * 8, [0] * 8
+    checks.equal('both directions: figures', calls.whole_run(*graph, numbers, levels, passes, [0] * 48)[1],
+                 (8, 3, 2, 5, 2, 7, 2))
     checks.equal('both directions: numbers', numbers, [1, 6, 2, 7, 3, 5, 4, 8])
     checks.equal('both directions: levels', levels, [1, 2, 2, 1, 3, 3, 3, 1])
+    checks.equal('both directions: passes', passes, [1, 1, 1, 0, 0, 0, 0, 0])
 
 
 def kinds(checks):
@@ -164,6 +209,8 @@ def main():
         worked_graph(checks, *case)
     for case in ROOTED:
         worked_levels(checks, *case)
+    for case in PASSES:
+        worked_passes(checks, *case)
     long_paths(checks)
     both_directions(checks)
     kinds(checks)
