@@ -4,7 +4,7 @@ LEVEL_FIGURES = ('depth', 'width', 'reached')
 ENDS = ('v', 'u', 'k', 'widthV', 'widthU', 'passes')
 COMBINED_FIGURES = ('k', 'width')
 PART_REPORT = ('v', 'u', 'k', 'width', 'passes', 'direction')
-FIGURES = ('nodes', 'parts', 'bandwidth', 'profile', 'front', 'levels', 'width', 'passes')
+FIGURES = ('nodes', 'parts', 'bandwidth', 'profile', 'front', 'levels', 'width')
 MEASURE_FIGURES = ('bandwidth', 'profile', 'front')
 ELIMINATION_FIGURES = ('marked', 'new')
 

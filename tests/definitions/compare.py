@@ -33,7 +33,7 @@ use Rattle.spec.specs.Lent.{refused, accepted}
 use Rattle.spec.specs.Numbering.{Forward, Reversed}
 use Rattle.spec.specs.CallsLevels.{adjacencyAnswer, rootedAnswer, rootedLevels, rootedSizes, endsAnswer, endsScratch}
 use Rattle.spec.specs.CallsLevels.{combinedAnswer, combinedLevels, combinedScratch}
-use Rattle.spec.specs.CallsNumbering.{reportAnswer, reportScratch, runAnswer, runNumbers, runLevels, runScratch}
+use Rattle.spec.specs.CallsNumbering.{reportAnswer, reportScratch, runAnswer, runNumbers, runLevels, runPasses, runScratch}
 use Rattle.spec.specs.CallsNumbering.{measuresAnswer, measuresScratch}
 use Rattle.spec.specs.CallsStore.{eliminationAnswer, eliminationScratch, eliminationBytes, runEliminateAnswer, runEliminateBytes}
 use Rattle.spec.specs.CallsMesh.{meshAnswer, meshStarts, meshNeighbours, meshScratch}

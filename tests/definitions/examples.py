@@ -1,6 +1,6 @@
 #!/usr/bin/env python3
-"""The second table of crate `spec`: a dozen graphs, one for each slip and each tie rule of document 01, the order of the refusals, the sizes of
-levels, and elements that have a node more than once.
+"""The second table of crate `spec`: a dozen graphs, one for each slip and each tie rule of document 01, the passes of each part, the order of the
+refusals, the sizes of levels, and elements that have a node more than once.
 
   examples.py            print crates/spec/proofs/Examples.antt; `rt fmt` lays it out
   examples.py --check    say whether the file stands as this script prints it, layout aside
@@ -46,6 +46,9 @@ GRAPHS = [
      [(1, 3), (1, 6), (1, 9), (2, 4), (2, 7), (3, 4), (3, 8), (4, 5), (4, 6), (5, 6), (5, 7), (5, 9), (7, 8), (7, 9)]),
     ('directions', 'three parts, Forward beside Reversed', 7, [(1, 2), (1, 3), (2, 3), (2, 5), (2, 7), (6, 7)]),
     ('profiles', 'equal profiles stay Forward; equal widths of u and v go by first numbers', 4, [(1, 2), (1, 4), (2, 4)]),
+    ('eachPart', 'parts of two, three and one passes: in the order of the parts, neither by size nor by passes', 16,
+     [(1, 12), (2, 8), (2, 16), (4, 6), (4, 12), (5, 10), (5, 16), (7, 8), (7, 10), (9, 12), (9, 14), (11, 13), (11, 15), (13, 15), (15, 16)]),
+    ('isolated', 'two isolated nodes: a pass each', 2, []),
 ]
 
 # what it shows, starts, neighbours, given node, given numbering, words lent for each node
@@ -77,6 +80,16 @@ SIZES = [
     ('a root that is none: the sizes stay', 3, [(1, 2)], 4, 3, 3),
 ]
 
+# what it shows, nodes, edges, words lent for the numbers, the levels, the passes and the scratch
+PASSES = [
+    ('two isolated nodes', 2, [], 2, 2, 2, 12),
+    ('zeros after the last part; a longer list keeps its excess', 4, [(1, 3), (3, 4)], 4, 4, 6, 24),
+    ('a short list of passes: 5, and it stays', 4, [(1, 3), (3, 4)], 4, 4, 3, 24),
+    ('no list of passes: 5', 1, [], 1, 1, 0, 6),
+    ('a short list of levels: the passes stay', 4, [(1, 3), (3, 4)], 4, 3, 4, 24),
+    ('a word of scratch too few: the passes stay', 4, [(1, 3), (3, 4)], 4, 4, 4, 23),
+]
+
 # what it shows, mark, the words after it, bytes after these
 FILES = [
     ('a wrong mark, and no node: 12 before 1', b'GRX', [1, 0, 0], b''),
@@ -101,12 +114,12 @@ FILES = [
     ('a brick on one node', b'GRD', [1, 2, 1, 7, 2, 2, 2, 2, 2, 2, 2, 2], b''),
 ]
 
-HEAD = '''-- A second table by computation: graphs chosen so that each slip of document 01 and each tie rule shows, the order of the refusals, the sizes of
--- levels, and elements that have a node more than once.
+HEAD = '''-- A second table by computation: graphs chosen so that each slip of document 01 and each tie rule shows, the passes of each part, the order of the
+-- refusals, the sizes of levels, and elements that have a node more than once.
 -- Made by tests/definitions/examples.py: every expected value is the independent program's, tests/reference. Assumes nothing.
 use Prim.Native.Nat.{ℕ, _*_}
 use mathlib.Core.Path.{_≡_, refl}
-use mathlib.Core.List.{List, [], _∷_}
+use mathlib.Core.List.{List, [], _∷_, _++_}
 use lib.ListN.{replicate}
 use Rattle.spec.specs.Graph.{sizeOf}
 use Rattle.spec.specs.Ends.{Ends}
@@ -115,10 +128,11 @@ use Rattle.spec.specs.Lent.{Outcome, accepted}
 use Rattle.spec.specs.Mesh.{startList, neighbourList}
 use Rattle.spec.specs.File.{fileGraph, fileRefusal}
 use Rattle.spec.specs.CallsLevels.{adjacencyAnswer, rootedAnswer, rootedSizes, endsAnswer}
-use Rattle.spec.specs.CallsNumbering.{runAnswer, measuresAnswer}
+use Rattle.spec.specs.CallsNumbering.{runAnswer, runPasses, measuresAnswer}
 use Rattle.spec.specs.CallsStore.{EliminationFigures, eliminationAnswer}
 use Rattle.spec.proofs.Compute.{computes}
-use Rattle.spec.proofs.Called.{Lists, numberOf, numbersFor, levelsFor, figuresFor, endsFor, combinedFor, reportFor, eliminationFor, bytesFor}
+use Rattle.spec.proofs.Called.{Lists, numberOf, numbersFor, levelsFor, passesFor, figuresFor}
+use Rattle.spec.proofs.Called.{endsFor, combinedFor, reportFor, eliminationFor, bytesFor}
 
 -- what the calls say of a graph and of the part of node 1; the elimination is handed the run's numbers and four bytes
 record Found : Type 0 where
@@ -127,6 +141,7 @@ record Found : Type 0 where
   report : Outcome PartReport
   levels : List ℕ
   numbers : List ℕ
+  passes : List ℕ
   figures : Outcome Figures
   marks : Outcome EliminationFigures
   bytes : List ℕ
@@ -138,6 +153,7 @@ found l = record {
   report = reportFor l 1;
   levels = levelsFor l;
   numbers = numbersFor l;
+  passes = passesFor l;
   figures = figuresFor l;
   marks = eliminationFor l (numbersFor l) 4;
   bytes = bytesFor l (numbersFor l) 4;
@@ -152,16 +168,21 @@ def buffer(count):
 def found(n, edges):
     """The fields of Found, as the reference has them."""
     starts, neighbours = from_edges(n, edges)
-    combined, numbers, levels, marks = buffer(n), buffer(n), buffer(n), buffer(4)
+    combined, numbers, levels, passes, marks = buffer(n), buffer(n), buffer(n), buffer(n), buffer(4)
     ends = calls.ends(starts, neighbours, 1, buffer(calls.scratch_words(n)))
     calls.combined_levels(starts, neighbours, 1, combined, buffer(calls.scratch_words(n)))
     report = calls.part_report(starts, neighbours, 1, buffer(calls.scratch_words(n)))
-    run = calls.whole_run(starts, neighbours, numbers, levels, buffer(calls.scratch_words(n)))
+    run = calls.whole_run(starts, neighbours, numbers, levels, passes, buffer(calls.scratch_words(n)))
     elimination = calls.elimination(starts, neighbours, numbers, buffer(n), marks)
     return [('ends', outcome(ends, figures(ENDS))), ('combined', words(combined)),
             ('report', outcome(report, figures(PART_REPORT))), ('levels', words(levels)),
-            ('numbers', words(numbers)), ('figures', outcome(run, figures(FIGURES))),
+            ('numbers', words(numbers)), ('passes', words(passes)), ('figures', outcome(run, figures(FIGURES))),
             ('marks', outcome(elimination, figures(ELIMINATION_FIGURES))), ('bytes', words(marks))]
+
+
+def refusal_of(answer):
+    state, value = answer
+    return value if state == 'refused' else 0
 
 
 def refusals(starts, neighbours, node, numbering, per_node):
@@ -171,10 +192,10 @@ def refusals(starts, neighbours, node, numbering, per_node):
     answers = [calls.adjacency_test(starts, neighbours),
                calls.rooted_levels(starts, neighbours, node, lent(), lent()),
                calls.ends(starts, neighbours, node, lent()),
-               calls.whole_run(starts, neighbours, lent(), lent(), lent()),
+               calls.whole_run(starts, neighbours, lent(), lent(), lent(), lent()),
                calls.measures(starts, neighbours, numbering, lent()),
                calls.elimination(starts, neighbours, numbering, lent(), [])]
-    return [value if state == 'refused' else 0 for state, value in answers]
+    return [refusal_of(answer) for answer in answers]
 
 
 def bare(term):
@@ -225,6 +246,19 @@ def size_rows():
     return fields, proofs
 
 
+def pass_rows():
+    """A field for what the run refuses each by, and one for its list of passes, and their proofs."""
+    fields, proofs = [], []
+    for number, (why, n, edges, *lengths) in enumerate(PASSES, 1):
+        given, lent = from_edges(n, edges), [buffer(length) for length in lengths]
+        arguments = ' '.join(map(words, [*given, *lent]))
+        refusal = refusal_of(calls.whole_run(*given, *lent))
+        fields.append('  -- %s\n  passes-%d-refusal : numberOf (runAnswer %s) ≡ %d' % (why, number, arguments, refusal))
+        fields.append('  passes-%d : runPasses %s ≡ %s' % (number, arguments, words(lent[2])))
+        proofs += ['  passes-%d-refusal = refl;' % number, '  passes-%d = refl;' % number]
+    return fields, proofs
+
+
 def file_refusal(file):
     """What the program refuses a file by, or 0."""
     answer = program.text_for(file).split()
@@ -260,7 +294,7 @@ refusals S N node x k =
     numberOf (adjacencyAnswer S N)
     ∷ numberOf (rootedAnswer S N node w w)
     ∷ numberOf (endsAnswer S N node w)
-    ∷ numberOf (runAnswer S N w w w)
+    ∷ numberOf (runAnswer S N w w w w)
     ∷ numberOf (measuresAnswer S N x w)
     ∷ numberOf (eliminationAnswer S N x w [])
     ∷ []
@@ -271,14 +305,15 @@ def text():
     lists, fields, proofs = graph_rows()
     more, refused = refusal_rows()
     sizes, sized = size_rows()
+    passes, passed = pass_rows()
     files, read = file_rows()
     names = ' '.join('%s %s-found' % (name, name) for name, *_ in GRAPHS)
     return '\n'.join([
         HEAD,
-        REFUSED, *lists, 'record ExampleTable : Type 0 where', *fields, *more, *sizes, *files,
+        REFUSED, *lists, 'record ExampleTable : Type 0 where', *fields, *more, *sizes, *passes, *files,
         '\n-- the whole table\nexample-table : ExampleTable',
         'unfolding computes found numberOf refusals ' + names,
-        'example-table = record {', *proofs, *refused, *sized, *read, '}', ''])
+        'example-table = record {', *proofs, *refused, *sized, *passed, *read, '}', ''])
 
 
 def main():

@@ -38,7 +38,7 @@ def run_elimination(values):
 def of_graph(i):
     """Equations for every call on an adjacency."""
     lists = (i.starts, i.neighbours)
-    run = (i.numbers, i.levels, i.scratch)
+    run = (i.numbers, i.levels, i.passes, i.scratch)
     return (
         of_call(calls.adjacency_test, lists, (), 'adjacencyAnswer', nothing, ())
         + of_call(calls.rooted_levels, lists + (i.node,), (i.levels, i.sizes),
@@ -49,13 +49,13 @@ def of_graph(i):
         + of_call(calls.part_report, lists + (i.node,), (i.scratch,),
                   'reportAnswer', figures(PART_REPORT), ('reportScratch',))
         + of_call(calls.whole_run, lists, run,
-                  'runAnswer', figures(FIGURES), ('runNumbers', 'runLevels', 'runScratch'))
+                  'runAnswer', figures(FIGURES), ('runNumbers', 'runLevels', 'runPasses', 'runScratch'))
         + of_call(calls.measures, lists + (i.numbering,), (i.words,),
                   'measuresAnswer', figures(MEASURE_FIGURES), ('measuresScratch',))
         + of_call(calls.elimination, lists + (i.numbering,), (i.words, i.bytes),
                   'eliminationAnswer', figures(ELIMINATION_FIGURES), ('eliminationScratch', 'eliminationBytes'))
         + of_call(calls.run_and_eliminate, lists, run + (i.bytes,),
-                  'runEliminateAnswer', run_elimination, (None, None, None, 'runEliminateBytes')))
+                  'runEliminateAnswer', run_elimination, (None, None, None, None, 'runEliminateBytes')))
 
 
 def of_mesh(i):

@@ -7,7 +7,7 @@ from calls import scratch_words
 from graph import from_edges, small_graphs
 
 # Everything that the calls on an adjacency are handed; lent buffers hold 9s.
-Input = namedtuple('Input', 'starts neighbours node numbering numbers levels sizes scratch words bytes')
+Input = namedtuple('Input', 'starts neighbours node numbering numbers levels sizes passes scratch words bytes')
 
 
 def random_edges(rng, n):
@@ -48,8 +48,8 @@ def given(rng, starts, neighbours):
     node = rng.randint(0, n + 1) if rng.random() < 0.2 else rng.randint(min(1, n), n)
     # the 8n words of document 01 are now longer than need be
     scratch = [9] * (8 * n) if rng.random() < 0.1 else lent(rng, scratch_words(n))
-    numbers, levels, sizes, words = [lent(rng, n) for _ in range(4)]
-    return Input(starts, neighbours, node, numbering, numbers, levels, sizes, scratch, words, lent(rng, (n * n // 2 + 7) // 8))
+    numbers, levels, sizes, passes, words = [lent(rng, n) for _ in range(5)]
+    return Input(starts, neighbours, node, numbering, numbers, levels, sizes, passes, scratch, words, lent(rng, (n * n // 2 + 7) // 8))
 
 
 def all_small(rng, most):

@@ -1,4 +1,4 @@
-"""Document 01's bracket table, every row, its sample output, and demand 3, the sizes of levels (A.2) and the passes of each part (A.9) on generated graphs."""
+"""Document 01's bracket table, every row, its sample output; demand 3, sizes of levels (A.2) and passes of each part (A.9) on generated graphs."""
 
 import os
 import random

@@ -1,4 +1,4 @@
-"""The table of refusals: broken lists, short buffers, what each answer leaves in which buffer; collapsed elements (A.1); scratch of 6n (A.7); the list of passes (A.9)."""
+"""The table of refusals: broken lists, short buffers, what each answer leaves in which buffer; collapsed elements (A.1), 6n (A.7), passes (A.9)."""
 
 import random
 import sys

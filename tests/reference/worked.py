@@ -1,4 +1,4 @@
-"""Graphs worked with pencil from document 01's steps: its slips, ties, names, passes; levels and their sizes; the passes of each part; each kind; and stars by sums."""
+"""Graphs worked with pencil from document 01's steps: slips, ties, names, passes, of each part too; levels and sizes; each kind; stars by sums."""
 
 import sys
 

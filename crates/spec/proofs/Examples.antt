@@ -1,9 +1,9 @@
--- A second table by computation: graphs chosen so that each slip of document 01 and each tie rule shows, the order of the refusals, the sizes of
--- levels, and elements that have a node more than once.
+-- A second table by computation: graphs chosen so that each slip of document 01 and each tie rule shows, the passes of each part, the order of the
+-- refusals, the sizes of levels, and elements that have a node more than once.
 -- Made by tests/definitions/examples.py: every expected value is the independent program's, tests/reference. Assumes nothing.
 use Prim.Native.Nat.{ℕ, _*_}
 use mathlib.Core.Path.{_≡_, refl}
-use mathlib.Core.List.{List, [], _∷_}
+use mathlib.Core.List.{List, [], _∷_, _++_}
 use lib.ListN.{replicate}
 use Rattle.spec.specs.Graph.{sizeOf}
 use Rattle.spec.specs.Ends.{Ends}
@@ -12,10 +12,11 @@ use Rattle.spec.specs.Lent.{Outcome, accepted}
 use Rattle.spec.specs.Mesh.{startList, neighbourList}
 use Rattle.spec.specs.File.{fileGraph, fileRefusal}
 use Rattle.spec.specs.CallsLevels.{adjacencyAnswer, rootedAnswer, rootedSizes, endsAnswer}
-use Rattle.spec.specs.CallsNumbering.{runAnswer, measuresAnswer}
+use Rattle.spec.specs.CallsNumbering.{runAnswer, runPasses, measuresAnswer}
 use Rattle.spec.specs.CallsStore.{EliminationFigures, eliminationAnswer}
 use Rattle.spec.proofs.Compute.{computes}
-use Rattle.spec.proofs.Called.{Lists, numberOf, numbersFor, levelsFor, figuresFor, endsFor, combinedFor, reportFor, eliminationFor, bytesFor}
+use Rattle.spec.proofs.Called.{Lists, numberOf, numbersFor, levelsFor, passesFor, figuresFor}
+use Rattle.spec.proofs.Called.{endsFor, combinedFor, reportFor, eliminationFor, bytesFor}
 
 -- what the calls say of a graph and of the part of node 1; the elimination is handed the run's numbers and four bytes
 record Found : Type 0 where
@@ -24,6 +25,7 @@ record Found : Type 0 where
   report : Outcome PartReport
   levels : List ℕ
   numbers : List ℕ
+  passes : List ℕ
   figures : Outcome Figures
   marks : Outcome EliminationFigures
   bytes : List ℕ
@@ -35,6 +37,7 @@ found l = record {
   report = reportFor l 1;
   levels = levelsFor l;
   numbers = numbersFor l;
+  passes = passesFor l;
   figures = figuresFor l;
   marks = eliminationFor l (numbersFor l) 4;
   bytes = bytesFor l (numbersFor l) 4;
@@ -66,6 +69,7 @@ names-found = record {
   report = accepted (record { v = 7; u = 1; k = 4; width = 3; passes = 2; direction = Forward });
   levels = 4 ∷ 2 ∷ 2 ∷ 3 ∷ 3 ∷ 3 ∷ 1 ∷ [];
   numbers = 7 ∷ 2 ∷ 3 ∷ 5 ∷ 4 ∷ 6 ∷ 1 ∷ [];
+  passes = 2 ∷ 0 ∷ 0 ∷ 0 ∷ 0 ∷ 0 ∷ 0 ∷ [];
   figures = accepted (record { nodes = 7; parts = 1; bandwidth = 3; profile = 13; front = 4; levels = 4; width = 3 });
   marks = accepted (record { marked = 13; new = 2 });
   bytes = 255 ∷ 31 ∷ 9 ∷ 9 ∷ [];
@@ -85,6 +89,7 @@ deeper-found = record {
   report = accepted (record { v = 8; u = 5; k = 6; width = 2; passes = 2; direction = Forward });
   levels = 3 ∷ 5 ∷ 2 ∷ 4 ∷ 6 ∷ 5 ∷ 2 ∷ 1 ∷ [];
   numbers = 4 ∷ 6 ∷ 3 ∷ 5 ∷ 8 ∷ 7 ∷ 2 ∷ 1 ∷ [];
+  passes = 2 ∷ 0 ∷ 0 ∷ 0 ∷ 0 ∷ 0 ∷ 0 ∷ 0 ∷ [];
   figures = accepted (record { nodes = 8; parts = 1; bandwidth = 2; profile = 8; front = 3; levels = 6; width = 2 });
   marks = accepted (record { marked = 8; new = 0 });
   bytes = 255 ∷ 9 ∷ 9 ∷ 9 ∷ [];
@@ -104,6 +109,7 @@ passes-found = record {
   report = accepted (record { v = 6; u = 3; k = 6; width = 2; passes = 3; direction = Forward });
   levels = 4 ∷ 4 ∷ 6 ∷ 5 ∷ 5 ∷ 1 ∷ 2 ∷ 2 ∷ 3 ∷ [];
   numbers = 5 ∷ 6 ∷ 9 ∷ 7 ∷ 8 ∷ 1 ∷ 2 ∷ 3 ∷ 4 ∷ [];
+  passes = 3 ∷ 0 ∷ 0 ∷ 0 ∷ 0 ∷ 0 ∷ 0 ∷ 0 ∷ 0 ∷ [];
   figures = accepted (record { nodes = 9; parts = 1; bandwidth = 2; profile = 13; front = 3; levels = 6; width = 2 });
   marks = accepted (record { marked = 13; new = 3 });
   bytes = 255 ∷ 31 ∷ 9 ∷ 9 ∷ [];
@@ -123,6 +129,7 @@ inE-found = record {
   report = accepted (record { v = 7; u = 2; k = 5; width = 2; passes = 2; direction = Reversed });
   levels = 2 ∷ 5 ∷ 4 ∷ 5 ∷ 4 ∷ 3 ∷ 1 ∷ [];
   numbers = 6 ∷ 2 ∷ 3 ∷ 1 ∷ 4 ∷ 5 ∷ 7 ∷ [];
+  passes = 2 ∷ 0 ∷ 0 ∷ 0 ∷ 0 ∷ 0 ∷ 0 ∷ [];
   figures = accepted (record { nodes = 7; parts = 1; bandwidth = 2; profile = 7; front = 3; levels = 5; width = 2 });
   marks = accepted (record { marked = 7; new = 0 });
   bytes = 127 ∷ 9 ∷ 9 ∷ 9 ∷ [];
@@ -142,6 +149,7 @@ equal-found = record {
   report = accepted (record { v = 3; u = 4; k = 4; width = 2; passes = 1; direction = Forward });
   levels = 3 ∷ 2 ∷ 1 ∷ 4 ∷ 4 ∷ 2 ∷ [];
   numbers = 4 ∷ 2 ∷ 1 ∷ 5 ∷ 6 ∷ 3 ∷ [];
+  passes = 1 ∷ 0 ∷ 0 ∷ 0 ∷ 0 ∷ 0 ∷ [];
   figures = accepted (record { nodes = 6; parts = 1; bandwidth = 2; profile = 6; front = 3; levels = 4; width = 2 });
   marks = accepted (record { marked = 6; new = 1 });
   bytes = 63 ∷ 9 ∷ 9 ∷ 9 ∷ [];
@@ -161,6 +169,7 @@ larger-found = record {
   report = accepted (record { v = 3; u = 5; k = 3; width = 3; passes = 1; direction = Forward });
   levels = 1 ∷ 2 ∷ 1 ∷ 1 ∷ 3 ∷ 2 ∷ 3 ∷ 2 ∷ [];
   numbers = 2 ∷ 3 ∷ 1 ∷ 8 ∷ 7 ∷ 4 ∷ 6 ∷ 5 ∷ [];
+  passes = 1 ∷ 1 ∷ 0 ∷ 0 ∷ 0 ∷ 0 ∷ 0 ∷ 0 ∷ [];
   figures = accepted (record { nodes = 8; parts = 2; bandwidth = 4; profile = 13; front = 5; levels = 4; width = 3 });
   marks = accepted (record { marked = 13; new = 4 });
   bytes = 255 ∷ 31 ∷ 9 ∷ 9 ∷ [];
@@ -180,6 +189,7 @@ untouched-found = record {
   report = accepted (record { v = 3; u = 4; k = 3; width = 3; passes = 1; direction = Forward });
   levels = 2 ∷ 3 ∷ 1 ∷ 3 ∷ 1 ∷ 1 ∷ 2 ∷ [];
   numbers = 4 ∷ 6 ∷ 1 ∷ 7 ∷ 3 ∷ 2 ∷ 5 ∷ [];
+  passes = 1 ∷ 0 ∷ 0 ∷ 0 ∷ 0 ∷ 0 ∷ 0 ∷ [];
   figures = accepted (record { nodes = 7; parts = 1; bandwidth = 3; profile = 11; front = 4; levels = 3; width = 3 });
   marks = accepted (record { marked = 11; new = 1 });
   bytes = 255 ∷ 7 ∷ 9 ∷ 9 ∷ [];
@@ -199,6 +209,7 @@ narrower-found = record {
   report = accepted (record { v = 2; u = 1; k = 4; width = 2; passes = 1; direction = Forward });
   levels = 4 ∷ 1 ∷ 3 ∷ 2 ∷ 2 ∷ 3 ∷ [];
   numbers = 6 ∷ 1 ∷ 4 ∷ 2 ∷ 3 ∷ 5 ∷ [];
+  passes = 1 ∷ 0 ∷ 0 ∷ 0 ∷ 0 ∷ 0 ∷ [];
   figures = accepted (record { nodes = 6; parts = 1; bandwidth = 2; profile = 6; front = 3; levels = 4; width = 2 });
   marks = accepted (record { marked = 6; new = 0 });
   bytes = 63 ∷ 9 ∷ 9 ∷ 9 ∷ [];
@@ -218,6 +229,7 @@ degrees-found = record {
   report = accepted (record { v = 1; u = 2; k = 3; width = 2; passes = 1; direction = Forward });
   levels = 1 ∷ 3 ∷ 2 ∷ 1 ∷ 2 ∷ 3 ∷ [];
   numbers = 1 ∷ 6 ∷ 3 ∷ 2 ∷ 4 ∷ 5 ∷ [];
+  passes = 1 ∷ 0 ∷ 0 ∷ 0 ∷ 0 ∷ 0 ∷ [];
   figures = accepted (record { nodes = 6; parts = 1; bandwidth = 3; profile = 8; front = 4; levels = 3; width = 2 });
   marks = accepted (record { marked = 8; new = 2 });
   bytes = 255 ∷ 9 ∷ 9 ∷ 9 ∷ [];
@@ -237,6 +249,7 @@ leftover-found = record {
   report = accepted (record { v = 6; u = 2; k = 3; width = 3; passes = 1; direction = Forward });
   levels = 2 ∷ 3 ∷ 2 ∷ 1 ∷ 1 ∷ 1 ∷ [];
   numbers = 4 ∷ 6 ∷ 5 ∷ 3 ∷ 2 ∷ 1 ∷ [];
+  passes = 1 ∷ 0 ∷ 0 ∷ 0 ∷ 0 ∷ 0 ∷ [];
   figures = accepted (record { nodes = 6; parts = 1; bandwidth = 3; profile = 8; front = 3; levels = 3; width = 3 });
   marks = accepted (record { marked = 8; new = 0 });
   bytes = 255 ∷ 9 ∷ 9 ∷ 9 ∷ [];
@@ -256,6 +269,7 @@ lowest-found = record {
   report = accepted (record { v = 2; u = 1; k = 4; width = 4; passes = 1; direction = Reversed });
   levels = 4 ∷ 1 ∷ 3 ∷ 2 ∷ 2 ∷ 3 ∷ 2 ∷ 2 ∷ 3 ∷ [];
   numbers = 1 ∷ 9 ∷ 4 ∷ 8 ∷ 6 ∷ 3 ∷ 7 ∷ 5 ∷ 2 ∷ [];
+  passes = 1 ∷ 0 ∷ 0 ∷ 0 ∷ 0 ∷ 0 ∷ 0 ∷ 0 ∷ 0 ∷ [];
   figures = accepted (record { nodes = 9; parts = 1; bandwidth = 5; profile = 23; front = 5; levels = 4; width = 4 });
   marks = accepted (record { marked = 23; new = 9 });
   bytes = 255 ∷ 255 ∷ 127 ∷ 9 ∷ [];
@@ -275,6 +289,7 @@ directions-found = record {
   report = accepted (record { v = 5; u = 6; k = 4; width = 3; passes = 1; direction = Reversed });
   levels = 3 ∷ 2 ∷ 3 ∷ 1 ∷ 1 ∷ 4 ∷ 3 ∷ [];
   numbers = 4 ∷ 5 ∷ 3 ∷ 7 ∷ 6 ∷ 1 ∷ 2 ∷ [];
+  passes = 1 ∷ 1 ∷ 0 ∷ 0 ∷ 0 ∷ 0 ∷ 0 ∷ [];
   figures = accepted (record { nodes = 7; parts = 2; bandwidth = 3; profile = 6; front = 3; levels = 5; width = 3 });
   marks = accepted (record { marked = 6; new = 0 });
   bytes = 63 ∷ 9 ∷ 9 ∷ 9 ∷ [];
@@ -294,9 +309,50 @@ profiles-found = record {
   report = accepted (record { v = 1; u = 2; k = 2; width = 2; passes = 1; direction = Forward });
   levels = 1 ∷ 2 ∷ 1 ∷ 2 ∷ [];
   numbers = 1 ∷ 2 ∷ 4 ∷ 3 ∷ [];
+  passes = 1 ∷ 1 ∷ 0 ∷ 0 ∷ [];
   figures = accepted (record { nodes = 4; parts = 2; bandwidth = 2; profile = 3; front = 3; levels = 3; width = 2 });
   marks = accepted (record { marked = 3; new = 0 });
   bytes = 7 ∷ 9 ∷ 9 ∷ 9 ∷ [];
+}
+
+-- parts of two, three and one passes: in the order of the parts, neither by size nor by passes
+eachPart : Lists
+eachPart = record {
+  starts = 0 ∷ 1 ∷ 3 ∷ 3 ∷ 5 ∷ 7 ∷ 8 ∷ 10 ∷ 12 ∷ 14 ∷ 16 ∷ 18 ∷ 21 ∷ 23 ∷ 24 ∷ 27 ∷ 30 ∷ [];
+  neighbours = 12 ∷ 8 ∷ 16 ∷ 6 ∷ 12 ∷ 10 ∷ 16 ∷ 4 ∷ 8 ∷ 10 ∷ 2 ∷ 7 ∷ 12 ∷ 14 ∷ 5 ∷ 7 ∷ 13 ∷ 15 ∷ 1 ∷ 4 ∷ 9 ∷ 11 ∷ 15 ∷ 9 ∷ 11 ∷ 13 ∷ 16 ∷ 2 ∷ 5 ∷ 15 ∷ [];
+}
+
+eachPart-found : Found
+eachPart-found = record {
+  ends = accepted (record { v = 6; u = 14; k = 5; widthV = 2; widthU = 2; passes = 2 });
+  combined = 4 ∷ 0 ∷ 0 ∷ 2 ∷ 0 ∷ 1 ∷ 0 ∷ 0 ∷ 4 ∷ 0 ∷ 0 ∷ 3 ∷ 0 ∷ 5 ∷ 0 ∷ 0 ∷ [];
+  report = accepted (record { v = 6; u = 14; k = 5; width = 2; passes = 2; direction = Reversed });
+  levels = 4 ∷ 4 ∷ 1 ∷ 2 ∷ 4 ∷ 1 ∷ 6 ∷ 5 ∷ 4 ∷ 5 ∷ 1 ∷ 3 ∷ 2 ∷ 5 ∷ 2 ∷ 3 ∷ [];
+  numbers = 3 ∷ 11 ∷ 16 ∷ 5 ∷ 12 ∷ 6 ∷ 15 ∷ 13 ∷ 2 ∷ 14 ∷ 7 ∷ 4 ∷ 8 ∷ 1 ∷ 9 ∷ 10 ∷ [];
+  passes = (2 ∷ []) ++ (3 ∷ []) ++ (1 ∷ []) ++ replicate 13 0;
+  figures = accepted (record { nodes = 16; parts = 3; bandwidth = 2; profile = 18; front = 3; levels = 12; width = 2 });
+  marks = accepted (record { marked = 18; new = 3 });
+  bytes = 255 ∷ 255 ∷ 3 ∷ 9 ∷ [];
+}
+
+-- two isolated nodes: a pass each
+isolated : Lists
+isolated = record {
+  starts = 0 ∷ 0 ∷ 0 ∷ [];
+  neighbours = [];
+}
+
+isolated-found : Found
+isolated-found = record {
+  ends = accepted (record { v = 1; u = 1; k = 1; widthV = 1; widthU = 1; passes = 1 });
+  combined = 1 ∷ 0 ∷ [];
+  report = accepted (record { v = 1; u = 1; k = 1; width = 1; passes = 1; direction = Forward });
+  levels = 1 ∷ 1 ∷ [];
+  numbers = 1 ∷ 2 ∷ [];
+  passes = 1 ∷ 1 ∷ [];
+  figures = accepted (record { nodes = 2; parts = 2; bandwidth = 0; profile = 0; front = 1; levels = 2; width = 1 });
+  marks = accepted (record { marked = 0; new = 0 });
+  bytes = 9 ∷ 9 ∷ 9 ∷ 9 ∷ [];
 }
 
 record ExampleTable : Type 0 where
@@ -313,6 +369,8 @@ record ExampleTable : Type 0 where
   is-lowest : found lowest ≡ lowest-found
   is-directions : found directions ≡ directions-found
   is-profiles : found profiles ≡ profiles-found
+  is-eachPart : found eachPart ≡ eachPart-found
+  is-isolated : found isolated ≡ isolated-found
   -- an empty start list
   refusals-1 : refusals [] [] 1 [] 6 ≡ (1 ∷ 1 ∷ 1 ∷ 1 ∷ 1 ∷ 1 ∷ [])
   -- one start word
@@ -355,6 +413,24 @@ record ExampleTable : Type 0 where
   sizes-9 : rootedSizes (0 ∷ 1 ∷ 2 ∷ 2 ∷ []) (2 ∷ 1 ∷ []) 1 (9 ∷ 9 ∷ 9 ∷ []) (9 ∷ 9 ∷ []) ≡ (9 ∷ 9 ∷ [])
   -- a root that is none: the sizes stay
   sizes-10 : rootedSizes (0 ∷ 1 ∷ 2 ∷ 2 ∷ []) (2 ∷ 1 ∷ []) 4 (9 ∷ 9 ∷ 9 ∷ []) (9 ∷ 9 ∷ 9 ∷ []) ≡ (9 ∷ 9 ∷ 9 ∷ [])
+  -- two isolated nodes
+  passes-1-refusal : numberOf (runAnswer (0 ∷ 0 ∷ 0 ∷ []) [] (9 ∷ 9 ∷ []) (9 ∷ 9 ∷ []) (9 ∷ 9 ∷ []) (replicate 12 9)) ≡ 0
+  passes-1 : runPasses (0 ∷ 0 ∷ 0 ∷ []) [] (9 ∷ 9 ∷ []) (9 ∷ 9 ∷ []) (9 ∷ 9 ∷ []) (replicate 12 9) ≡ (1 ∷ 1 ∷ [])
+  -- zeros after the last part; a longer list keeps its excess
+  passes-2-refusal : numberOf (runAnswer (0 ∷ 1 ∷ 1 ∷ 3 ∷ 4 ∷ []) (3 ∷ 1 ∷ 4 ∷ 3 ∷ []) (9 ∷ 9 ∷ 9 ∷ 9 ∷ []) (9 ∷ 9 ∷ 9 ∷ 9 ∷ []) (9 ∷ 9 ∷ 9 ∷ 9 ∷ 9 ∷ 9 ∷ []) (replicate 24 9)) ≡ 0
+  passes-2 : runPasses (0 ∷ 1 ∷ 1 ∷ 3 ∷ 4 ∷ []) (3 ∷ 1 ∷ 4 ∷ 3 ∷ []) (9 ∷ 9 ∷ 9 ∷ 9 ∷ []) (9 ∷ 9 ∷ 9 ∷ 9 ∷ []) (9 ∷ 9 ∷ 9 ∷ 9 ∷ 9 ∷ 9 ∷ []) (replicate 24 9) ≡ (1 ∷ 1 ∷ 0 ∷ 0 ∷ 9 ∷ 9 ∷ [])
+  -- a short list of passes: 5, and it stays
+  passes-3-refusal : numberOf (runAnswer (0 ∷ 1 ∷ 1 ∷ 3 ∷ 4 ∷ []) (3 ∷ 1 ∷ 4 ∷ 3 ∷ []) (9 ∷ 9 ∷ 9 ∷ 9 ∷ []) (9 ∷ 9 ∷ 9 ∷ 9 ∷ []) (9 ∷ 9 ∷ 9 ∷ []) (replicate 24 9)) ≡ 5
+  passes-3 : runPasses (0 ∷ 1 ∷ 1 ∷ 3 ∷ 4 ∷ []) (3 ∷ 1 ∷ 4 ∷ 3 ∷ []) (9 ∷ 9 ∷ 9 ∷ 9 ∷ []) (9 ∷ 9 ∷ 9 ∷ 9 ∷ []) (9 ∷ 9 ∷ 9 ∷ []) (replicate 24 9) ≡ (9 ∷ 9 ∷ 9 ∷ [])
+  -- no list of passes: 5
+  passes-4-refusal : numberOf (runAnswer (0 ∷ 0 ∷ []) [] (9 ∷ []) (9 ∷ []) [] (9 ∷ 9 ∷ 9 ∷ 9 ∷ 9 ∷ 9 ∷ [])) ≡ 5
+  passes-4 : runPasses (0 ∷ 0 ∷ []) [] (9 ∷ []) (9 ∷ []) [] (9 ∷ 9 ∷ 9 ∷ 9 ∷ 9 ∷ 9 ∷ []) ≡ []
+  -- a short list of levels: the passes stay
+  passes-5-refusal : numberOf (runAnswer (0 ∷ 1 ∷ 1 ∷ 3 ∷ 4 ∷ []) (3 ∷ 1 ∷ 4 ∷ 3 ∷ []) (9 ∷ 9 ∷ 9 ∷ 9 ∷ []) (9 ∷ 9 ∷ 9 ∷ []) (9 ∷ 9 ∷ 9 ∷ 9 ∷ []) (replicate 24 9)) ≡ 5
+  passes-5 : runPasses (0 ∷ 1 ∷ 1 ∷ 3 ∷ 4 ∷ []) (3 ∷ 1 ∷ 4 ∷ 3 ∷ []) (9 ∷ 9 ∷ 9 ∷ 9 ∷ []) (9 ∷ 9 ∷ 9 ∷ []) (9 ∷ 9 ∷ 9 ∷ 9 ∷ []) (replicate 24 9) ≡ (9 ∷ 9 ∷ 9 ∷ 9 ∷ [])
+  -- a word of scratch too few: the passes stay
+  passes-6-refusal : numberOf (runAnswer (0 ∷ 1 ∷ 1 ∷ 3 ∷ 4 ∷ []) (3 ∷ 1 ∷ 4 ∷ 3 ∷ []) (9 ∷ 9 ∷ 9 ∷ 9 ∷ []) (9 ∷ 9 ∷ 9 ∷ 9 ∷ []) (9 ∷ 9 ∷ 9 ∷ 9 ∷ []) (replicate 23 9)) ≡ 5
+  passes-6 : runPasses (0 ∷ 1 ∷ 1 ∷ 3 ∷ 4 ∷ []) (3 ∷ 1 ∷ 4 ∷ 3 ∷ []) (9 ∷ 9 ∷ 9 ∷ 9 ∷ []) (9 ∷ 9 ∷ 9 ∷ 9 ∷ []) (9 ∷ 9 ∷ 9 ∷ 9 ∷ []) (replicate 23 9) ≡ (9 ∷ 9 ∷ 9 ∷ 9 ∷ [])
   -- a wrong mark, and no node: 12 before 1
   file-1 : fileRefusal (71 ∷ 82 ∷ 88 ∷ 1 ∷ 0 ∷ 0 ∷ 0 ∷ 0 ∷ 0 ∷ []) ≡ 12
   -- a wrong version, and a node too many
@@ -412,7 +488,7 @@ record ExampleTable : Type 0 where
 
 -- the whole table
 example-table : ExampleTable
-unfolding computes found numberOf refusals names names-found deeper deeper-found passes passes-found inE inE-found equal equal-found larger larger-found untouched untouched-found narrower narrower-found degrees degrees-found leftover leftover-found lowest lowest-found directions directions-found profiles profiles-found
+unfolding computes found numberOf refusals names names-found deeper deeper-found passes passes-found inE inE-found equal equal-found larger larger-found untouched untouched-found narrower narrower-found degrees degrees-found leftover leftover-found lowest lowest-found directions directions-found profiles profiles-found eachPart eachPart-found isolated isolated-found
 example-table = record {
   is-names = refl;
   is-deeper = refl;
@@ -427,6 +503,8 @@ example-table = record {
   is-lowest = refl;
   is-directions = refl;
   is-profiles = refl;
+  is-eachPart = refl;
+  is-isolated = refl;
   refusals-1 = refl;
   refusals-2 = refl;
   refusals-3 = refl;
@@ -448,6 +526,18 @@ example-table = record {
   sizes-8 = refl;
   sizes-9 = refl;
   sizes-10 = refl;
+  passes-1-refusal = refl;
+  passes-1 = refl;
+  passes-2-refusal = refl;
+  passes-2 = refl;
+  passes-3-refusal = refl;
+  passes-3 = refl;
+  passes-4-refusal = refl;
+  passes-4 = refl;
+  passes-5-refusal = refl;
+  passes-5 = refl;
+  passes-6-refusal = refl;
+  passes-6 = refl;
   file-1 = refl;
   file-2 = refl;
   file-3 = refl;
