@@ -29,21 +29,21 @@ def of_case(draw, c):
         return trial(draw, c.kind, c.call, given, lent)
     n = max(0, len(c.starts) - 1)
     other = None if draw.chance(0.5) else cases.lent(draw, n)
-    return trial(draw, c.kind, PAIR, given, lent[:3] + [other] + lent[3:])
+    return trial(draw, c.kind, PAIR, given, lent[:4] + [other] + lent[4:])
 
 
 def every_call(kind, lists, node, numbering, n):
     """All calls on an adjacency, with enough of everything lent."""
-    yield Case(kind, 'adjacency test', *lists, [], 0, 0, 0, 0, 0)
-    yield Case(kind, 'rooted levels', *lists, [], node, n, n, 0, 0)
-    yield Case(kind, 'ends', *lists, [], node, scratch_words(n), 0, 0, 0)
-    yield Case(kind, 'combined levels', *lists, [], node, n, scratch_words(n), 0, 0)
-    yield Case(kind, 'part report', *lists, [], node, scratch_words(n), 0, 0, 0)
-    yield Case(kind, 'whole run', *lists, [], 0, n, n, scratch_words(n), 0)
-    yield Case(kind, 'measures', *lists, numbering, 0, n, 0, 0, 0)
+    yield Case(kind, 'adjacency test', *lists, [], 0)
+    yield Case(kind, 'rooted levels', *lists, [], node, n, n)
+    yield Case(kind, 'ends', *lists, [], node, scratch_words(n))
+    yield Case(kind, 'combined levels', *lists, [], node, n, scratch_words(n))
+    yield Case(kind, 'part report', *lists, [], node, scratch_words(n))
+    yield Case(kind, 'whole run', *lists, [], 0, n, n, n, scratch_words(n))
+    yield Case(kind, 'measures', *lists, numbering, 0, n)
     need = cases.byte_count(lists, numbering) if len(lists[0]) == n + 1 else 2
-    yield Case(kind, 'elimination', *lists, numbering, 0, n, 0, 0, need)
-    yield Case(kind, 'run and eliminate', *lists, [], 0, n, n, scratch_words(n), 40000)
+    yield Case(kind, 'elimination', *lists, numbering, 0, n, bytes=need)
+    yield Case(kind, 'run and eliminate', *lists, [], 0, n, n, n, scratch_words(n), 40000)
 
 
 def of_paper(draw, count):
@@ -67,9 +67,9 @@ def wide():
     for node in (0, 4097, 65535):
         yield from every_call(kind, isolated, node, same + [1] * 65536, 4096)
     for n in (65536, 65539, 2 ** 32 + 3, 2 ** 63, 2 ** 64 - 1):
-        yield Case(kind, 'mesh', [], [], [1, 1, 2], n, 4, 32768, 4, 0)
+        yield Case(kind, 'mesh', [], [], [1, 1, 2], n, 4, 32768, 4)
     for words in ([65535], [10, 65535], [1, 65535, 1], [1, 4096, 1] + [65535] * 65535):
-        yield Case(kind, 'mesh', [], [], words, 4096, 4097, 32768, 4096, 0)
+        yield Case(kind, 'mesh', [], [], words, 4096, 4097, 32768, 4096)
 
 
 def full_size(draw):
@@ -87,7 +87,7 @@ def pairs(draw, count):
     for _ in range(count):
         n = 1 + draw.below(40)
         lists = cases.random_graph(draw, n)
-        sizes = [cases.enough(draw, size) for size in (n, n, scratch_words(n))]
+        sizes = [cases.enough(draw, size) for size in cases.run_lengths(lists)]
         yield Case('random graph', 'run and eliminate', *lists, [], 0, *sizes, cases.lent(draw, cases.run_byte_count(lists)))
 
 
@@ -117,6 +117,7 @@ def at_random(draw, count):
     yield from cases.large(draw, count // 20)
     yield from cases.illegal(draw, 4 * count)
     yield from cases.meshes(draw, 2 * count)
+    yield from cases.pass_counts(draw, count // 5)
 
 
 def some(draw, count):

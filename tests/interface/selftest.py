@@ -54,9 +54,9 @@ class Faulting:
 def trials():
     """Each call on three nodes, with one word more than it needs in every list that is lent; the pair of calls with one scratch and with two."""
     on_graph = list(every_call('self-test', from_edges(3, [(1, 2), (2, 3)]), 1, [1, 2, 3], 3))
-    for c in on_graph + [Case('self-test', 'mesh', [], [], [1, 1, 2], 3, 4, 32768, 3, 0)]:
+    for c in on_graph + [Case('self-test', 'mesh', [], [], [1, 1, 2], 3, 4, 32768, 3)]:
         given, lent = fields(c, CALLS[c.call].given), [size + 1 for size in fields(c, CALLS[c.call].lent)]
-        paired = [(PAIR, lent[:3] + [other] + lent[3:]) for other in (None, 4)]
+        paired = [(PAIR, lent[:4] + [other] + lent[4:]) for other in (None, 4)]
         for call, lengths in paired if c.call == 'run and eliminate' else [(c.call, lent)]:
             yield Trial(c.kind, call, given, lengths, [FIGURES[function] + 1 for function in FUNCTIONS[call] if FIGURES[function]], 0)
 

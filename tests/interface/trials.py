@@ -16,9 +16,9 @@ from library import CODE_OF, FIGURES, PARAMETERS, Span, guarded
 # What is given, lists and numbers in the order of the call; the lengths of what is lent, and of the list of figures of each call; what is in them.
 Trial = namedtuple('Trial', 'kind call given lent figures fill')
 
-# Lent to the pair of calls: numbers, levels and scratch to the run; to the elimination a scratch of its own, or None for the run's, and bytes.
+# Lent to the pair: numbers, levels, passes and scratch to the run; to the elimination a scratch of its own, or None for the run's, and bytes.
 PAIR = 'run, then eliminate'
-LENT_TO_PAIR = ('numbers', 'levels', 'scratch', 'other scratch', 'bytes')
+LENT_TO_PAIR = ('numbers', 'levels', 'passes', 'scratch', 'other scratch', 'bytes')
 
 # The functions that a trial calls, one after the other.
 FUNCTIONS = {
@@ -81,7 +81,7 @@ def steps(trial, values):
         return [(FUNCTIONS[trial.call][0], whole(values, *values))]
     n = max(0, len(values['starts']) - 1)
     scratch = 'scratch' if trial.lent[LENT_TO_PAIR.index('other scratch')] is None else 'other scratch'
-    return [('run', whole(values, 'starts', 'neighbours', 'numbers', 'levels', 'scratch', 'figures')),
+    return [('run', whole(values, 'starts', 'neighbours', 'numbers', 'levels', 'passes', 'scratch', 'figures')),
             ('eliminate', whole(values, 'starts', 'neighbours') + [('numbers', n)] + whole(values, scratch, 'bytes', 'other figures'))]
 
 

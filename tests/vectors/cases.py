@@ -11,6 +11,7 @@ import calls
 import elements
 import shapes
 import store
+import worked
 from calls import scratch_words
 from combined import number_pairs
 from ends import ends_of_part
@@ -19,8 +20,8 @@ from graph import from_edges, lists_of, part_of, pieces_of, rows_of, small_graph
 from measures import profile
 from vectors import answer_text, byte_pattern, changed, number, of_words, pattern, shown
 
-# Given lists, a given node (n for the mesh), lengths of what is lent. `kind` says what the case is for.
-Case = namedtuple('Case', 'kind call starts neighbours given node first second third bytes')
+# Given lists, a given node (n for the mesh), lengths of what is lent, 0 where nothing is said. `kind` says what the case is for.
+Case = namedtuple('Case', 'kind call starts neighbours given node first second third fourth bytes', defaults=(0,) * 5)
 
 # A call: its number in the program, the reference's call, and which of a case's fields it is given and lent, in its order.
 Call = namedtuple('Call', 'number reference given lent')
@@ -33,8 +34,8 @@ CALLS = {
     'elimination': Call(5, calls.elimination, 'starts neighbours given', 'first bytes'),
     'mesh': Call(6, calls.mesh, 'node given', 'first second third'),
     'combined levels': Call(7, calls.combined_levels, 'starts neighbours node', 'first second'),
-    'whole run': Call(8, calls.whole_run, 'starts neighbours', 'first second third'),
-    'run and eliminate': Call(9, calls.run_and_eliminate, 'starts neighbours', 'first second third bytes'),
+    'whole run': Call(8, calls.whole_run, 'starts neighbours', 'first second third fourth'),
+    'run and eliminate': Call(9, calls.run_and_eliminate, 'starts neighbours', 'first second third fourth bytes'),
     'part report': Call(10, calls.part_report, 'starts neighbours node', 'first'),
 }
 
@@ -51,16 +52,16 @@ MOST_BYTES = 40000
 
 def encoded(c):
     """The case as the program reads it."""
-    assert max(len(c.starts), len(c.neighbours), c.first, c.second, c.third) <= MOST_WORDS
+    assert max(len(c.starts), len(c.neighbours), c.first, c.second, c.third, c.fourth) <= MOST_WORDS
     assert len(c.given) <= MOST_GIVEN and c.bytes <= MOST_BYTES
     lists = b''.join(number(len(words)) + of_words(words) for words in (c.starts, c.neighbours, c.given))
-    lengths = b''.join(number(size) for size in (c.node, c.first, c.second, c.third, c.bytes))
+    lengths = b''.join(number(size) for size in (c.node, c.first, c.second, c.third, c.fourth, c.bytes))
     return number(CALLS[c.call].number) + lists + lengths
 
 
 def expected(c):
     """The line that the program must write."""
-    call, words = CALLS[c.call], ('first', 'second', 'third')
+    call, words = CALLS[c.call], ('first', 'second', 'third', 'fourth')
     lent = {name: pattern(getattr(c, name)) for name in words}
     lent['bytes'] = byte_pattern(c.bytes)
     answer = call.reference(*fields(c, call.given), *[lent[name] for name in call.lent.split()])
@@ -132,10 +133,10 @@ def enough(draw, need):
 def at_node(draw, kind, lists, node):
     """The calls that are given a node."""
     n = max(0, len(lists[0]) - 1)
-    yield Case(kind, 'rooted levels', *lists, [], node, lent(draw, n), lent(draw, n), 3, 0)
-    yield Case(kind, 'ends', *lists, [], node, lent(draw, scratch_words(n)), 3, 0, 0)
-    yield Case(kind, 'combined levels', *lists, [], node, lent(draw, n), lent(draw, scratch_words(n)), 3, 0)
-    yield Case(kind, 'part report', *lists, [], node, lent(draw, scratch_words(n)), 3, 0, 0)
+    yield Case(kind, 'rooted levels', *lists, [], node, lent(draw, n), lent(draw, n), 3)
+    yield Case(kind, 'ends', *lists, [], node, lent(draw, scratch_words(n)), 3)
+    yield Case(kind, 'combined levels', *lists, [], node, lent(draw, n), lent(draw, scratch_words(n)), 3)
+    yield Case(kind, 'part report', *lists, [], node, lent(draw, scratch_words(n)), 3)
 
 
 def wrong_numbering(draw, numbering):
@@ -155,34 +156,40 @@ def byte_count(lists, numbering):
 def numbered(draw, kind, lists, numbering):
     """The calls that are given a numbering."""
     n = len(lists[0]) - 1
-    yield Case(kind, 'measures', *lists, numbering, 0, lent(draw, n), 3, 0, 0)
-    yield Case(kind, 'elimination', *lists, numbering, 0, lent(draw, n), 3, 0, lent(draw, byte_count(lists, numbering)))
+    yield Case(kind, 'measures', *lists, numbering, 0, lent(draw, n), 3)
+    yield Case(kind, 'elimination', *lists, numbering, 0, lent(draw, n), 3, bytes=lent(draw, byte_count(lists, numbering)))
+
+
+def run_lengths(lists):
+    """What the run asks for: numbers, levels, passes, scratch."""
+    n = max(0, len(lists[0]) - 1)
+    return [n, n, n, scratch_words(n)]
 
 
 def run_byte_count(lists):
     """Mark bytes that the run's own numbers need, as the reference counts them."""
     n = len(lists[0]) - 1
-    _, figures = calls.whole_run(*lists, pattern(n), pattern(n), pattern(scratch_words(n)))
+    _, figures = calls.whole_run(*lists, pattern(n), pattern(n), pattern(n), pattern(scratch_words(n)))
     return store.byte_count(figures[3])
 
 
 def runs(draw, kind, lists):
     """The run and run and eliminate on a legal adjacency, with all that they need; now and then also with one thing short."""
-    n, need = len(lists[0]) - 1, run_byte_count(lists)
-    most = [enough(draw, n), enough(draw, n), enough(draw, scratch_words(n))]
+    need, due = run_byte_count(lists), run_lengths(lists)
+    most = [enough(draw, size) for size in due]
     yield Case(kind, 'whole run', *lists, [], 0, *most, 2)
     yield Case(kind, 'run and eliminate', *lists, [], 0, *most, enough(draw, need))
     if draw.chance(0.3):
         yield Case(kind, 'run and eliminate', *lists, [], 0, *most, max(0, need - 1))
     if draw.chance(0.3):
-        at = draw.below(3)
-        short = most[:at] + [(n, n, scratch_words(n))[at] - 1] + most[at + 1:]
+        at = draw.below(4)
+        short = most[:at] + [due[at] - 1] + most[at + 1:]
         yield Case(kind, draw.one(['whole run', 'run and eliminate']), *lists, [], 0, *short, enough(draw, need))
 
 
 def whole(draw, kind, lists):
     """The calls on a legal adjacency alone."""
-    yield Case(kind, 'adjacency test', *lists, [], 0, 3, 0, 0, 2)
+    yield Case(kind, 'adjacency test', *lists, [], 0, 3, bytes=2)
     yield from runs(draw, kind, lists)
 
 
@@ -200,11 +207,11 @@ def on_graph(draw, kind, lists, nodes, numberings):
 def on_illegal(draw, lists):
     """Calls on an adjacency that may be illegal."""
     n = max(0, len(lists[0]) - 1)
-    made = [Case('illegal adjacency', 'adjacency test', *lists, [], 0, 3, 0, 0, 2)]
+    made = [Case('illegal adjacency', 'adjacency test', *lists, [], 0, 3, bytes=2)]
     made += list(at_node(draw, 'illegal adjacency', lists, draw.below(n + 2)))
-    made += [Case('illegal adjacency', call, *lists, list(range(1, n + 1)), 0, lent(draw, n), 3, 0, lent(draw, n))
+    made += [Case('illegal adjacency', call, *lists, list(range(1, n + 1)), 0, lent(draw, n), 3, bytes=lent(draw, n))
              for call in ('measures', 'elimination')]
-    made += [Case('illegal adjacency', call, *lists, [], 0, lent(draw, n), lent(draw, n), lent(draw, scratch_words(n)), lent(draw, n))
+    made += [Case('illegal adjacency', call, *lists, [], 0, *[lent(draw, size) for size in run_lengths(lists)], lent(draw, n))
              for call in ('whole run', 'run and eliminate')]
     return [made[0], draw.one(made[1:])]
 
@@ -227,7 +234,7 @@ def every_numbering(least, most):
         for lists in small_graphs(n):
             for numbering in permutations(range(1, n + 1)):
                 need = byte_count(lists, numbering)
-                yield Case('every numbering', 'elimination', *lists, list(numbering), 0, n, 0, 0, need)
+                yield Case('every numbering', 'elimination', *lists, list(numbering), 0, n, bytes=need)
 
 
 # Bytes of a store, about the ends of the eight-byte words that marks are counted by.
@@ -265,11 +272,10 @@ def store_sizes(draw, count):
         for made, more in ((paths_of(size), (0, 8)), (stores_of(draw, size, count), (0, 1, 8, 17))):
             for lists, numbering in made:
                 for excess in more:
-                    yield Case(kind, 'elimination', *lists, numbering, 0, len(numbering), 0, 0, size + excess)
+                    yield Case(kind, 'elimination', *lists, numbering, 0, len(numbering), bytes=size + excess)
         lists = run_of(draw, size)
-        n = len(lists[0]) - 1
         for excess in (0, 9):
-            yield Case(kind, 'run and eliminate', *lists, [], 0, n, n, scratch_words(n), size + excess)
+            yield Case(kind, 'run and eliminate', *lists, [], 0, *run_lengths(lists), size + excess)
 
 
 def at_random(draw, count, nodes):
@@ -325,8 +331,7 @@ def large(draw, count):
 def of_many_parts():
     """As many parts as there can be, and nearly so: isolated nodes, pairs, rings of four."""
     for lists in shapes.many_parts():
-        n = len(lists[0]) - 1
-        yield Case('many parts', 'run and eliminate', *lists, [], 0, n, n, scratch_words(n), run_byte_count(lists))
+        yield Case('many parts', 'run and eliminate', *lists, [], 0, *run_lengths(lists), run_byte_count(lists))
 
 
 def of_full_size(draw):
@@ -336,7 +341,7 @@ def of_full_size(draw):
         n = len(lists[0]) - 1
         yield from (case for case in whole(draw, kind, lists) if case.bytes <= MOST_BYTES)
         yield from at_node(draw, kind, lists, 1 + draw.below(n))
-        yield Case(kind, 'measures', *lists, list(range(1, n + 1)), 0, n, 0, 0, 0)
+        yield Case(kind, 'measures', *lists, list(range(1, n + 1)), 0, n)
 
 
 # Path 1-3-5, star about 2, node 8, triangle 9-11-12, pair 10-13, path from 14 to 17 and node 18.
@@ -350,7 +355,7 @@ def every_root(draw):
     for lists in [from_edges(*graph) for graph in graphs] + [random_graph(draw, 1 + draw.below(16)) for _ in range(10)]:
         n = len(lists[0]) - 1
         for root in range(1, n + 1):
-            yield Case('every root', 'rooted levels', *lists, [], root, n, n, 0, 0)
+            yield Case('every root', 'rooted levels', *lists, [], root, n, n)
 
 
 def level_sizes(draw):
@@ -362,20 +367,20 @@ def level_sizes(draw):
         for root in sorted({0, 1, n, n + 1, 65535}):
             for levels in lengths:
                 for sizes in lengths:
-                    yield Case('two lists', 'rooted levels', *lists, [], root, levels, sizes, 3, 0)
+                    yield Case('two lists', 'rooted levels', *lists, [], root, levels, sizes, 3)
     star = from_edges(*shapes.star(4096))
     for root in (1, 77):
-        yield Case('full size', 'rooted levels', *star, [], root, 4096, 4096, 0, 0)
+        yield Case('full size', 'rooted levels', *star, [], root, 4096, 4096)
 
 
 def with_scratch(kind, lists, node, length, need):
     """The run, the calls on one part, and run and eliminate, with so many words of scratch and mark bytes and just enough of the rest."""
     n = len(lists[0]) - 1
-    yield Case(kind, 'ends', *lists, [], node, length, 0, 0, 0)
-    yield Case(kind, 'combined levels', *lists, [], node, n, length, 0, 0)
-    yield Case(kind, 'part report', *lists, [], node, length, 0, 0, 0)
-    yield Case(kind, 'whole run', *lists, [], 0, n, n, length, 0)
-    yield Case(kind, 'run and eliminate', *lists, [], 0, n, n, length, need)
+    yield Case(kind, 'ends', *lists, [], node, length)
+    yield Case(kind, 'combined levels', *lists, [], node, n, length)
+    yield Case(kind, 'part report', *lists, [], node, length)
+    yield Case(kind, 'whole run', *lists, [], 0, n, n, n, length)
+    yield Case(kind, 'run and eliminate', *lists, [], 0, n, n, n, length, need)
 
 
 def scratch_sizes(draw):
@@ -392,9 +397,34 @@ def scratch_sizes(draw):
     lists = from_edges(*shapes.path(7))
     for length in (6 * 7 - 1, 5 * 7, 0):
         for call, first, second in (('ends', length, 0), ('combined levels', 99, length), ('part report', length, 0)):
-            yield Case('short scratch', call, *lists, [], draw.one([0, 8, 65535]), first, second, 0, 0)
+            yield Case('short scratch', call, *lists, [], draw.one([0, 8, 65535]), first, second)
         for call in ('whole run', 'run and eliminate'):
-            yield Case('short scratch', call, *lists, [], 0, 99, 99, length, 9)
+            yield Case('short scratch', call, *lists, [], 0, 99, 99, 99, length, 9)
+
+
+# Connected graphs of one, two and three passes, and which a part of a larger graph may be.
+PARTS = [worked.TWO, worked.THREE, shapes.path(1), shapes.path(5), shapes.star(4)]
+PARTS += [(len(numbers), edges) for _, edges, *_, numbers in worked.WORKED]
+
+
+def mixed(draw, parts):
+    """A graph of these parts, their nodes anywhere among the old numbers; each keeps the order of its own, and so its passes."""
+    owners = [t for t, (size, _) in enumerate(parts) for _ in range(size)]
+    owners = draw.some(owners, len(owners))
+    nodes = [[p for p, owner in enumerate(owners, 1) if owner == t] for t in range(len(parts))]
+    return from_edges(*worked.of_parts(list(zip(parts, nodes))))
+
+
+def pass_counts(draw, count):
+    """A.9: parts of one, two and three passes in one graph, in every order; the list of passes exact, long and short."""
+    fixed = [from_edges(*worked.of_parts(parts)) for _, parts, *_ in worked.PASSES]
+    for lists in fixed + [mixed(draw, [draw.one(PARTS) for _ in range(2 + draw.below(4))]) for _ in range(count)]:
+        n, need = len(lists[0]) - 1, run_byte_count(lists)
+        for length in (n, n + 2):
+            yield Case('passes', 'whole run', *lists, [], 0, n, n, length, scratch_words(n), 2)
+        yield Case('passes', 'run and eliminate', *lists, [], 0, n, n, n + 1, scratch_words(n), need)
+        yield Case('short passes', 'whole run', *lists, [], 0, n, n, n - 1, scratch_words(n), 2)
+        yield Case('short passes', 'run and eliminate', *lists, [], 0, n + 3, n, draw.below(n), scratch_words(n), need)
 
 
 def illegal(draw, count):
@@ -413,22 +443,22 @@ def limits(draw):
     for starts in ([], [0], [5], [0] * 4097, [0] * 4098):
         n = max(0, len(starts) - 1)
         given = list(range(1, n + 1)) if n <= 4096 else []
-        yield Case(kind, 'adjacency test', starts, [], [], 0, 0, 0, 0, 0)
-        yield Case(kind, 'rooted levels', starts, [], [], 1, n, n, 0, 0)
-        yield Case(kind, 'ends', starts, [], [], 1, scratch_words(n), 0, 0, 0)
-        yield Case(kind, 'measures', starts, [], given, 0, n, 0, 0, 0)
-        yield Case(kind, 'elimination', starts, [], given, 0, n, 0, 0, 0)
-        yield Case(kind, 'whole run', starts, [], [], 0, n, n, scratch_words(n), 0)
+        yield Case(kind, 'adjacency test', starts, [], [], 0)
+        yield Case(kind, 'rooted levels', starts, [], [], 1, n, n)
+        yield Case(kind, 'ends', starts, [], [], 1, scratch_words(n))
+        yield Case(kind, 'measures', starts, [], given, 0, n)
+        yield Case(kind, 'elimination', starts, [], given, 0, n)
+        yield Case(kind, 'whole run', starts, [], [], 0, n, n, n, scratch_words(n))
     path = from_edges(*shapes.path(4096))
     for root in (1, 2048, 4096):
-        yield Case(kind, 'rooted levels', *path, [], root, 4096, 4096, 0, 0)
-    yield Case(kind, 'ends', *path, [], 77, scratch_words(4096) + 2, 0, 0, 0)
-    yield Case(kind, 'combined levels', *path, [], 77, 4096, scratch_words(4096), 0, 0)
-    yield Case(kind, 'run and eliminate', *path, [], 0, 4096, 4096, scratch_words(4096), 512)
+        yield Case(kind, 'rooted levels', *path, [], root, 4096, 4096)
+    yield Case(kind, 'ends', *path, [], 77, scratch_words(4096) + 2)
+    yield Case(kind, 'combined levels', *path, [], 77, 4096, scratch_words(4096))
+    yield Case(kind, 'run and eliminate', *path, [], 0, *run_lengths(path), 512)
     ring = from_edges(*shapes.band(4096, 4))
-    yield Case(kind, 'adjacency test', *ring, [], 0, 0, 0, 0, 0)
-    yield Case(kind, 'whole run', *ring, [], 0, 4096, 4099, scratch_words(4096), 0)
-    yield Case(kind, 'adjacency test', [0, 32769], [1] * 32769, [], 0, 0, 0, 0, 0)
+    yield Case(kind, 'adjacency test', *ring, [], 0)
+    yield Case(kind, 'whole run', *ring, [], 0, 4096, 4099, 4096, scratch_words(4096))
+    yield Case(kind, 'adjacency test', [0, 32769], [1] * 32769, [], 0)
 
 
 # Cases of the mesh.
@@ -451,13 +481,13 @@ def meshes(draw, count):
         words = [word for _ in range(draw.below(8)) for word in element(draw, max(1, n))]
         if words and draw.chance(0.1):
             words = words[:-1 - draw.below(2)]
-        yield Case('mesh', 'mesh', [], [], words, n, lent(draw, n + 1), lent(draw, 32768), lent(draw, n), 0)
+        yield Case('mesh', 'mesh', [], [], words, n, lent(draw, n + 1), lent(draw, 32768), lent(draw, n))
 
 
 def collapsed_meshes():
     """Elements that have a node more than once, or a number that is no node."""
     for n, made in list(elements.collapsed()) + list(elements.no_node_twice()):
-        yield Case('collapsed mesh', 'mesh', [], [], sum(made, []), n, n + 1, 32768, n, 0)
+        yield Case('collapsed mesh', 'mesh', [], [], sum(made, []), n, n + 1, 32768, n)
 
 
 def full_meshes():
@@ -465,13 +495,13 @@ def full_meshes():
     for blocks, pairs in ((364, 3), (364, 4), (364, 5), (365, 0)):
         words = [word for b in range(blocks) for word in [10] + list(range(10 * b + 1, 10 * b + 11))]
         words += [word for p in range(pairs) for word in (1, 4000 + 2 * p, 4001 + 2 * p)]
-        yield Case('mesh', 'mesh', [], [], words, 4096, 4097, 32768, 4096, 0)
+        yield Case('mesh', 'mesh', [], [], words, 4096, 4097, 32768, 4096)
 
 
 def long_meshes():
     """Lists of elements longer than 65,535 words: accepted, and with a fault in the last element; quadrilaterals with one corner twice."""
     bars = [word for i in range(23000) for word in (1, 1 + i % 4095, 2 + i % 4095)]
     quadrilaterals = [word + i % 4094 if at else word for i in range(13500) for at, word in enumerate((3, 1, 2, 3, 1 + i % 3))]
-    yield Case('mesh', 'mesh', [], [], quadrilaterals, 4096, 4097, 32768, 4096, 0)
+    yield Case('mesh', 'mesh', [], [], quadrilaterals, 4096, 4097, 32768, 4096)
     for last in ([1, 1, 3], [1, 3, 3], [1, 3, 4097], [0, 1, 3], [1, 1]):
-        yield Case('mesh', 'mesh', [], [], bars + last, 4096, 4097, 32768, 4096, 0)
+        yield Case('mesh', 'mesh', [], [], bars + last, 4096, 4097, 32768, 4096)

@@ -6,10 +6,10 @@
   entry_points.py --show K            print case K (line K of stdout) and its line
   entry_points.py --run N --seed S    run target/bin/test_calls on all graphs of up to 5 nodes at every node and under every numbering, N random
                                       graphs of up to 40 nodes at every node, N of up to 60 nodes, N graphs with several passes or
-                                      pieces, N / 10 of up to 1,000 nodes, graphs of full size, N illegal adjacencies, N meshes and
-                                      N / 10 stores of each of a few sizes, and compare
+                                      pieces, N / 10 of up to 1,000 nodes, graphs of full size, N illegal adjacencies, N meshes,
+                                      N / 10 stores of each of a few sizes and N graphs of parts with other passes, and compare
 
-A line has the answer, then for each of the three lent lists its words up to the last that isn't as it was lent, then the lent bytes. All
+A line has the answer, then for each of the four lent lists its words up to the last that isn't as it was lent, then the lent bytes. All
 expected lines come from tests/reference.
 """
 
@@ -32,7 +32,8 @@ def selection():
     return (list(cases.small(draw, 1, 4)) + list(cases.some_of_five(draw, 40)) + list(cases.of_table(draw)) + list(cases.telling(draw, 120))
             + list(cases.at_random(draw, 20, 3)) + list(cases.runs_at_random(draw, 16)) + list(cases.illegal(draw, 350))
             + list(cases.limits(draw)) + list(cases.of_many_parts()) + list(cases.meshes(draw, 250)) + list(cases.collapsed_meshes())
-            + list(cases.full_meshes()) + list(cases.store_sizes(draw, 3)) + list(cases.scratch_sizes(draw)) + list(cases.level_sizes(draw)))
+            + list(cases.full_meshes()) + list(cases.store_sizes(draw, 3)) + list(cases.scratch_sizes(draw)) + list(cases.level_sizes(draw))
+            + list(cases.pass_counts(draw, 30)))
 
 
 def many(count, seed):
@@ -42,7 +43,8 @@ def many(count, seed):
             + list(cases.at_random(draw, count, 40)) + list(cases.runs_at_random(draw, count)) + list(cases.large(draw, count // 10))
             + list(cases.illegal(draw, count)) + list(cases.limits(draw)) + list(cases.of_many_parts()) + list(cases.of_full_size(draw))
             + list(cases.meshes(draw, count)) + list(cases.collapsed_meshes()) + list(cases.full_meshes()) + list(cases.long_meshes())
-            + list(cases.store_sizes(draw, count // 10)) + list(cases.scratch_sizes(draw)) + list(cases.level_sizes(draw)))
+            + list(cases.store_sizes(draw, count // 10)) + list(cases.scratch_sizes(draw)) + list(cases.level_sizes(draw))
+            + list(cases.pass_counts(draw, count)))
 
 
 def report(made):
