@@ -1,11 +1,11 @@
--- The scratch of the whole run from its clearing to its clearing, and the eight figures. Assumes nothing.
+-- The scratch of the whole run from its clearing to its clearing, and the seven figures. Assumes nothing.
 use mathlib.Core.Path.{_≡_, sym, ap, _∙_}
 use mathlib.Core.Bool.{true}
 use mathlib.Core.List.{List, _++_}
 use Prim.Native.Nat.{ℕ, _-_, _*_, _≤_}
 use native.Mathlib.Omega.{arith}
 use lib.ListN.{length, take, drop, replicate, length-append, length-drop, length-replicate}
-use lib.Seq.{slice, length-take-le, drop-at}
+use lib.Seq.{slice, drop-at}
 use Rattle.basis.specs.Lists.{joinAll}
 use Rattle.basis.proofs.Walk.{part-slice}
 use Rattle.levels_search.proofs.Stores.{drop-replicate}
@@ -25,6 +25,21 @@ use Rattle.numbering_measures.specs.declared.answer.Measures.{Measures}
 use Rattle.numbering.specs.Ran.{Summed}
 use Rattle.numbering.proofs.Ran.{graph, starts, areas, areas-size, areas-front}
 
+-- ---- the scratch after the last part: n words are lent to the measures, come back as zeros, and all is cleared
+
+module _ (n : ℕ) {C : List ℕ} (c : C ≡ replicate n 0) (W : List ℕ) (room : wordsPerNode * n ≤ length W) where
+  pub back-size : length (C ++ drop n W) ≡ length W
+  back-size = omega (arith, length-append C (drop n W), ap length c, length-replicate {A = ℕ} n 0, length-drop n W, room)
+
+  pub last-scratch : zeroed (wordsPerNode * n) (C ++ drop n W) ≡ zeroed (wordsPerNode * n) W
+  last-scratch =
+      zeroed-again (wordsPerNode * n) (C ++ drop n W) W (behind-front n (wordsPerNode * n) C W (ap length c ∙ length-replicate n 0) (omega arith))
+
+-- so the run leaves its scratch
+pub cleared-last : (n : ℕ) (W₀ : List ℕ) {W₁ W₂ W₃ : List ℕ} → W₃ ≡ zeroed (wordsPerNode * n) W₂ → W₂ ≡ W₁
+    → drop (wordsPerNode * n) W₁ ≡ drop (wordsPerNode * n) W₀ → W₃ ≡ zeroed (wordsPerNode * n) W₀
+cleared-last n W₀ {W₁} {W₂} w₃ w₂ w₁ = w₃ ∙ zeroed-again (wordsPerNode * n) W₂ W₀ (ap (drop (wordsPerNode * n)) w₂ ∙ w₁)
+
 module _ (S N : List ℕ) (legal : graphRefusal S N ≡ 0) where
   abbrev n : ℕ
   n = sizeOf S
@@ -32,7 +47,7 @@ module _ (S N : List ℕ) (legal : graphRefusal S N ≡ 0) where
   pub legal-lists : LegalLists S N
   legal-lists = record { starts = starts S N legal; graph = graph S N legal; refusal = legal }
 
-  -- ---- the scratch
+  -- ---- the scratch before the first part
 
   module _ (W₀ : List ℕ) {W₁ : List ℕ} (room : wordsPerNode * n ≤ length W₀) (w₁ : W₁ ≡ zeroed (wordsPerNode * n) W₀) where
     pub cleared-size : length W₁ ≡ length W₀
@@ -68,43 +83,24 @@ module _ (S N : List ℕ) (legal : graphRefusal S N ≡ 0) where
           ∙ drop-replicate (5 * n) (6 * n) 0
           ∙ ap (λ (k : ℕ). replicate k 0) c
 
-      module _ {W₃ : List ℕ} (w₃ : W₃ ≡ W₂) where
-        three-size : length W₃ ≡ length W₀
-        three-size = ap length w₃ ∙ filled-size
-
-        -- n words are lent to the measures
-        pub lent-room : n ≤ length W₃
-        lent-room = omega (arith, three-size, room)
-
-        pub lent-size : length (take n W₃) ≡ n
-        lent-size = length-take-le n W₃ lent-room
-
-        -- and come back as zeros
-        pub back-size : {C : List ℕ} → C ≡ replicate n 0 → length (C ++ drop n W₃) ≡ length W₀
-        back-size {C} c = omega (arith, length-append C (drop n W₃), ap length c, length-replicate {A = ℕ} n 0, length-drop n W₃, lent-room, three-size)
-
-        pub last-scratch : {C : List ℕ} → C ≡ replicate n 0 → zeroed (wordsPerNode * n) (C ++ drop n W₃) ≡ zeroed (wordsPerNode * n) W₀
-        last-scratch {C} c =
-            zeroed-again (wordsPerNode * n) (C ++ drop n W₃) W₀
-            (behind-front n (wordsPerNode * n) C W₃ (ap length c ∙ length-replicate n 0) (omega arith)
-            ∙ ap (drop (wordsPerNode * n)) (w₃ ∙ two-is)
-            ∙ behind-front (5 * n) (wordsPerNode * n) front-part W₁ (areas-size S N legal) (omega arith)
-            ∙ ap (drop (wordsPerNode * n)) w₁ ∙ zeroed-behind (wordsPerNode * n) W₀)
-
-        pub last-size : {C W₅ : List ℕ} → C ≡ replicate n 0 → W₅ ≡ zeroed (wordsPerNode * n) (C ++ drop n W₃) → length W₅ ≡ length W₀
-        last-size c w₅ = ap length (w₅ ∙ last-scratch c) ∙ zeroed-length (wordsPerNode * n) W₀ room
+      -- and the rest is as it was
+      pub behind-same : drop (wordsPerNode * n) W₂ ≡ drop (wordsPerNode * n) W₀
+      behind-same =
+          ap (drop (wordsPerNode * n)) two-is
+          ∙ behind-front (5 * n) (wordsPerNode * n) front-part W₁ (areas-size S N legal) (omega arith)
+          ∙ ap (drop (wordsPerNode * n)) w₁ ∙ zeroed-behind (wordsPerNode * n) W₀
 
   -- ---- the figures
 
   pub numbers-numbering : {X : List ℕ} → X ≡ run (graphOf S N) .numbers → isNumbering (sizeOf S) X ≡ true
   numbers-numbering x = ap (isNumbering (sizeOf S)) x ∙ run-numbering (graph S N legal)
 
-  pub eight-are : {X : List ℕ} {m : Measures} {parts nodes levels width passes : ℕ} → X ≡ run (graphOf S N) .numbers
-      → three m ≡ measureFigures (renumbered (graphOf S N) X) → Summed (run (graphOf S N) .figures) parts nodes levels width passes
-      → _≡_ {A = Figures} (record { nodes = nodes; parts = parts; bandwidth = m .bandwidth; profile = m .profile; front = m .front; levels = levels; width = width; passes = passes })
+  pub seven-are : {X : List ℕ} {m : Measures} {parts nodes levels width : ℕ} → X ≡ run (graphOf S N) .numbers
+      → three m ≡ measureFigures (renumbered (graphOf S N) X) → Summed (run (graphOf S N) .figures) parts nodes levels width
+      → _≡_ {A = Figures} (record { nodes = nodes; parts = parts; bandwidth = m .bandwidth; profile = m .profile; front = m .front; levels = levels; width = width })
       (run (graphOf S N) .figures)
   unfolding measureFigures
-  eight-are {X} {m} x e T =
+  seven-are {X} {m} x e T =
       let G = graph S N legal in
       let h = ap (renumbered (graphOf S N)) x in
       let b = ap (λ (f : MeasureFigures). f .bandwidth) e ∙ ap bandwidth h ∙ sym (run-measured-bandwidth G) in
@@ -118,5 +114,4 @@ module _ (S N : List ℕ) (legal : graphRefusal S N ≡ 0) where
         front = f i;
         levels = T .levels-are i;
         width = T .width-is i;
-        passes = T .passes-are i;
       }

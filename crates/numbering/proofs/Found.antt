@@ -2,30 +2,31 @@
 use mathlib.Core.Path.{_≡_, refl, sym, ap, _∙_}
 use mathlib.Core.Logic.{⊎-elim}
 use mathlib.Core.Bool.{true, false, cond}
-use mathlib.Core.List.{List, [], _∷_, _++_, map}
-use Prim.Native.Nat.{ℕ, zero, suc, _+_, _≤_, _<_, max}
+use mathlib.Core.List.{List, [], _∷_, _++_, map, append-assoc}
+use Prim.Native.Nat.{ℕ, zero, suc, _+_, _-_, _≤_, _<_, max}
 use native.Mathlib.Numerals.{add-one}
 use native.Mathlib.Omega.{arith}
-use lib.ListN.{length, take, drop, length-append, length-map, take-append-drop}
-use lib.Seq.{take-all, take-suc, drop-cons}
+use lib.ListN.{length, set, take, drop, replicate, length-append, length-map, length-replicate, take-append-drop}
+use lib.Seq.{take-all, take-suc, drop-cons, set-append-seam, length-take-le}
 use lib.Dec.{eqb}
-use Rattle.basis.specs.Lists.{filterb, joinAll, memb, greatest, sum, position}
+use Rattle.basis.specs.Lists.{joinAll, memb, greatest, sum, position}
 use Rattle.basis.specs.Perm.{times}
-use Rattle.basis.proofs.Count.{length-filter, count-append, count-length, memb-times, none-times}
+use Rattle.basis.proofs.Count.{count-append, memb-times, none-times}
 use Rattle.basis.proofs.Index.{greatest-le, position-left, position-right}
 use Rattle.basis.proofs.Lists.{map-map, map-append, map-cong, memb-append, memb-take, join-make, join-last, join-append, sum-append}
 use Rattle.basis.proofs.Logic.{by-test, clash, fails, or-left, or-right, or-split, eqb-self}
 use Rattle.basis.proofs.Perm.{perm-length, perm-memb}
 use Rattle.spec.specs.Ends.{depthAt, ends}
 use Rattle.spec.specs.Graph.{Graph, nodes, ofNode}
-use Rattle.spec.specs.Levels.{part, leads, leaders, parts}
-use Rattle.spec.specs.Numbering.{PartResult, partResultBy, partResult, partResults, wholeOrder, wholeLevels}
+use Rattle.spec.specs.Levels.{part, leaders, parts}
+use Rattle.spec.specs.Numbering.{PartResult, partResultBy, partResult, partResults, wholeOrder, wholeLevels, partPasses}
 use Rattle.laws.specs.Legal.{Node, LegalGraph}
 use Rattle.laws.proofs.Ends.{ends-of}
-use Rattle.laws.proofs.Legal.{ofNode-map, length-nodes, node-in}
+use Rattle.laws.proofs.Legal.{ofNode-map, node-in}
 use Rattle.laws.proofs.Levels.{depth-most}
 use Rattle.laws.proofs.Named.{part-levels}
 use Rattle.laws.proofs.Parts.{leaders-in}
+use Rattle.laws.proofs.Passes.{leaders-most}
 use Rattle.laws.proofs.RunLevels.{depth-of}
 use Rattle.laws.proofs.Whole.{orders, part-perm, whole-once}
 use Rattle.numbering_parts.specs.Walked.{Walked, leaderAt}
@@ -43,6 +44,45 @@ take-map : {A B : Type 0} (f : A → B) (j : ℕ) (l : List A) → take j (map f
 take-map f zero l = refl
 take-map f (suc j) [] = refl
 take-map f (suc j) (x ∷ l) = ap (λ (t : List _). f x ∷ t) (take-map f j l)
+
+-- numbers f of some with zeros up to n words: one more stands in the first of these
+fill-next : {A : Type 0} (f : A → ℕ) (n : ℕ) (rs : List A) (r : A) → length rs < n
+    → set (map f rs ++ replicate (n - length rs) 0) (length rs) (f r) ≡ map f (rs ++ (r ∷ [])) ++ replicate (n - length (rs ++ (r ∷ []))) 0
+fill-next {A} f n rs r h =
+    let zs : List ℕ = replicate (n - length (rs ++ (r ∷ []))) 0 in
+    let e : n - length rs ≡ suc (n - length (rs ++ (r ∷ []))) = omega (arith, h, length-append rs (r ∷ [])) in
+    ap (λ (k : ℕ). set (map f rs ++ replicate k 0) (length rs) (f r)) e
+    ∙ ap (λ (k : ℕ). set (map f rs ++ (0 ∷ zs)) k (f r)) (sym (length-map rs f))
+    ∙ set-append-seam (map f rs) 0 zs (f r)
+    ∙ sym (append-assoc (map f rs) (f r ∷ []) zs)
+    ∙ ap (λ (l : List ℕ). l ++ zs) (sym (map-append f rs (r ∷ [])))
+
+-- ---- the parts so far
+
+-- no more parts than nodes
+pub parts-most : (g : Graph) → length (parts g) ≤ g .size
+unfolding parts
+parts-most g = omega (arith, length-map (leaders g) (part g), leaders-most g)
+
+-- a result for each
+found-length : (g : Graph) (j : ℕ) → j ≤ length (parts g) → length (foundTo g j) ≡ j
+unfolding parts
+found-length g j h =
+    length-map (take j (leaders g)) (partResult g) ∙ length-take-le j (leaders g) (omega (arith, length-map (leaders g) (part g)))
+
+-- their passes in n words
+pub passes-size : (g : Graph) (j : ℕ) → j ≤ length (parts g) → length (partPasses g (foundTo g j)) ≡ g .size
+unfolding partPasses
+passes-size g j h =
+    let rs : List PartResult = foundTo g j in
+    omega (
+      arith,
+      length-append (map (λ r. r .report .passes) rs) (replicate (g .size - length rs) 0),
+      length-map rs (λ r. r .report .passes),
+      length-replicate {A = ℕ} (g .size - length rs) 0,
+      found-length g j h,
+      parts-most g,
+    )
 
 -- ---- one part more
 
@@ -75,14 +115,18 @@ module _ {g : Graph} (G : LegalGraph g) {j a : ℕ} (P : Walked g j a) (h : j < 
       ap (λ (l : List PartResult). greatest (map f l)) found-next ∙ ap greatest (map-append f (foundTo g j) (partResult g z ∷ []))
       ∙ greatest-last (map f (foundTo g j)) (f (partResult g z))
 
-  -- no part has more levels than the graph has nodes, nor more passes than levels
+  -- its passes stand in the word after those of the parts before
+  pub passes-next : set (partPasses g (foundTo g j)) j (partResult g z .report .passes) ≡ partPasses g (foundTo g (j + 1))
+  unfolding partPasses
+  passes-next =
+      ap (λ (i : ℕ). set (partPasses g (foundTo g j)) i (partResult g z .report .passes)) (sym (found-length g j (P .some)))
+      ∙ fill-next (λ r. r .report .passes) (g .size) (foundTo g j) (partResult g z) (omega (arith, found-length g j (P .some), parts-most g, h))
+      ∙ ap (partPasses g) (sym found-next)
+
+  -- no part has more levels than the graph has nodes
   pub depth-few : partResult g z .report .k ≤ g .size
   unfolding depthAt
   depth-few = let E = ends-of G (next-node G P h) in omega (arith, depth-of g z, E .k-depth, depth-most g (ends g z .v))
-
-  pub passes-few : partResult g z .report .passes ≤ partResult g z .report .k
-  unfolding partResult partResultBy
-  passes-few = ends-of G (next-node G P h) .most-passes
 
   -- ---- the order
 
@@ -196,12 +240,6 @@ module _ {g : Graph} (G : LegalGraph g) {j a : ℕ} (P : Walked g j a) (h : j < 
       (λ y. rw y (ofNode-map g (λ z. greatest (map (λ r. ofNode (r .levels) z) (foundTo g j))) q N ∙ omega (arith, outside z (next-node G P h) q N y))))
 
 -- ---- all parts
-
--- no more parts than nodes
-pub parts-most : (g : Graph) → length (parts g) ≤ g .size
-unfolding parts leaders
-parts-most g =
-    omega (arith, length-map (filterb (leads g) (nodes g)) (part g), length-filter (leads g) (nodes g), count-length (leads g) (nodes g), length-nodes g)
 
 pub found-all : (g : Graph) (j : ℕ) → length (parts g) ≤ j → foundTo g j ≡ partResults g
 unfolding parts partResults

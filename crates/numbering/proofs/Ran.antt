@@ -16,7 +16,7 @@ use Rattle.basis.proofs.Sort.{chain-drop}
 use Rattle.spec.specs.Graph.{Graph, graphOf, sizeOf, graphRefusal, nodes, ofNode}
 use Rattle.spec.specs.Levels.{part, leads, leaders, parts}
 use Rattle.spec.specs.Measures.{numbersOf}
-use Rattle.spec.specs.Numbering.{PartResult, partResult, partResults, wholeOrder, wholeLevels, figuresOf, runOf, run}
+use Rattle.spec.specs.Numbering.{PartResult, partResult, partResults, wholeOrder, wholeLevels, partPasses, figuresOf, runOf, run}
 use Rattle.laws.specs.Legal.{Node, LegalGraph, Starts}
 use Rattle.laws.proofs.Legal.{ofNode-at, ofNode-zeros, ofNode-map, by-node, length-nodes}
 use Rattle.laws.proofs.Levels.{part-self}
@@ -38,7 +38,7 @@ use Rattle.numbering_part.specs.declared.shape.PartFigures.{PartFigures}
 use Rattle.numbering_part.proofs.Single.{figures-one, numbers-one, levels-one}
 use Rattle.numbering.specs.Ran.{foundTo, added, Ran, Summed}
 use Rattle.numbering.specs.declared.legal.Tally.{Tally}
-use Rattle.numbering.proofs.Found.{parts-most, sum-next, greatest-next, depth-few, passes-few, numbers-next, levels-next, found-all, found-count}
+use Rattle.numbering.proofs.Found.{parts-most, sum-next, greatest-next, depth-few, passes-size, passes-next, numbers-next, levels-next, found-all, found-count}
 
 module _ (S N : List ℕ) (legal : graphRefusal S N ≡ 0) where
   pub graph : LegalGraph (graphOf S N)
@@ -65,11 +65,11 @@ module _ (S N : List ℕ) (legal : graphRefusal S N ≡ 0) where
 
 -- ---- before the first part
 
-pub ran-begin : {S N X L W : List ℕ} (E : List ℕ) → graphRefusal S N ≡ 0 → Sized (graphOf S N) (sizeOf S) X → L ≡ replicate (sizeOf S) 0
+pub ran-begin : {S N X L P W : List ℕ} (E : List ℕ) → graphRefusal S N ≡ 0 → Sized (graphOf S N) (sizeOf S) X → L ≡ replicate (sizeOf S) 0 → P ≡ replicate (sizeOf S) 0
     → W ≡ replicate (4 * sizeOf S) 0 ++ (joinAll (parts (graphOf S N)) ++ E) → 6 * sizeOf S ≤ length W
-    → slice (5 * sizeOf S) (6 * sizeOf S) W ≡ replicate (sizeOf S) 0 → Ran S N 0 0 0 0 0 X L W
-unfolding wholeOrder wholeLevels leaders
-ran-begin {S} {N} {X} {L} {W} E legal x l w full blank =
+    → slice (5 * sizeOf S) (6 * sizeOf S) W ≡ replicate (sizeOf S) 0 → Ran S N 0 0 0 0 X L P W
+unfolding wholeOrder wholeLevels partPasses leaders
+ran-begin {S} {N} {X} {L} {P} {W} E legal x l p w full blank =
     let g : Graph = graphOf S N in
     record {
       legal = legal;
@@ -82,9 +82,8 @@ ran-begin {S} {N} {X} {L} {W} E legal x l w full blank =
           (λ q A. ofNode-zeros (sizeOf S) q ∙ sym (ofNode-map g (λ z. 0) q A));
       depths = refl;
       widest = refl;
-      passes = refl;
+      passes = p ∙ (let e : sizeOf S ≡ sizeOf S - 0 = omega arith in ap (λ (i : ℕ). replicate i 0) e);
       few-levels = omega arith;
-      few-passes = omega arith;
       words = w
           ∙ ap (λ (e : List ℕ). replicate (4 * sizeOf S) 0 ++ (joinAll (parts g) ++ e))
           (sym (ap (drop (5 * sizeOf S)) (areas-front S N legal E w) ∙ drop-at (areas S N legal) E (5 * sizeOf S) (areas-size S N legal)));
@@ -93,23 +92,27 @@ ran-begin {S} {N} {X} {L} {W} E legal x l w full blank =
     }
 
 -- a level for each node
-pub levels-size : {S N : List ℕ} {j a k w p : ℕ} {X L W : List ℕ} → Ran S N j a k w p X L W → length L ≡ sizeOf S
+pub levels-size : {S N : List ℕ} {j a k w : ℕ} {X L P W : List ℕ} → Ran S N j a k w X L P W → length L ≡ sizeOf S
 unfolding wholeLevels
 levels-size {S} {N} {j} R =
     ap length (R .levels) ∙ length-map (nodes (graphOf S N)) (λ z. greatest (map (λ r. ofNode (r .levels) z) (foundTo (graphOf S N) j)))
     ∙ length-nodes (graphOf S N)
 
+-- a word for each part that there may be
+pub passes-words : {S N : List ℕ} {j a k w : ℕ} {X L P W : List ℕ} → Ran S N j a k w X L P W → length P ≡ sizeOf S
+passes-words {S} {N} {j} R = ap length (R .passes) ∙ passes-size (graphOf S N) j (R .walked .some)
+
 -- ---- the next part
 
 -- the same, where the count of nodes is given in another way
-pub ran-at : {S N : List ℕ} {j a b k w p : ℕ} {X L W : List ℕ} → b ≡ a → Ran S N j a k w p X L W → Ran S N j b k w p X L W
-ran-at {S} {N} {j} {a} {b} {k} {w} {p} {X} {L} {W} e R = subst (λ (x : ℕ). Ran S N j x k w p X L W) (sym e) R
+pub ran-at : {S N : List ℕ} {j a b k w : ℕ} {X L P W : List ℕ} → b ≡ a → Ran S N j a k w X L P W → Ran S N j b k w X L P W
+ran-at {S} {N} {j} {a} {b} {k} {w} {X} {L} {P} {W} e R = subst (λ (x : ℕ). Ran S N j x k w X L P W) (sym e) R
 
 -- and the same words
-pub ran-words : {S N : List ℕ} {j a k w p : ℕ} {X L U W : List ℕ} → U ≡ W → Ran S N j a k w p X L W → Ran S N j a k w p X L U
-ran-words {S} {N} {j} {a} {k} {w} {p} {X} {L} e R = subst (Ran S N j a k w p X L) (sym e) R
+pub ran-words : {S N : List ℕ} {j a k w : ℕ} {X L P U W : List ℕ} → U ≡ W → Ran S N j a k w X L P W → Ran S N j a k w X L P U
+ran-words {S} {N} {j} {a} {k} {w} {X} {L} {P} e R = subst (Ran S N j a k w X L P) (sym e) R
 
-module _ {S N : List ℕ} {j a k w p : ℕ} {X L W : List ℕ} (R : Ran S N j a k w p X L W) (h : j < length (parts (graphOf S N))) where
+module _ {S N : List ℕ} {j a k w : ℕ} {X L P W : List ℕ} (R : Ran S N j a k w X L P W) (h : j < length (parts (graphOf S N))) where
   abbrev n : ℕ
   n = sizeOf S
 
@@ -227,28 +230,24 @@ module _ {S N : List ℕ} {j a k w p : ℕ} {X L W : List ℕ} (R : Ran S N j a 
   parts-few : j < 4096
   parts-few = omega (arith, few, parts-most (graphOf S N), h)
 
-  pub sums-fit : {t d e : ℕ} → t ≡ m → d ≤ 4096 → e ≤ 4096 → ((j < 4096) × (a + t ≤ 4096)) × ((k + d ≤ 4096 * 4096) × (p + e ≤ 4096 * 4096))
-  sums-fit s d e = ((parts-few, omega (arith, fits, few)), (omega (arith, R .few-levels, parts-few), omega (arith, R .few-passes, parts-few)))
+  pub sums-fit : {t d : ℕ} → t ≡ m → d ≤ 4096 → ((j < length P) × (length P ≤ 4096) × (a + t ≤ 4096)) × (k + d ≤ 4096 * 4096)
+  sums-fit s d =
+      let l : length P ≡ n = passes-words R in
+      ((omega (arith, l, parts-most (graphOf S N), h), omega (arith, l, few), omega (arith, fits, few)), omega (arith, R .few-levels, parts-few))
 
   -- with the figures, numbers and levels that the definition gives it
   module _ {f : PartFigures} (f-is : f ≡ partFiguresOf (partResult (graphOf S N) z .report)) where
     k-is : f .k ≡ partResult (graphOf S N) z .report .k
     k-is = ap (λ (x : PartFigures). x .k) f-is
 
-    passes-are : f .passes ≡ partResult (graphOf S N) z .report .passes
-    passes-are = ap (λ (x : PartFigures). x .passes) f-is
-
     pub k-few : f .k ≤ 4096
     k-few = omega (arith, k-is, depth-few G (R .walked) h, few)
 
-    pub passes-low : f .passes ≤ 4096
-    passes-low = omega (arith, passes-are, k-is, k-few, passes-few G (R .walked) h)
-
-    pub ran-next : {t : ℕ} {X′ L′ : List ℕ} → t ≡ m → X′ ≡ renewed (graphOf S N) z (numberFrom a (partResult (graphOf S N) z .order)) X
-        → L′ ≡ renewed (graphOf S N) z (ofNode (partResult (graphOf S N) z .levels)) L
-        → Ran S N (j + 1) (a + t) (k + f .k) (max w (f .width)) (p + f .passes) X′ L′ W
+    pub ran-next : {t : ℕ} {X′ L′ P′ : List ℕ} → t ≡ m → X′ ≡ renewed (graphOf S N) z (numberFrom a (partResult (graphOf S N) z .order)) X
+        → L′ ≡ renewed (graphOf S N) z (ofNode (partResult (graphOf S N) z .levels)) L → P′ ≡ set P j (f .passes)
+        → Ran S N (j + 1) (a + t) (k + f .k) (max w (f .width)) X′ L′ P′ W
     unfolding renewed
-    ran-next {t} {X′} {L′} t-is x l =
+    ran-next {t} t-is x l p =
         record {
           legal = R .legal;
           walked = subst (λ (y : ℕ). Walked (graphOf S N) (j + 1) (a + y)) (sym t-is) (walk-next G (R .walked) h);
@@ -263,9 +262,10 @@ module _ {S N : List ℕ} {j a k w p : ℕ} {X L W : List ℕ} (R : Ran S N j a 
           levels = l ∙ ap (renewed (graphOf S N) z (ofNode (partResult (graphOf S N) z .levels))) (R .levels) ∙ levels-next G (R .walked) h;
           depths = omega (arith, R .depths, k-is, sum-next G (R .walked) h (λ r. r .report .k));
           widest = omega (arith, R .widest, ap (λ (x : PartFigures). x .width) f-is, greatest-next G (R .walked) h (λ r. r .report .width));
-          passes = omega (arith, R .passes, passes-are, sum-next G (R .walked) h (λ r. r .report .passes));
+          passes = p ∙ ap (λ (x : PartFigures). set P j (x .passes)) f-is
+              ∙ ap (λ (l : List ℕ). set l j (partResult (graphOf S N) z .report .passes)) (R .passes)
+              ∙ passes-next G (R .walked) h;
           few-levels = omega (arith, R .few-levels, k-few);
-          few-passes = omega (arith, R .few-passes, passes-low);
           words = R .words;
           full = R .full;
           blank = R .blank;
@@ -276,35 +276,37 @@ module _ {S N : List ℕ} {j a k w p : ℕ} {X L W : List ℕ} (R : Ran S N j a 
     lone-figures : record { k = 1; width = 1; passes = 1 } ≡ partFiguresOf (partResult (graphOf S N) z .report)
     lone-figures = figures-one G Z (sym one)
 
-    pub ran-lone : {q : ℕ} {X′ L′ : List ℕ} → q ≡ getD W (4 * n + a) 0 → X′ ≡ set X (q - 1) (a + 1) → L′ ≡ set L (q - 1) 1
-        → Ran S N (j + 1) (a + 1) (k + 1) (max w 1) (p + 1) X′ L′ W
-    ran-lone e x l =
+    pub ran-lone : {q : ℕ} {X′ L′ P′ : List ℕ} → q ≡ getD W (4 * n + a) 0 → X′ ≡ set X (q - 1) (a + 1) → L′ ≡ set L (q - 1) 1 → P′ ≡ set P j 1
+        → Ran S N (j + 1) (a + 1) (k + 1) (max w 1) X′ L′ P′ W
+    ran-lone e x l p =
         let s = e ∙ lowest-is in
         ran-next lone-figures one
         (x ∙ ap (λ (y : ℕ). set X (y - 1) (a + 1)) s ∙ numbers-one G Z (sym one) a X (R .room))
         (l ∙ ap (λ (y : ℕ). set L (y - 1) 1) s ∙ levels-one G Z (sym one) L (levels-size R))
+        p
 
   -- any part, named by its first word
   module _ {f : PartFigures} (f-is : f ≡ partFiguresOf (partResult (graphOf S N) (firstOf (sizeOf S) a (wordsOf (sizeOf S) W)) .report)) where
     pub part-figures : f ≡ partFiguresOf (partResult (graphOf S N) z .report)
     part-figures = f-is ∙ ap (λ (x : ℕ). partFiguresOf (partResult (graphOf S N) x .report)) first-word
 
-    pub ran-part : {t : ℕ} {X′ L′ : List ℕ} → t ≡ m
+    pub ran-part : {t : ℕ} {X′ L′ P′ : List ℕ} → t ≡ m
         → X′ ≡ renewed (graphOf S N) (firstOf (sizeOf S) a (wordsOf (sizeOf S) W)) (numberFrom a (partResult (graphOf S N) (firstOf (sizeOf S) a (wordsOf (sizeOf S) W)) .order)) X
-        → L′ ≡ renewed (graphOf S N) (firstOf (sizeOf S) a (wordsOf (sizeOf S) W)) (ofNode (partResult (graphOf S N) (firstOf (sizeOf S) a (wordsOf (sizeOf S) W)) .levels)) L
-        → Ran S N (j + 1) (a + t) (k + f .k) (max w (f .width)) (p + f .passes) X′ L′ W
-    ran-part t-is x l =
+        → L′ ≡ renewed (graphOf S N) (firstOf (sizeOf S) a (wordsOf (sizeOf S) W)) (ofNode (partResult (graphOf S N) (firstOf (sizeOf S) a (wordsOf (sizeOf S) W)) .levels)) L → P′ ≡ set P j (f .passes)
+        → Ran S N (j + 1) (a + t) (k + f .k) (max w (f .width)) X′ L′ P′ W
+    ran-part t-is x l p =
         ran-next part-figures t-is (x ∙ ap (λ (y : ℕ). renewed (graphOf S N) y (numberFrom a (partResult (graphOf S N) y .order)) X) first-word)
         (l ∙ ap (λ (y : ℕ). renewed (graphOf S N) y (ofNode (partResult (graphOf S N) y .levels)) L) first-word)
+        p
 
 -- and as it is summed up
-pub ran-added : {S N : List ℕ} {a : ℕ} {X L W : List ℕ} (t : Tally) (m : ℕ) (f : PartFigures) {r : Tally} → a ≡ t .nodes → r ≡ added t m f
-    → Ran S N (t .parts + 1) (a + m) (t .levels + f .k) (max (t .width) (f .width)) (t .passes + f .passes) X L W
-    → (r .parts ≡ t .parts + 1) × Ran S N (r .parts) (r .nodes) (r .levels) (r .width) (r .passes) X L W
-ran-added {S} {N} {a} {X} {L} {W} t m f e s R =
-    let R′ : Ran S N (t .parts + 1) (t .nodes + m) (t .levels + f .k) (max (t .width) (f .width)) (t .passes + f .passes) X L W =
+pub ran-added : {S N : List ℕ} {a : ℕ} {X L P W : List ℕ} (t : Tally) (m : ℕ) (f : PartFigures) {r : Tally} → a ≡ t .nodes → r ≡ added t m f
+    → Ran S N (t .parts + 1) (a + m) (t .levels + f .k) (max (t .width) (f .width)) X L P W
+    → (r .parts ≡ t .parts + 1) × Ran S N (r .parts) (r .nodes) (r .levels) (r .width) X L P W
+ran-added {S} {N} {a} {X} {L} {P} {W} t m f e s R =
+    let R′ : Ran S N (t .parts + 1) (t .nodes + m) (t .levels + f .k) (max (t .width) (f .width)) X L P W =
     ran-at (ap (λ (x : ℕ). x + m) (sym e)) R in
-    (ap (λ (y : Tally). y .parts) s, subst (λ (y : Tally). Ran S N (y .parts) (y .nodes) (y .levels) (y .width) (y .passes) X L W) (sym s) R′)
+    (ap (λ (y : Tally). y .parts) s, subst (λ (y : Tally). Ran S N (y .parts) (y .nodes) (y .levels) (y .width) X L P W) (sym s) R′)
 
 -- ---- after the last part
 
@@ -312,7 +314,7 @@ ran-added {S} {N} {a} {X} {L} {W} t m f e s R =
 pub passed-all : {count all j : ℕ} → count ≡ all → count ≤ j → all ≤ j
 passed-all e h = omega arith
 
-module _ {S N : List ℕ} {j a k w p : ℕ} {X L W : List ℕ} (R : Ran S N j a k w p X L W) (end : length (parts (graphOf S N)) ≤ j) where
+module _ {S N : List ℕ} {j a k w : ℕ} {X L P W : List ℕ} (R : Ran S N j a k w X L P W) (end : length (parts (graphOf S N)) ≤ j) where
   all : foundTo (graphOf S N) j ≡ partResults (graphOf S N)
   all = found-all (graphOf S N) j end
 
@@ -323,23 +325,26 @@ module _ {S N : List ℕ} {j a k w p : ℕ} {X L W : List ℕ} (R : Ran S N j a 
   unfolding run runOf
   run-numbers =
       let o : List ℕ = wholeOrder (partResults (graphOf S N)) in
-      let P = whole-perm legal-graph in
-      by-node (graphOf S N) X (numbersOf (sizeOf S) (wholeOrder (partResults (graphOf S N)))) (R .room) (numbers-length (sizeOf S) P)
+      let O = whole-perm legal-graph in
+      by-node (graphOf S N) X (numbersOf (sizeOf S) (wholeOrder (partResults (graphOf S N)))) (R .room) (numbers-length (sizeOf S) O)
       (λ q A.
-      R .numbers q A (ap (λ (l : List PartResult). memb q (wholeOrder l)) all ∙ order-memb (sizeOf S) P q (A .low) (A .high))
+      R .numbers q A (ap (λ (l : List PartResult). memb q (wholeOrder l)) all ∙ order-memb (sizeOf S) O q (A .low) (A .high))
       ∙ ap (λ (l : List PartResult). suc (position q (wholeOrder l))) all
-      ∙ sym (number-of (sizeOf S) P q (A .low) (A .high)))
+      ∙ sym (number-of (sizeOf S) O q (A .low) (A .high)))
 
   pub run-levels : L ≡ run (graphOf S N) .levels
   unfolding run runOf
   run-levels = R .levels ∙ ap (wholeLevels (graphOf S N)) all
 
-  pub summed : Summed (run (graphOf S N) .figures) j a k w p
+  pub run-passes : P ≡ run (graphOf S N) .passes
+  unfolding run runOf
+  run-passes = R .passes ∙ ap (partPasses (graphOf S N)) all
+
+  pub summed : Summed (run (graphOf S N) .figures) j a k w
   unfolding run runOf figuresOf
   summed = record {
     parts-are = omega (arith, R .walked .some, found-count (graphOf S N));
     nodes-are = walk-end legal-graph (R .walked) end;
     levels-are = R .depths ∙ ap (λ (l : List PartResult). sum (map (λ r. r .report .k) l)) all;
     width-is = R .widest ∙ ap (λ (l : List PartResult). greatest (map (λ r. r .report .width) l)) all;
-    passes-are = R .passes ∙ ap (λ (l : List PartResult). sum (map (λ r. r .report .passes) l)) all;
   }

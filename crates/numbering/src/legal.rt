@@ -1,13 +1,18 @@
 // The whole run over a legal graph: the parts in order of lowest old number, each with the next free numbers.
 ghost use mathlib.Core.Path.{_≡_};
+ghost use mathlib.Core.Bool.{true};
 ghost use Prim.Native.Nat.{_+_, _*_, _≤_, _<_, max};
-ghost use lib.ListN.{length, set};
+ghost use lib.ListN.{length, set, drop};
 ghost use Rattle.basis.specs.Moments.{was, left};
+ghost use Rattle.spec.specs.CallsNumbering.{measureFigures};
 ghost use Rattle.spec.specs.Graph.{graphRefusal};
 ghost use Rattle.spec.specs.Lent.{zeroed, wordsPerNode};
 ghost use Rattle.spec.specs.Levels.{parts};
+ghost use Rattle.spec.specs.Measures.{isNumbering, renumbered};
 ghost use Rattle.spec.specs.Numbering.{run};
 ghost use Rattle.laws.specs.Handed.{graphNow, graphWas, sizeNow, sizeWas};
+ghost use Rattle.graph.specs.Facts.{LegalLists};
+ghost use Rattle.numbering_measures.specs.Answer.{three};
 ghost use Rattle.numbering.specs.Answer.{seven};
 ghost use Rattle.numbering.specs.Ran.{added, Ran, Summed};
 use crate::answer::RunFigures;
@@ -15,6 +20,7 @@ use graph_words::areas::MEMBERS;
 use graph_words::legal::clear;
 use graph_words::wide;
 use levels::legal::WORDS_PER_NODE;
+use numbering_measures::Measures;
 use numbering_measures::legal::figures;
 use numbering_part::legal::number_lone;
 use numbering_part::legal::number_part;
@@ -124,6 +130,44 @@ fn number_parts(
     t
 }
 
+// Before the first part: zeros in the lists and in the scratch, then the members of all parts, and each part's size at its lowest node. How many
+// parts there are.
+fn begin(
+    starts: &[u16],
+    neighbours: &[u16],
+    numbers: &mut [u16],
+    levels: &mut [u16],
+    passes: &mut [u16],
+    scratch: &mut [u16],
+) -> u16
+    requires { ⌜ graphRefusal (now starts) (now neighbours) ≡ 0 ⌝ }
+    requires { ⌜ (length (now numbers) ≡ sizeNow starts) × (length (now levels) ≡ sizeNow starts) × (length (now passes) ≡ sizeNow starts) ⌝ }
+    requires { ⌜ wordsPerNode * sizeNow starts ≤ length (now scratch) ⌝ }
+    ensures { λ r. ⌜ r ≡ length (parts (graphWas starts neighbours)) ⌝ }
+    ensures { λ _. ⌜ Ran (was starts) (was neighbours) 0 0 0 0 (left numbers) (left levels) (left passes) (left scratch) ⌝ }
+    ensures { λ _. ⌜ drop (wordsPerNode * sizeWas starts) (left scratch) ≡ drop (wordsPerNode * sizeWas starts) (was scratch) ⌝ }
+{
+    let n = starts.len() - 1;
+    clear(scratch, WORDS_PER_NODE * n);
+    clear(levels, n);
+    clear(passes, n);
+    members(starts, neighbours, scratch, numbers)
+}
+
+// After the last part: the measures of the numbers, in the first n words of the scratch, which is set to 0.
+fn finish(starts: &[u16], neighbours: &[u16], numbers: &[u16], scratch: &mut [u16]) -> Measures
+    requires { ⌜ LegalLists (now starts) (now neighbours) ⌝ }
+    requires { ⌜ isNumbering (sizeNow starts) (now numbers) ≡ true ⌝ }
+    requires { ⌜ wordsPerNode * sizeNow starts ≤ length (now scratch) ⌝ }
+    ensures { λ r. ⌜ three r ≡ measureFigures (renumbered (graphWas starts neighbours) (was numbers)) ⌝ }
+    ensures { λ _. ⌜ left scratch ≡ zeroed (wordsPerNode * sizeWas starts) (was scratch) ⌝ }
+{
+    let n = starts.len() - 1;
+    let m = figures(starts, neighbours, numbers, &mut scratch[..n]);
+    clear(scratch, WORDS_PER_NODE * n);
+    m
+}
+
 // Numbers and levels, n words each by old number, the passes of each part in n words, and the figures, in scratch that is set to 0 before and after.
 pub fn number_all(
     starts: &[u16],
@@ -142,14 +186,9 @@ pub fn number_all(
     ensures { λ _. ⌜ left passes ≡ run (graphWas starts neighbours) .passes ⌝ }
     ensures { λ _. ⌜ left scratch ≡ zeroed (wordsPerNode * sizeWas starts) (was scratch) ⌝ }
 {
-    let n = starts.len() - 1;
-    clear(scratch, WORDS_PER_NODE * n);
-    clear(levels, n);
-    clear(passes, n);
-    let count = members(starts, neighbours, scratch, numbers);
+    let count = begin(starts, neighbours, numbers, levels, passes, scratch);
     let t = number_parts(starts, neighbours, numbers, levels, passes, scratch, count);
-    let m = figures(starts, neighbours, numbers, &mut scratch[..n]);
-    clear(scratch, WORDS_PER_NODE * n);
+    let m = finish(starts, neighbours, numbers, scratch);
     RunFigures {
         nodes: t.nodes,
         parts: t.parts,

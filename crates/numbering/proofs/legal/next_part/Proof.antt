@@ -1,64 +1,76 @@
 -- `numbering::legal::next_part` meets its contract: a part of one node, and any other. Assumes nothing.
 use mathlib.Core.Path.{refl, sym, _∙_}
-use Prim.Native.Nat.{_-_}
+use Prim.Native.Nat.{_-_, _<_}
 use native.Mathlib.Omega.{arith}
 use borrow.Author.Needs.{needs}
 use denote.Ref.{now}
-use lib.ListN.{getD}
+use lib.ListN.{length, getD}
+use Rattle.spec.specs.Graph.{graphOf}
+use Rattle.spec.specs.Levels.{parts}
 use Rattle.numbering.specs.Ran.{Ran}
-use Rattle.numbering.proofs.Ran.{starts, ran-at, words-size, fits, some, lowest-node, size-is, part-given, levels-size, few, sums-fit, k-few, passes-low, ran-lone, part-figures, ran-part, ran-added}
+use Rattle.numbering.proofs.Ran.{starts, ran-at, words-size, fits, some, lowest-node, size-is, part-given, levels-size, few, sums-fit, k-few, ran-lone, part-figures, ran-part, ran-added}
 use Rattle.numbering.proofs.legal.next_part.Statement.{statement}
 use Rattle.numbering.proofs.legal.next_part.Tie as tie
 
--- the run so far, with the count of nodes as an index
-at : (c : tie.After-wide) → let s = c .before .before .before .before .before .before in
-    Ran (now (s .args .starts)) (now (s .args .neighbours)) (s .args .t .parts) (c .wide .result) (s .args .t .levels) (s .args .t .width) (s .args .t .passes)
-    (now (s .args .numbers)) (now (s .args .levels)) (now (s .args .scratch))
-at c = ran-at (c .wide .ensures) (c .before .before .before .before .before .before .pre .1)
+-- where the run is, with the count of nodes as an index
+at : (c : tie.After-wide) → let known = c .before .before .before .before in let s = known .before .before .before in
+    Ran (now (s .args .starts)) (now (s .args .neighbours)) (s .args .t .parts) (c .wide .result) (s .args .t .levels) (s .args .t .width)
+    (now (s .args .numbers)) (now (s .args .levels)) (now (s .args .passes)) (now (s .args .scratch))
+at c = let known = c .before .before .before .before in ran-at (c .wide .ensures) (known .before .before .before .pre .1)
+
+-- and a part is left
+more : (c : tie.After-wide) → let known = c .before .before .before .before in let s = known .before .before .before in s .args .t .parts < length (parts (graphOf (now (s .args .starts)) (now (s .args .neighbours))))
+more c = let known = c .before .before .before .before in known .before .before .before .pre .0
 
 sub-n : tie.Need-sub-n
-sub-n c = omega (arith, starts _ _ (c .before .before .before .before .before .pre .1 .legal) .count)
+sub-n c = let known = c .before .before .before in omega (arith, starts _ _ (known .before .before .before .pre .1 .legal) .count)
 
 wide-requires : tie.Need-wide-requires
 wide-requires c κs = search needs
 
 mul-wide : tie.Need-mul-wide
-mul-wide c = omega (arith, few (at c) (c .before .before .before .before .before .before .pre .0))
+mul-wide c = omega (arith, few (at c) (more c))
 
 add-wide : tie.Need-add-wide
-add-wide c = omega (arith, few (at c) (c .before .before .before .before .before .before .pre .0), fits (at c) (c .before .before .before .before .before .before .pre .0))
+add-wide c = omega (arith, few (at c) (more c), fits (at c) (more c))
 
 mul-wide-2 : tie.Need-mul-wide-2
-mul-wide-2 c = omega (arith, few (at c) (c .before .before .before .before .before .before .pre .0), fits (at c) (c .before .before .before .before .before .before .pre .0))
+mul-wide-2 c = omega (arith, few (at c) (more c), fits (at c) (more c))
 
 slice-read-wide : tie.Need-slice-read-wide
-slice-read-wide c = omega (arith, fits (at (c .before)) (c .before .before .before .before .before .before .before .pre .0), some (at (c .before)) (c .before .before .before .before .before .before .before .pre .0), words-size (at (c .before)) (c .before .before .before .before .before .before .before .pre .0))
+slice-read-wide c = let w = c .before in omega (arith, fits (at w) (more w), some (at w) (more w), words-size (at w) (more w))
 
 wide-requires-2 : tie.Need-wide-requires-2
 wide-requires-2 c κs = search needs
 
 sub-m : tie.Need-sub-m
-sub-m c = lowest-node (at (c .before .before)) (c .before .before .before .before .before .before .before .before .pre .0) (c .wide2 .ensures) .0
+sub-m c = let w = c .before .before in lowest-node (at w) (more w) (c .wide2 .ensures) .0
 
 mul-m : tie.Need-mul-m
-mul-m c = omega (arith, lowest-node (at (c .before .before)) (c .before .before .before .before .before .before .before .before .pre .0) (c .wide2 .ensures) .1, few (at (c .before .before)) (c .before .before .before .before .before .before .before .before .pre .0))
+mul-m c = let w = c .before .before in omega (arith, lowest-node (at w) (more w) (c .wide2 .ensures) .1, few (at w) (more w))
 
 slice-read-m : tie.Need-slice-read-m
 slice-read-m c =
-    let l = lowest-node (at (c .before .before .before)) (c .before .before .before .before .before .before .before .before .before .pre .0) (c .before .wide2 .ensures) in omega (arith, l .0, l .1, c .before .before .before .before .before .before .before .before .before .pre .1 .room)
+    let w = c .before .before .before in
+    let l = lowest-node (at w) (more w) (c .before .wide2 .ensures) in omega (arith, l .0, l .1, at w .room)
 
 number-lone-requires : tie.Need-number-lone-requires
 number-lone-requires c κs =
-    let s = c .before .before .before .before .before .before .before .before .before .before .before .before in
-    let l = lowest-node (at (c .before .before .before .before .before .before)) (s .pre .0) (c .before .before .before .before .wide2 .ensures) in
-    let r = s .pre .1 .room in
-    ((l .0, omega (arith, l .1, r)), (levels-size (s .pre .1) ∙ sym r, (omega (arith, few (s .pre .1) (s .pre .0), r), omega (arith, few (at (c .before .before .before .before .before .before)) (s .pre .0), fits (at (c .before .before .before .before .before .before)) (s .pre .0), some (s .pre .1) (s .pre .0)))))
+    let low = c .before .before .before .before in
+    let w = low .before .before in
+    let l = lowest-node (at w) (more w) (low .wide2 .ensures) in
+    let r = at w .room in
+    ((l .0, omega (arith, l .1, r)), (levels-size (at w) ∙ sym r, (omega (arith, few (at w) (more w), r), omega (arith, few (at w) (more w), fits (at w) (more w), some (at w) (more w)))))
 
 add-part-requires : tie.Need-add-part-requires
 add-part-requires c κs =
-    let s = c .before .before .before .before .before .before .before .before .before .before .before .before .before .before .before .before .before in
-    let one = sym (c .before .before .before .before .before .before .before .if1 .taken) ∙ size-is (at (c .before .before .before .before .before .before .before .before .before .before .before)) (s .pre .0) (c .before .before .before .before .before .before .before .before .before .wide2 .ensures) in
-    sums-fit (s .pre .1) (s .pre .0) one (omega arith) (omega arith)
+    let lone = c .before .before .before .before .before in
+    let test = lone .before .before .before in
+    let low = test .before .before in
+    let w = low .before .before in
+    let known = w .before .before .before .before in
+    let one = sym (test .if1 .taken) ∙ size-is (at w) (more w) (low .wide2 .ensures) in
+    sums-fit (known .before .before .before .pre .1) (more w) one (omega arith)
 
 same-length : tie.Need-same-length
 same-length c = search needs
@@ -66,12 +78,21 @@ same-length c = search needs
 same-length-2 : tie.Need-same-length-2
 same-length-2 c = search needs
 
+same-length-3 : tie.Need-same-length-3
+same-length-3 c = search needs
+
 returns : tie.Need-returns
 returns c =
-    let s = c .before .before .before .before .before .before .before .before .before .before .before .before .before .before .before .before .before .before in
-    let one = sym (c .before .before .before .before .before .before .before .before .if1 .taken) ∙ size-is (at (c .before .before .before .before .before .before .before .before .before .before .before .before)) (s .pre .0) (c .before .before .before .before .before .before .before .before .before .before .wide2 .ensures) in
-    let r = ran-lone (at (c .before .before .before .before .before .before .before .before .before .before .before .before)) (s .pre .0) one (c .before .before .before .before .before .before .before .before .before .before .wide2 .ensures) (c .before .before .before .before .before .number-lone .ensures .0) (c .before .before .before .before .before .number-lone .ensures .1) in
-    let q = ran-added (s .args .t) 1 (record { k = 1; width = 1; passes = 1 }) (c .before .before .before .before .before .before .before .before .before .before .before .before .wide .ensures) (c .add-part .ensures) r in
+    let add = c .before .before in
+    let known = add .before .before in
+    let lone = known .before .before .before .before in
+    let test = lone .before .before .before in
+    let low = test .before .before in
+    let w = low .before .before in
+    let known₀ = w .before .before .before .before in
+    let one = sym (test .if1 .taken) ∙ size-is (at w) (more w) (low .wide2 .ensures) in
+    let r = ran-lone (at w) (more w) one (low .wide2 .ensures) (lone .number-lone .ensures .0) (lone .number-lone .ensures .1) (add .add-part .ensures .1) in
+    let q = ran-added (known₀ .before .before .before .args .t) 1 (record { k = 1; width = 1; passes = 1 }) (w .wide .ensures) (add .add-part .ensures .0) r in
     (q .0, (q .1, refl))
 
 wide-requires-3 : tie.Need-wide-requires-3
@@ -79,24 +100,29 @@ wide-requires-3 c κs = search needs
 
 add-number-part : tie.Need-add-number-part
 add-number-part c =
-    let s = c .before .before .before .before .before .before .before .before .before .before .before .before .before .before in
-    omega (arith, few (at (c .before .before .before .before .before .before .before .before)) (s .pre .0), fits (at (c .before .before .before .before .before .before .before .before)) (s .pre .0), c .wide3 .ensures, size-is (at (c .before .before .before .before .before .before .before .before)) (s .pre .0) (c .before .before .before .before .before .before .wide2 .ensures))
+    let test = c .before .before .before .before in
+    let low = test .before .before in
+    let w = low .before .before in
+    omega (arith, few (at w) (more w), fits (at w) (more w), c .wide3 .ensures, size-is (at w) (more w) (low .wide2 .ensures))
 
 number-part-requires : tie.Need-number-part-requires
 number-part-requires c κs =
-    let s = c .before .before .before .before .before .before .before .before .before .before .before .before .before .before in
-    let m = c .wide3 .ensures ∙ size-is (at (c .before .before .before .before .before .before .before .before)) (s .pre .0) (c .before .before .before .before .before .before .wide2 .ensures) in
-    (s .pre .1 .legal, (part-given (at (c .before .before .before .before .before .before .before .before)) (s .pre .0) m refl, (s .pre .1 .room, levels-size (s .pre .1))))
+    let test = c .before .before .before .before in
+    let low = test .before .before in
+    let w = low .before .before in
+    let m = c .wide3 .ensures ∙ size-is (at w) (more w) (low .wide2 .ensures) in
+    (at w .legal, (part-given (at w) (more w) m refl, (at w .room, levels-size (at w))))
 
 add-part-requires-2 : tie.Need-add-part-requires-2
 add-part-requires-2 c κs =
-    let s = c .before .before .before .before .before .before .before .before .before .before .before .before .before .before .before .before .before .before .before .before .before in
-    let m = size-is (at (c .before .before .before .before .before .before .before .before .before .before .before .before .before .before .before)) (s .pre .0) (c .before .before .before .before .before .before .before .before .before .before .before .before .before .wide2 .ensures) in
-    let f = part-figures (at (c .before .before .before .before .before .before .before .before .before .before .before .before .before .before .before)) (s .pre .0) (c .before .before .before .before .before .before .number-part .ensures .0) in
-    sums-fit (s .pre .1) (s .pre .0) m (k-few (s .pre .1) (s .pre .0) f) (passes-low (s .pre .1) (s .pre .0) f)
-
-same-length-3 : tie.Need-same-length-3
-same-length-3 c = search needs
+    let known = c .before .before .before .before in
+    let done = known .before .before .before in
+    let test = done .before .before .before .before .before in
+    let low = test .before .before in
+    let w = low .before .before in
+    let known₀ = w .before .before .before .before in
+    let f = part-figures (at w) (more w) (done .number-part .ensures .0) in
+    sums-fit (known₀ .before .before .before .pre .1) (more w) (size-is (at w) (more w) (low .wide2 .ensures)) (k-few (at w) (more w) f)
 
 same-length-4 : tie.Need-same-length-4
 same-length-4 c = search needs
@@ -104,13 +130,26 @@ same-length-4 c = search needs
 same-length-5 : tie.Need-same-length-5
 same-length-5 c = search needs
 
+same-length-6 : tie.Need-same-length-6
+same-length-6 c = search needs
+
+same-length-7 : tie.Need-same-length-7
+same-length-7 c = search needs
+
 returns-2 : tie.Need-returns-2
 returns-2 c =
-    let s = c .before .before .before .before .before .before .before .before .before .before .before .before .before .before .before .before .before .before .before .before .before .before in
-    let f = c .before .before .before .before .before .before .before .number-part .ensures in
-    let m = size-is (at (c .before .before .before .before .before .before .before .before .before .before .before .before .before .before .before .before)) (s .pre .0) (c .before .before .before .before .before .before .before .before .before .before .before .before .before .before .wide2 .ensures) in
-    let r = ran-part (at (c .before .before .before .before .before .before .before .before .before .before .before .before .before .before .before .before)) (s .pre .0) (f .0) m (f .1 .1 .0) (f .1 .1 .1) in
-    let q = ran-added (s .args .t) (getD (now (s .args .numbers)) (c .before .before .before .before .before .before .before .before .before .before .before .before .before .before .wide2 .result - 1) 0) (c .before .before .before .before .before .before .before .number-part .result) (c .before .before .before .before .before .before .before .before .before .before .before .before .before .before .before .before .wide .ensures) (c .add-part2 .ensures) r in
+    let add = c .before .before in
+    let known = add .before .before .before .before .before in
+    let done = known .before .before .before in
+    let test = done .before .before .before .before .before in
+    let low = test .before .before in
+    let w = low .before .before in
+    let known₀ = w .before .before .before .before in
+    let s = known₀ .before .before .before in
+    let f = done .number-part .ensures in
+    let m = size-is (at w) (more w) (low .wide2 .ensures) in
+    let r = ran-part (at w) (more w) (f .0) m (f .1 .1 .0) (f .1 .1 .1) (add .add-part2 .ensures .1) in
+    let q = ran-added (s .args .t) (getD (now (s .args .numbers)) (low .wide2 .result - 1) 0) (done .number-part .result) (w .wide .ensures) (add .add-part2 .ensures .0) r in
     (q .0, (q .1, f .1 .0))
 
 pub next-part-spec : {M : Type 1} → statement M
@@ -131,12 +170,14 @@ next-part-spec =
     add-part-requires
     same-length
     same-length-2
+    same-length-3
     returns
     wide-requires-3
     add-number-part
     number-part-requires
     add-part-requires-2
-    same-length-3
     same-length-4
     same-length-5
+    same-length-6
+    same-length-7
     returns-2)

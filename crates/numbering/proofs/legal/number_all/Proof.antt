@@ -1,90 +1,80 @@
 -- `numbering::legal::number_all` meets its contract: its calls in their order. Assumes nothing.
-use mathlib.Core.Path.{sym, _∙_}
-use Prim.Native.Nat.{_*_}
+use mathlib.Core.Path.{_≡_, ap}
 use native.Mathlib.Omega.{arith}
 use borrow.Author.Needs.{needs}
 use denote.Ref.{now}
-use lib.ListN.{drop}
-use Rattle.spec.specs.Graph.{sizeOf}
-use Rattle.laws.proofs.Lent.{zeroed-all}
-use Rattle.numbering.proofs.Figures.{legal-lists, members-room, members-blank, lent-room, lent-size, back-size, last-scratch, last-size, numbers-numbering, eight-are, filled-room, levels-blank}
-use Rattle.numbering.proofs.Ran.{starts, ran-begin}
+use lib.ListN.{length}
+use Rattle.spec.specs.Graph.{sizeOf, graphRefusal}
+use Rattle.numbering.proofs.Figures.{legal-lists, cleared-last, numbers-numbering, seven-are}
 use Rattle.numbering.proofs.legal.number_all.Statement.{statement}
 use Rattle.numbering.proofs.legal.number_all.Tie as tie
 
-sub-n : tie.Need-sub-n
-sub-n c = omega (arith, starts _ _ (c .before .before .before .before .before .pre .0) .count)
-
-mul-clear : tie.Need-mul-clear
-mul-clear c = omega (arith, starts _ _ (c .before .before .before .before .before .before .pre .0) .few)
-
-clear-requires : tie.Need-clear-requires
-clear-requires c κs = search needs
-
-clear-requires-2 : tie.Need-clear-requires-2
-clear-requires-2 c κs = search needs
-
-members-requires : tie.Need-members-requires
-members-requires c κs =
-    let s = c .before .before .before .before .before .before .before .before .before .before .before .before .before .before .before in
-    let w = c .before .before .before .before .before .before .before .before .clear .ensures in
-    (s .pre .0, (members-room (now (s .args .starts)) (now (s .args .neighbours)) (s .pre .0) (now (s .args .scratch)) (s .pre .1 .1) w, (members-blank (now (s .args .starts)) (now (s .args .neighbours)) (s .pre .0) (now (s .args .scratch)) (s .pre .1 .1) w, s .pre .1 .0 .0)))
+begin-requires : tie.Need-begin-requires
+begin-requires c κs = let at = c .before .before .before .before .before in at .before .before .before .before .before .pre
 
 number-parts-requires : tie.Need-number-parts-requires
 number-parts-requires c κs =
-    let s = c .before .before .before .before .before .before .before .before .before .before .before .before .before .before .before .before .before .before .before .before .before .before .before in
-    let m = c .before .before .before .before .before .before .before .members .ensures in (
-      m .0,
-      ran-begin (drop (5 * sizeOf (now (s .args .starts))) (c .before .before .before .before .before .before .before .before .before .before .before .before .before .before .before .before .clear .last .0)) (s .pre .0) (m .1 .1) (c .before .before .before .before .before .before .before .before .before .before .before .before .clear2 .ensures ∙ zeroed-all (sizeOf (now (s .args .starts))) (now (s .args .levels)) (s .pre .1 .0 .1)) (m .1 .0)
-          (filled-room (now (s .args .starts)) (now (s .args .neighbours)) (s .pre .0) (now (s .args .scratch)) (s .pre .1 .1) (c .before .before .before .before .before .before .before .before .before .before .before .before .before .before .before .before .clear .ensures) (m .1 .0)) (levels-blank (now (s .args .starts)) (now (s .args .neighbours)) (s .pre .0) (now (s .args .scratch)) (s .pre .1 .1) (c .before .before .before .before .before .before .before .before .before .before .before .before .before .before .before .before .clear .ensures) (m .1 .0)),
-    )
+    let known = c .before .before .before .before in
+    let first = known .before .before .before .before in
+    let b = first .before .before .before .before .begin .ensures in
+    (b .0, b .1 .0)
 
-slice-relend-prefix-figures : tie.Need-slice-relend-prefix-figures
-slice-relend-prefix-figures c = lent-room (now (c .before .before .before .before .before .before .before .before .before .before .before .before .before .before .before .before .before .before .before .before .before .before .before .before .before .before .before .before .before .before .before .args .starts)) (now (c .before .before .before .before .before .before .before .before .before .before .before .before .before .before .before .before .before .before .before .before .before .before .before .before .before .before .before .before .before .before .before .args .neighbours)) (c .before .before .before .before .before .before .before .before .before .before .before .before .before .before .before .before .before .before .before .before .before .before .before .before .before .before .before .before .before .before .before .pre .0) (now (c .before .before .before .before .before .before .before .before .before .before .before .before .before .before .before .before .before .before .before .before .before .before .before .before .before .before .before .before .before .before .before .args .scratch)) (c .before .before .before .before .before .before .before .before .before .before .before .before .before .before .before .before .before .before .before .before .before .before .before .before .before .before .before .before .before .before .before .pre .1 .1) (c .before .before .before .before .before .before .before .before .before .before .before .before .before .before .before .before .before .before .before .before .before .before .before .before .clear .ensures) (c .before .before .before .before .before .before .before .before .before .before .before .before .before .before .before .members .ensures .1 .0) (c .before .before .before .before .before .before .before .number-parts .ensures .1 .1 .1)
+-- the lists were found legal
+legal : (c : tie.After-begin) → let lent = c .before .before .before .before .before in let known = lent .before .before .before .before in let s = known .before .before in graphRefusal (now (s .args .starts)) (now (s .args .neighbours)) ≡ 0
+legal c = let lent = c .before .before .before .before .before in let known = lent .before .before .before .before in known .before .before .pre .0
 
-slice-aggregate-figures : tie.Need-slice-aggregate-figures
-slice-aggregate-figures c = sym (lent-size (now (c .before .before .before .before .before .before .before .before .before .before .before .before .before .before .before .before .before .before .before .before .before .before .before .before .before .before .before .before .before .before .before .before .args .starts)) (now (c .before .before .before .before .before .before .before .before .before .before .before .before .before .before .before .before .before .before .before .before .before .before .before .before .before .before .before .before .before .before .before .before .args .neighbours)) (c .before .before .before .before .before .before .before .before .before .before .before .before .before .before .before .before .before .before .before .before .before .before .before .before .before .before .before .before .before .before .before .before .pre .0) (now (c .before .before .before .before .before .before .before .before .before .before .before .before .before .before .before .before .before .before .before .before .before .before .before .before .before .before .before .before .before .before .before .before .args .scratch)) (c .before .before .before .before .before .before .before .before .before .before .before .before .before .before .before .before .before .before .before .before .before .before .before .before .before .before .before .before .before .before .before .before .pre .1 .1) (c .before .before .before .before .before .before .before .before .before .before .before .before .before .before .before .before .before .before .before .before .before .before .before .before .before .clear .ensures) (c .before .before .before .before .before .before .before .before .before .before .before .before .before .before .before .before .members .ensures .1 .0) (c .before .before .before .before .before .before .before .before .number-parts .ensures .1 .1 .1))
-
-figures-requires : tie.Need-figures-requires
-figures-requires c κs = (legal-lists (now (c .before .before .before .before .before .before .before .before .before .before .before .before .before .before .before .before .before .before .before .before .before .before .before .before .before .before .before .before .before .before .before .before .args .starts)) (now (c .before .before .before .before .before .before .before .before .before .before .before .before .before .before .before .before .before .before .before .before .before .before .before .before .before .before .before .before .before .before .before .before .args .neighbours)) (c .before .before .before .before .before .before .before .before .before .before .before .before .before .before .before .before .before .before .before .before .before .before .before .before .before .before .before .before .before .before .before .before .pre .0), (numbers-numbering (now (c .before .before .before .before .before .before .before .before .before .before .before .before .before .before .before .before .before .before .before .before .before .before .before .before .before .before .before .before .before .before .before .before .args .starts)) (now (c .before .before .before .before .before .before .before .before .before .before .before .before .before .before .before .before .before .before .before .before .before .before .before .before .before .before .before .before .before .before .before .before .args .neighbours)) (c .before .before .before .before .before .before .before .before .before .before .before .before .before .before .before .before .before .before .before .before .before .before .before .before .before .before .before .before .before .before .before .before .pre .0) (c .before .before .before .before .before .before .before .before .number-parts .ensures .1 .0), lent-size (now (c .before .before .before .before .before .before .before .before .before .before .before .before .before .before .before .before .before .before .before .before .before .before .before .before .before .before .before .before .before .before .before .before .args .starts)) (now (c .before .before .before .before .before .before .before .before .before .before .before .before .before .before .before .before .before .before .before .before .before .before .before .before .before .before .before .before .before .before .before .before .args .neighbours)) (c .before .before .before .before .before .before .before .before .before .before .before .before .before .before .before .before .before .before .before .before .before .before .before .before .before .before .before .before .before .before .before .before .pre .0) (now (c .before .before .before .before .before .before .before .before .before .before .before .before .before .before .before .before .before .before .before .before .before .before .before .before .before .before .before .before .before .before .before .before .args .scratch)) (c .before .before .before .before .before .before .before .before .before .before .before .before .before .before .before .before .before .before .before .before .before .before .before .before .before .before .before .before .before .before .before .before .pre .1 .1) (c .before .before .before .before .before .before .before .before .before .before .before .before .before .before .before .before .before .before .before .before .before .before .before .before .before .clear .ensures) (c .before .before .before .before .before .before .before .before .before .before .before .before .before .before .before .before .members .ensures .1 .0) (c .before .before .before .before .before .before .before .before .number-parts .ensures .1 .1 .1)))
-
-mul-clear-2 : tie.Need-mul-clear-2
-mul-clear-2 c = omega (arith, starts _ _ (c .before .before .before .before .before .before .before .before .before .before .before .before .before .before .before .before .before .before .before .before .before .before .before .before .before .before .before .before .before .before .before .before .before .before .before .before .pre .0) .few)
-
-clear-requires-3 : tie.Need-clear-requires-3
-clear-requires-3 c κs = omega (arith, back-size (now (c .before .before .before .before .before .before .before .before .before .before .before .before .before .before .before .before .before .before .before .before .before .before .before .before .before .before .before .before .before .before .before .before .before .before .before .before .args .starts)) (now (c .before .before .before .before .before .before .before .before .before .before .before .before .before .before .before .before .before .before .before .before .before .before .before .before .before .before .before .before .before .before .before .before .before .before .before .before .args .neighbours)) (c .before .before .before .before .before .before .before .before .before .before .before .before .before .before .before .before .before .before .before .before .before .before .before .before .before .before .before .before .before .before .before .before .before .before .before .before .pre .0) (now (c .before .before .before .before .before .before .before .before .before .before .before .before .before .before .before .before .before .before .before .before .before .before .before .before .before .before .before .before .before .before .before .before .before .before .before .before .args .scratch)) (c .before .before .before .before .before .before .before .before .before .before .before .before .before .before .before .before .before .before .before .before .before .before .before .before .before .before .before .before .before .before .before .before .before .before .before .before .pre .1 .1) (c .before .before .before .before .before .before .before .before .before .before .before .before .before .before .before .before .before .before .before .before .before .before .before .before .before .before .before .before .before .clear .ensures) (c .before .before .before .before .before .before .before .before .before .before .before .before .before .before .before .before .before .before .before .before .members .ensures .1 .0) (c .before .before .before .before .before .before .before .before .before .before .before .before .number-parts .ensures .1 .1 .1) (c .before .before .before .figures .ensures .1), c .before .before .before .before .before .before .before .before .before .before .before .before .before .before .before .before .before .before .before .before .before .before .before .before .before .before .before .before .before .before .before .before .before .before .before .before .pre .1 .1)
+finish-requires : tie.Need-finish-requires
+finish-requires c κs =
+    let known = c .before .before .before .before .before in
+    let ran = known .before .before .before .before .before in
+    let lent = ran .before .before .before .before .before in
+    let known₁ = lent .before .before .before .before in
+    let first = known₁ .before .before .before .before in
+    let r = ran .number-parts .ensures in
+    (legal-lists _ _ (legal first), (numbers-numbering _ _ (legal first) (r .1 .0), omega (arith, ap length (r .1 .1 .1 .1), first .begin .ensures .1 .0 .full)))
 
 same-length : tie.Need-same-length
 same-length c = search needs
 
 same-length-2 : tie.Need-same-length-2
-same-length-2 c = c .before .before .before .before .before .before .before .before .before .before .before .before .levels2 .given ∙ c .before .before .before .before .before .before .before .before .before .before .before .before .before .before .before .before .before .before .before .before .before .before .before .before .before .before .before .levels .given
+same-length-2 c = search needs
 
 same-length-3 : tie.Need-same-length-3
-same-length-3 c = last-size (now (c .before .before .before .before .before .before .before .before .before .before .before .before .before .before .before .before .before .before .before .before .before .before .before .before .before .before .before .before .before .before .before .before .before .before .before .before .before .before .before .args .starts)) (now (c .before .before .before .before .before .before .before .before .before .before .before .before .before .before .before .before .before .before .before .before .before .before .before .before .before .before .before .before .before .before .before .before .before .before .before .before .before .before .before .args .neighbours)) (c .before .before .before .before .before .before .before .before .before .before .before .before .before .before .before .before .before .before .before .before .before .before .before .before .before .before .before .before .before .before .before .before .before .before .before .before .before .before .before .pre .0) (now (c .before .before .before .before .before .before .before .before .before .before .before .before .before .before .before .before .before .before .before .before .before .before .before .before .before .before .before .before .before .before .before .before .before .before .before .before .before .before .before .args .scratch)) (c .before .before .before .before .before .before .before .before .before .before .before .before .before .before .before .before .before .before .before .before .before .before .before .before .before .before .before .before .before .before .before .before .before .before .before .before .before .before .before .pre .1 .1) (c .before .before .before .before .before .before .before .before .before .before .before .before .before .before .before .before .before .before .before .before .before .before .before .before .before .before .before .before .before .before .before .before .clear .ensures) (c .before .before .before .before .before .before .before .before .before .before .before .before .before .before .before .before .before .before .before .before .before .before .before .members .ensures .1 .0) (c .before .before .before .before .before .before .before .before .before .before .before .before .before .before .before .number-parts .ensures .1 .1 .1) (c .before .before .before .before .before .before .figures .ensures .1) (c .before .before .clear3 .ensures)
+same-length-3 c = search needs
+
+same-length-4 : tie.Need-same-length-4
+same-length-4 c = search needs
 
 returns : tie.Need-returns
 returns c =
-    let r = c .before .before .before .before .before .before .before .before .before .before .before .before .before .before .before .number-parts .ensures in
-    let m = c .before .before .before .before .before .before .figures .ensures in
-    (eight-are (now (c .before .before .before .before .before .before .before .before .before .before .before .before .before .before .before .before .before .before .before .before .before .before .before .before .before .before .before .before .before .before .before .before .before .before .before .before .before .before .before .args .starts)) (now (c .before .before .before .before .before .before .before .before .before .before .before .before .before .before .before .before .before .before .before .before .before .before .before .before .before .before .before .before .before .before .before .before .before .before .before .before .before .before .before .args .neighbours)) (c .before .before .before .before .before .before .before .before .before .before .before .before .before .before .before .before .before .before .before .before .before .before .before .before .before .before .before .before .before .before .before .before .before .before .before .before .before .before .before .pre .0) (r .1 .0) (m .0) (r .0), (r .1 .0, (r .1 .1 .0, c .before .before .clear3 .ensures ∙ last-scratch (now (c .before .before .before .before .before .before .before .before .before .before .before .before .before .before .before .before .before .before .before .before .before .before .before .before .before .before .before .before .before .before .before .before .before .before .before .before .before .before .before .args .starts)) (now (c .before .before .before .before .before .before .before .before .before .before .before .before .before .before .before .before .before .before .before .before .before .before .before .before .before .before .before .before .before .before .before .before .before .before .before .before .before .before .before .args .neighbours)) (c .before .before .before .before .before .before .before .before .before .before .before .before .before .before .before .before .before .before .before .before .before .before .before .before .before .before .before .before .before .before .before .before .before .before .before .before .before .before .before .pre .0) (now (c .before .before .before .before .before .before .before .before .before .before .before .before .before .before .before .before .before .before .before .before .before .before .before .before .before .before .before .before .before .before .before .before .before .before .before .before .before .before .before .args .scratch)) (c .before .before .before .before .before .before .before .before .before .before .before .before .before .before .before .before .before .before .before .before .before .before .before .before .before .before .before .before .before .before .before .before .before .before .before .before .before .before .before .pre .1 .1) (c .before .before .before .before .before .before .before .before .before .before .before .before .before .before .before .before .before .before .before .before .before .before .before .before .before .before .before .before .before .before .before .before .clear .ensures) (c .before .before .before .before .before .before .before .before .before .before .before .before .before .before .before .before .before .before .before .before .before .before .before .members .ensures .1 .0) (c .before .before .before .before .before .before .before .before .before .before .before .before .before .before .before .number-parts .ensures .1 .1 .1) (m .1))))
+    let last = c .before .before in
+    let known = last .before .before .before .before .before in
+    let known₁ = known .before .before .before .before .before in
+    let ran = known₁ .before in
+    let lent = ran .before .before .before .before .before in
+    let known₂ = lent .before .before .before .before in
+    let first = known₂ .before .before .before .before in
+    let r = ran .number-parts .ensures in
+    let lent₂ = first .before .before .before .before .before in
+    let known₃ = lent₂ .before .before .before .before in
+    let s = known₃ .before .before in
+    let m = last .finish .ensures in (
+      seven-are _ _ (legal first) (r .1 .0) (m .0) (r .0),
+      (
+        r .1 .0,
+        (r .1 .1 .0, (r .1 .1 .1 .0, cleared-last (sizeOf (now (s .args .starts))) (now (s .args .scratch)) (m .1) (r .1 .1 .1 .1) (first .begin .ensures .1 .1))),
+      ),
+    )
 
 pub number-all-spec : {M : Type 1} → statement M
 number-all-spec =
     tie.close
     (tie.spec
-    sub-n
-    mul-clear
-    clear-requires
-    clear-requires-2
-    members-requires
+    begin-requires
     number-parts-requires
-    slice-relend-prefix-figures
-    slice-aggregate-figures
-    figures-requires
-    mul-clear-2
-    clear-requires-3
+    finish-requires
     same-length
     same-length-2
     same-length-3
+    same-length-4
     returns)

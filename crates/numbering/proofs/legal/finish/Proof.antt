@@ -1,0 +1,67 @@
+-- `numbering::legal::finish` meets its contract. Assumes nothing.
+use mathlib.Core.Path.{sym, ap, _∙_}
+use Prim.Native.Nat.{_*_}
+use native.Mathlib.Omega.{arith}
+use denote.Ref.{now}
+use lib.ListN.{length}
+use lib.Seq.{length-take-le}
+use Rattle.spec.specs.Graph.{sizeOf}
+use Rattle.spec.specs.Lent.{wordsPerNode}
+use Rattle.levels_laws.proofs.Clearing.{zeroed-length}
+use Rattle.numbering.proofs.Figures.{back-size, last-scratch}
+use Rattle.numbering.proofs.legal.finish.Statement.{statement}
+use Rattle.numbering.proofs.legal.finish.Tie as tie
+
+sub-n : tie.Need-sub-n
+sub-n c = omega (arith, c .before .before .before .before .pre .0 .starts .count)
+
+slice-relend-prefix-figures : tie.Need-slice-relend-prefix-figures
+slice-relend-prefix-figures c = omega (arith, c .before .before .before .before .pre .1 .1)
+
+slice-aggregate-figures : tie.Need-slice-aggregate-figures
+slice-aggregate-figures c = let s = c .before .before .before .before .before in sym (length-take-le _ (now (s .args .scratch)) (omega (arith, s .pre .1 .1)))
+
+figures-requires : tie.Need-figures-requires
+figures-requires c κs = let s = c .before .before .before .before .before in (s .pre .0, (s .pre .1 .0, length-take-le _ (now (s .args .scratch)) (omega (arith, s .pre .1 .1))))
+
+mul-clear : tie.Need-mul-clear
+mul-clear c = let found = c .before .before .before in let at = found .before .before in omega (arith, at .before .before .before .before .pre .0 .starts .few)
+
+clear-requires : tie.Need-clear-requires
+clear-requires c κs =
+    let found = c .before .before .before in
+    let at = found .before .before in
+    let s = at .before .before .before .before in
+    omega (arith, back-size (sizeOf (now (s .args .starts))) (found .figures .ensures .1) (now (s .args .scratch)) (s .pre .1 .1), s .pre .1 .1)
+
+same-length : tie.Need-same-length
+same-length c =
+    let last = c .before .before in
+    let found = last .before .before .before .before in
+    let at = found .before .before in
+    let s = at .before .before .before .before in
+    let n = sizeOf (now (s .args .starts)) in
+    let W = now (s .args .scratch) in
+    ap length (last .clear .ensures ∙ last-scratch n (found .figures .ensures .1) W (s .pre .1 .1)) ∙ zeroed-length (wordsPerNode * n) W (s .pre .1 .1)
+
+returns : tie.Need-returns
+returns c =
+    let last = c .before .before in
+    let found = last .before .before .before .before in
+    let at = found .before .before in
+    let s = at .before .before .before .before in
+    let f = found .figures .ensures in
+    (f .0, last .clear .ensures ∙ last-scratch (sizeOf (now (s .args .starts))) (f .1) (now (s .args .scratch)) (s .pre .1 .1))
+
+pub finish-spec : {M : Type 1} → statement M
+finish-spec =
+    tie.close
+    (tie.spec
+    sub-n
+    slice-relend-prefix-figures
+    slice-aggregate-figures
+    figures-requires
+    mul-clear
+    clear-requires
+    same-length
+    returns)
