@@ -1,4 +1,4 @@
--- How large the figures, numbers and levels of a run are: of n nodes, all but the profile are at most n. Assumes nothing.
+-- How large the figures, numbers, levels and passes of a run are: of n nodes, all but the profile are at most n. Assumes nothing.
 use mathlib.Core.Path.{_≡_, refl, sym, ap}
 use mathlib.Core.Bool.{Bool, true}
 use mathlib.Core.List.{List, [], _∷_, map}
@@ -15,7 +15,7 @@ use Rattle.basis.proofs.Perm.{perm-length}
 use Rattle.spec.specs.Combined.{countAt, widthOf}
 use Rattle.spec.specs.Ends.{ends}
 use Rattle.spec.specs.Graph.{Graph, nodes, ofNode}
-use Rattle.spec.specs.Levels.{levels, levelOf, part, leads, leaders, parts}
+use Rattle.spec.specs.Levels.{levels, levelOf, part, leaders, parts}
 use Rattle.spec.specs.Measures.{renumbered, frontAt, fronts, front}
 use Rattle.spec.specs.Numbering.{partLevels, partResultBy, partResult, partResults, figuresOf, runOf, run}
 use Rattle.laws.specs.Legal.{Node, LegalGraph}
@@ -26,6 +26,7 @@ use Rattle.laws.proofs.Levels.{part-self}
 use Rattle.laws.proofs.Measures.{bandwidth-le}
 use Rattle.laws.proofs.Named.{part-levels}
 use Rattle.laws.proofs.Parts.{leaders-in, parts-perm}
+use Rattle.laws.proofs.Passes.{leaders-most, passes-sum}
 use Rattle.laws.proofs.Renumber.{number-node, renumbered-size}
 use Rattle.laws.proofs.RunLevels.{depth-of, width-of, run-level}
 use Rattle.laws.proofs.Whole.{run-numbering, run-measured-bandwidth, run-measured-profile, run-measured-front}
@@ -81,9 +82,8 @@ module _ {g : Graph} (G : LegalGraph g) where
   -- ---- the figures
 
   pub parts-most : run g .figures .parts ≤ g .size
-  unfolding run runOf figuresOf partResults leaders
-  parts-most =
-      omega (arith, length-map (leaders g) (partResult g), length-filter (leads g) (nodes g), count-length (leads g) (nodes g), length-nodes g)
+  unfolding run runOf figuresOf partResults
+  parts-most = omega (arith, length-map (leaders g) (partResult g), leaders-most g)
 
   pub levels-most : run g .figures .levels ≤ g .size
   unfolding run runOf figuresOf partResults
@@ -94,11 +94,12 @@ module _ {g : Graph} (G : LegalGraph g) where
         over-all (λ z. partResult g z .report .k) (λ z Z. omega (arith, depth-of g z, depth-few z Z)),
       )
 
-  pub passes-most : run g .figures .passes ≤ g .size
-  unfolding run runOf figuresOf partResults
+  pub passes-most : sum (run g .passes) ≤ g .size
+  unfolding partResults
   passes-most =
       omega (
         arith,
+        passes-sum g,
         ap sum (map-map (λ r. r .report .passes) (partResult g) (leaders g)),
         over-all (λ z. partResult g z .report .passes) (λ z Z. omega (arith, passes-of g z, passes-few z Z)),
       )

@@ -1,4 +1,4 @@
--- The listing of a run is `listed` of its figures, numbers and levels, and 99 bytes and 15 for each row hold it. Assumes nothing.
+-- The listing of a run is `listed` of its figures, numbers, levels and passes, and 99 bytes and 15 for each row hold it. Assumes nothing.
 use mathlib.Core.Path.{_≡_, refl, sym, ap, ap₂, _∙_}
 use mathlib.Core.List.{List, [], _∷_, _++_, map, append-assoc, append-nil}
 use Prim.Native.String.{String}
@@ -6,7 +6,7 @@ use Prim.Native.Nat.{ℕ, zero, suc, _+_, _*_, _≤_, _<_}
 use native.Mathlib.Numerals.{add-one}
 use native.Mathlib.Omega.{arith}
 use lib.ListN.{length, getD, length-append}
-use Rattle.basis.specs.Lists.{joinAll, upFrom}
+use Rattle.basis.specs.Lists.{joinAll, upFrom, sum}
 use Rattle.basis.proofs.Lists.{join-append}
 use Rattle.spec.specs.Text.{ascii, decimal, newline}
 use Rattle.spec.specs.Graph.{Graph, nodes, ofNode}
@@ -34,24 +34,24 @@ node-lines : (r : Run) (zs : List ℕ) → joinAll (map (nodeLine r) zs) ≡ joi
 node-lines r [] = refl
 node-lines r (z ∷ zs) = ap₂ _++_ (node-line r z) (node-lines r zs)
 
-first-line : (f : Figures) → figuresLine f ≡ joinAll (firstItems f) ++ joinAll (lastItems f)
+first-line : (f : Figures) (total : ℕ) → figuresLine f total ≡ joinAll (firstItems f) ++ joinAll (lastItems f total)
 unfolding figuresLine
-first-line f = join-append (firstItems f) (lastItems f)
+first-line f total = join-append (firstItems f) (lastItems f total)
 
 -- the first line and the rows
-listing-split : (g : Graph) (r : Run) → listing g r ≡ figuresLine (r .figures) ++ rows (r .numbers) (r .levels) (g .size)
+listing-split : (g : Graph) (r : Run) → listing g r ≡ figuresLine (r .figures) (sum (r .passes)) ++ rows (r .numbers) (r .levels) (g .size)
 unfolding listing rows nodes
-listing-split g r = ap (λ (l : List ℕ). figuresLine (r .figures) ++ l) (node-lines r (upFrom 1 (g .size)))
+listing-split g r = ap (λ (l : List ℕ). figuresLine (r .figures) (sum (r .passes)) ++ l) (node-lines r (upFrom 1 (g .size)))
 
 -- what `write_listing` writes is the listing
-pub listing-is : (g : Graph) (r : Run) → length (r .numbers) ≡ g .size → listing g r ≡ listed (r .figures) (r .numbers) (r .levels)
+pub listing-is : (g : Graph) (r : Run) → length (r .numbers) ≡ g .size → listing g r ≡ listed (r .figures) (r .numbers) (r .levels) (r .passes)
 unfolding listed
 listing-is g r e =
     let a = joinAll (firstItems (r .figures)) in
-    let b = joinAll (lastItems (r .figures)) in
+    let b = joinAll (lastItems (r .figures) (sum (r .passes))) in
     let t = rows (r .numbers) (r .levels) (length (r .numbers)) in
     listing-split g r
-    ∙ ap₂ _++_ (first-line (r .figures)) (ap (rows (r .numbers) (r .levels)) (sym e))
+    ∙ ap₂ _++_ (first-line (r .figures) (sum (r .passes))) (ap (rows (r .numbers) (r .levels)) (sym e))
     ∙ append-assoc a b t
     ∙ ap (λ (l : List ℕ). a ++ (b ++ l)) (sym (append-nil t))
 
@@ -78,8 +78,8 @@ number-within x h = record { within = four-digits x h }
 four : (label : String) (x : ℕ) → x < 10000 → Within (item label x) (length (ascii label) + 4)
 four label x h = item-within label x 4 (four-digits x h)
 
--- figures of four digits, and a profile of seven
-record Short (f : Figures) : Type 0 where
+-- figures and a sum of passes of four digits, and a profile of seven
+record Short (f : Figures) (total : ℕ) : Type 0 where
   nodes : f .nodes < 10000
   parts : f .parts < 10000
   bandwidth : f .bandwidth < 10000
@@ -87,11 +87,11 @@ record Short (f : Figures) : Type 0 where
   front : f .front < 10000
   levels : f .levels < 10000
   width : f .width < 10000
-  passes : f .passes < 10000
+  passes : total < 10000
 
-line-within : (f : Figures) → Short f → Within (figuresLine f) 99
+line-within : (f : Figures) (total : ℕ) → Short f total → Within (figuresLine f total) 99
 unfolding figuresLine ascii
-line-within f h =
+line-within f total h =
     joined (four "nodes " (f .nodes) (h .nodes))
     (joined (four " parts " (f .parts) (h .parts))
     (joined (four " bandwidth " (f .bandwidth) (h .bandwidth))
@@ -99,7 +99,7 @@ line-within f h =
     (joined (four " front " (f .front) (h .front))
     (joined (four " levels " (f .levels) (h .levels))
     (joined (four " width " (f .width) (h .width))
-    (joined (four " passes " (f .passes) (h .passes)) line-end)))))))
+    (joined (four " passes " total (h .passes)) line-end)))))))
 
 row-within : (z a b : ℕ) → z < 10000 → a < 10000 → b < 10000 → Within (joinAll (rowItems z a b)) 15
 unfolding ascii
@@ -120,7 +120,7 @@ rows-fit xs ls (suc k) s h =
     )
 
 module _ {g : Graph} (G : LegalGraph g) (few : g .size ≤ 4096) where
-  short : Short (run g .figures)
+  short : Short (run g .figures) (sum (run g .passes))
   short = record {
     nodes = omega (arith, nodes-is g);
     parts = omega (arith, parts-most G);
@@ -139,7 +139,7 @@ module _ {g : Graph} (G : LegalGraph g) (few : g .size ≤ 4096) where
       (omega (arith, number-most G (suc i) N), omega (arith, level-most G (suc i) N))
 
   -- what `write_listing` writes of a run
-  pub run-listing : listing g (run g) ≡ listed (run g .figures) (run g .numbers) (run g .levels)
+  pub run-listing : listing g (run g) ≡ listed (run g .figures) (run g .numbers) (run g .levels) (run g .passes)
   run-listing = listing-is g (run g) (numbering-length (g .size) (run g .numbers) (run-numbering G))
 
   -- and has room
@@ -148,7 +148,7 @@ module _ {g : Graph} (G : LegalGraph g) (few : g .size ≤ 4096) where
       omega (
         arith,
         ap length (listing-split g (run g)),
-        length-append (figuresLine (run g .figures)) (rows (run g .numbers) (run g .levels) (g .size)),
-        line-within (run g .figures) short .within,
+        length-append (figuresLine (run g .figures) (sum (run g .passes))) (rows (run g .numbers) (run g .levels) (g .size)),
+        line-within (run g .figures) (sum (run g .passes)) short .within,
         rows-fit (run g .numbers) (run g .levels) (g .size) (omega arith) entries,
       )

@@ -4,3 +4,4 @@ pub mod Fits
 pub mod Puts
 pub mod Refusals
 pub mod Rows
+pub mod Totals

@@ -1,4 +1,4 @@
--- The eight figures, as the definitions have them. Assumes nothing.
+-- The seven figures, as the definitions have them. Assumes nothing.
 use Rattle.spec.specs.Numbering as spec
 use Rattle.file_writing.specs.declared.figures.Figures.{Figures}
 
@@ -11,5 +11,4 @@ figuresOf f = record {
   front = f .front;
   levels = f .levels;
   width = f .width;
-  passes = f .passes;
 }

@@ -1,4 +1,4 @@
-// "the eight figures of the program's first line"
+// "seven figures": those of the program's first line but for the passes
 pub struct Figures {
     pub nodes: u32,
     pub parts: u32,
@@ -7,5 +7,4 @@ pub struct Figures {
     pub front: u32,
     pub levels: u32,
     pub width: u32,
-    pub passes: u32,
 }

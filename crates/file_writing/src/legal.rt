@@ -15,6 +15,7 @@ use crate::text::digits;
 use crate::text::put_item;
 use crate::text::put_number;
 use crate::text::put_text;
+use crate::total::total;
 
 // The first four figures.
 fn put_first(f: Figures, out: &mut [u8], at: usize) -> usize
@@ -27,15 +28,15 @@ fn put_first(f: Figures, out: &mut [u8], at: usize) -> usize
     put_item(b" profile ", f.profile, out, end)
 }
 
-// The last four, and the line's end.
-fn put_last(f: Figures, out: &mut [u8], at: usize) -> usize
-    requires { ⌜ Room (joinAll (lastItems (figuresOf f))) at (now out) ⌝ }
-    ensures { λ r. ⌜ Put (joinAll (lastItems (figuresOf f))) at r (was out) (left out) ⌝ }
+// The last three, the passes of all parts "under the old label", and the line's end.
+fn put_last(f: Figures, total: u32, out: &mut [u8], at: usize) -> usize
+    requires { ⌜ Room (joinAll (lastItems (figuresOf f) total)) at (now out) ⌝ }
+    ensures { λ r. ⌜ Put (joinAll (lastItems (figuresOf f) total)) at r (was out) (left out) ⌝ }
 {
     let mut end = put_item(b" front ", f.front, out, at);
     end = put_item(b" levels ", f.levels, out, end);
     end = put_item(b" width ", f.width, out, end);
-    end = put_item(b" passes ", f.passes, out, end);
+    end = put_item(b" passes ", total, out, end);
     put_text(b"\n", out, end)
 }
 
@@ -66,14 +67,21 @@ fn put_rows(numbers: &[u16], levels: &[u16], out: &mut [u8], at: usize) -> usize
 }
 
 // Writes the listing to the front of the buffer, and returns its length.
-pub fn write_listing(f: Figures, numbers: &[u16], levels: &[u16], out: &mut [u8]) -> usize
+pub fn write_listing(
+    f: Figures,
+    numbers: &[u16],
+    levels: &[u16],
+    passes: &[u16],
+    out: &mut [u8],
+) -> usize
     requires { ⌜ (length (now numbers) ≡ length (now levels)) × (length (now numbers) ≤ 4096) ⌝ }
-    requires { ⌜ length (listed (figuresOf f) (now numbers) (now levels)) ≤ length (now out) ⌝ }
-    ensures { λ r. ⌜ r ≡ length (listed (figuresOf f) (was numbers) (was levels)) ⌝ }
-    ensures { λ _. ⌜ left out ≡ overwrite (listed (figuresOf f) (was numbers) (was levels)) (was out) ⌝ }
+    requires { ⌜ length (now passes) ≤ 4096 ⌝ }
+    requires { ⌜ length (listed (figuresOf f) (now numbers) (now levels) (now passes)) ≤ length (now out) ⌝ }
+    ensures { λ r. ⌜ r ≡ length (listed (figuresOf f) (was numbers) (was levels) (was passes)) ⌝ }
+    ensures { λ _. ⌜ left out ≡ overwrite (listed (figuresOf f) (was numbers) (was levels) (was passes)) (was out) ⌝ }
 {
     let mut end = put_first(f, out, 0);
-    end = put_last(f, out, end);
+    end = put_last(f, total(passes), out, end);
     put_rows(numbers, levels, out, end)
 }
 

@@ -2,5 +2,6 @@
 mod figures;
 pub mod legal;
 mod text;
+mod total;
 
 pub use figures::Figures;

@@ -16,10 +16,10 @@ use Rattle.file_writing.proofs.legal.put_last.Tie as tie
 -- all but k texts are left
 abbrev Left : tie.Start → ℕ → ℕ → List ℕ → Type 0
 Left s k end held =
-    Rest (joinAll (lastItems (figuresOf (s .args .f)))) (drop k (lastItems (figuresOf (s .args .f)))) (s .args .at) end (now (s .args .out)) held
+    Rest (joinAll (lastItems (figuresOf (s .args .f)) (s .args .total))) (drop k (lastItems (figuresOf (s .args .f)) (s .args .total))) (s .args .at) end (now (s .args .out)) held
 
 all : (s : tie.Start) → Left s 0 (s .args .at) (now (s .args .out))
-all s = rest-begin (lastItems (figuresOf (s .args .f))) (s .pre)
+all s = rest-begin (lastItems (figuresOf (s .args .f)) (s .args .total)) (s .pre)
 
 one : (c : tie.After-put-item) → Left (c .before .before .before .before) 1 (c .put-item .result) (c .put-item .last .1 .1 .0)
 unfolding item ascii

@@ -10,36 +10,60 @@ use Rattle.file_writing.proofs.Puts.{Rest, rest-begin, rest-step, rest-
 use Rattle.file_writing.proofs.legal.write_listing.Statement.{statement}
 use Rattle.file_writing.proofs.legal.write_listing.Tie as tie
 
+-- ---- places
+
+abbrev start : tie.After-slice-known → tie.Start
+start k = k .before .before .before .before
+
+abbrev entry : tie.After-put-first → tie.Start
+entry c = start (c .before .before)
+
+abbrev first : tie.After-total → tie.After-put-first
+first c = c .before .before .before
+
+abbrev last : tie.After-put-rows → tie.After-put-last
+last c = c .before .before .before .before
+
+-- ---- what is left to put
+
 -- the texts
 abbrev texts : tie.Start → List (List ℕ)
-texts s = listedTexts (figuresOf (s .args .f)) (now (s .args .numbers)) (now (s .args .levels))
+texts s = listedTexts (figuresOf (s .args .f)) (now (s .args .numbers)) (now (s .args .levels)) (now (s .args .passes))
 
 -- all but k of them are left
 abbrev Left : tie.Start → ℕ → ℕ → List ℕ → Type 0
 Left s k end held =
-    Rest (listed (figuresOf (s .args .f)) (now (s .args .numbers)) (now (s .args .levels))) (drop k (texts s)) 0 end (now (s .args .out)) held
+    Rest (listed (figuresOf (s .args .f)) (now (s .args .numbers)) (now (s .args .levels)) (now (s .args .passes))) (drop k (texts s)) 0 end (now (s .args .out)) held
 
 all : (s : tie.Start) → Left s 0 0 (now (s .args .out))
 unfolding listed
-all s = rest-begin (texts s) (room-whole _ _ (s .pre .1))
+all s = rest-begin (texts s) (room-whole _ _ (s .pre .1 .1))
 
-one : (c : tie.After-put-first) → Left (c .before .before .before .before .before) 1 (c .put-first .result) (c .put-first .last .1 .0)
-one c = rest-step (all (c .before .before .before .before .before)) (c .put-first .ensures)
+one : (c : tie.After-put-first) → Left (entry c) 1 (c .put-first .result) (c .put-first .last .1 .0)
+one c = rest-step (all (entry c)) (c .put-first .ensures)
 
-two : (c : tie.After-put-last) → Left (c .before .before .before .before .before .before .before .before .before) 2 (c .put-last .result) (c .put-last .last .1 .0)
-two c = rest-step (one (c .before .before .before .before)) (c .put-last .ensures)
+two : (c : tie.After-put-last) → Left (entry (first (c .before .before))) 2 (c .put-last .result) (c .put-last .last .1 .1 .0)
+two c = rest-step (one (first (c .before .before))) (rw (c .before .before .total .ensures) at (c .put-last .ensures))
 
 put-first-requires : tie.Need-put-first-requires
-put-first-requires c κs = rest-room (all (c .before .before .before .before))
+put-first-requires c κs = rest-room (all (start (c .before)))
+
+total-requires : tie.Need-total-requires
+total-requires c κs = entry (c .before .before) .pre .1 .0
 
 put-last-requires : tie.Need-put-last-requires
-put-last-requires c κs = rest-room (one (c .before .before .before))
+put-last-requires c κs = rw (c .before .total .ensures) (rest-room (one (first (c .before))))
 
 put-rows-requires : tie.Need-put-rows-requires
-put-rows-requires c κs = (c .before .before .before .before .before .before .before .before .before .before .before .before .pre .0, rest-room (two (c .before .before .before)))
+put-rows-requires c κs =
+    let l = c .before .before .before in
+    (entry (first (l .before .before)) .pre .0, rest-room (two l))
 
 returns : tie.Need-returns
-returns c = put-front (room-whole _ _ (c .before .before .before .before .before .before .before .before .before .before .before .before .before .before .before .pre .1)) (rest-done (rest-step (two (c .before .before .before .before .before .before)) (c .before .before .put-rows .ensures)))
+returns c =
+    let r = c .before .before in
+    let l = last r in
+    put-front (room-whole _ _ (entry (first (l .before .before)) .pre .1 .1)) (rest-done (rest-step (two l) (r .put-rows .ensures)))
 
 pub write-listing-spec : {M : Type 1} → statement M
-write-listing-spec = tie.close (tie.spec put-first-requires put-last-requires put-rows-requires (λ c. search needs) returns)
+write-listing-spec = tie.close (tie.spec put-first-requires total-requires put-last-requires put-rows-requires (λ c. search needs) returns)
