@@ -11,6 +11,7 @@ use Rattle.spec.specs.File.{listing}
 use Rattle.laws.specs.Legal.{LegalGraph, Starts}
 use Rattle.laws.proofs.Refused.{passed, starts-of, not-refused}
 use Rattle.laws.proofs.Numberings.{numbering-length}
+use Rattle.laws.proofs.Passes.{passes-length}
 use Rattle.laws.proofs.RunLevels.{levels-length}
 use Rattle.laws.proofs.Whole.{run-numbering}
 use Rattle.file_writing.specs.Listed.{listed, outputRoom}
@@ -30,14 +31,24 @@ module _ (S N : List ℕ) (legal : graphRefusal S N ≡ 0) where
   pub front : (l : List ℕ) → 4096 ≤ length l → length (take (sizeOf S) l) ≡ sizeOf S
   front l h = length-take-le (sizeOf S) l (omega (arith, starts .few))
 
-  module _ {F : Figures} {X L : List ℕ} (f : F ≡ run (graphOf S N) .figures) (x : X ≡ run (graphOf S N) .numbers) (l : L ≡ run (graphOf S N) .levels) where
+  -- what the run leaves: figures, numbers, levels and passes
+  pub record Found (F : Figures) (X L P : List ℕ) : Type 0 where
+    pub figures-are : F ≡ run (graphOf S N) .figures
+    pub numbers-are : X ≡ run (graphOf S N) .numbers
+    pub levels-are : L ≡ run (graphOf S N) .levels
+    pub passes-are : P ≡ run (graphOf S N) .passes
+
+  module _ {F : Figures} {X L P : List ℕ} (R : Found F X L P) where
     pub sizes : (length X ≡ length L) × (length X ≤ 4096)
     sizes =
-        let a : length X ≡ sizeOf S = ap length x ∙ numbers-length in
-        (a ∙ sym (ap length l ∙ levels-length graph), omega (arith, a, starts .few))
+        let a : length X ≡ sizeOf S = ap length (R .numbers-are) ∙ numbers-length in
+        (a ∙ sym (ap length (R .levels-are) ∙ levels-length graph), omega (arith, a, starts .few))
 
-    pub text-is : listed F X L ≡ listing (graphOf S N) (run (graphOf S N))
-    text-is = rw (f, x, l) (sym (run-listing graph (starts .few)))
+    pub passes-few : length P ≤ 4096
+    passes-few = omega (arith, ap length (R .passes-are), passes-length (graphOf S N), starts .few)
 
-    pub text-fits : length (listed F X L) ≤ outputRoom (sizeOf S)
+    pub text-is : listed F X L P ≡ listing (graphOf S N) (run (graphOf S N))
+    text-is = rw (R .figures-are, R .numbers-are, R .levels-are, R .passes-are) (sym (run-listing graph (starts .few)))
+
+    pub text-fits : length (listed F X L P) ≤ outputRoom (sizeOf S)
     text-fits = omega (arith, ap length text-is, listing-fits graph (starts .few))

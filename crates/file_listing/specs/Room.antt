@@ -17,8 +17,9 @@ pub record ReadingRoom (words starts neighbours scratch : List ℕ) : Type 0 whe
   pub neighbours-fit : maxEntries ≤ length neighbours
   pub scratch-fits : wordsPerNode * maxNodes ≤ length scratch
 
--- for the numbers and levels of its nodes, and its text
-pub record TextRoom (numbers levels output : List ℕ) : Type 0 where
+-- for the numbers and levels of its nodes, the passes of its parts, and its text
+pub record TextRoom (numbers levels passes output : List ℕ) : Type 0 where
   pub numbers-fit : maxNodes ≤ length numbers
   pub levels-fit : maxNodes ≤ length levels
+  pub passes-fit : maxNodes ≤ length passes
   pub output-fits : outputRoom maxNodes ≤ length output

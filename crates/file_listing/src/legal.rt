@@ -11,7 +11,7 @@ ghost use Rattle.spec.specs.Numbering.{run};
 ghost use Rattle.spec.specs.File.{fileGraph, fileRefusal, listing, programOutput};
 ghost use Rattle.laws.specs.Handed.{graphWas};
 ghost use Rattle.mesh.specs.Answer.{meaning};
-ghost use Rattle.numbering.specs.Answer.{eight};
+ghost use Rattle.numbering.specs.Answer.{seven};
 ghost use Rattle.file_writing.specs.Figures.{figuresOf};
 ghost use Rattle.file_listing.specs.Room.{ReadingRoom, TextRoom};
 use file_writing::Figures;
@@ -20,7 +20,7 @@ use numbering::answer::RunFigures;
 
 // The run's figures for the first line.
 fn figures(f: RunFigures) -> Figures
-    ensures { λ r. ⌜ figuresOf r ≡ eight f ⌝ }
+    ensures { λ r. ⌜ figuresOf r ≡ seven f ⌝ }
 {
     Figures {
         nodes: f.nodes as u32,
@@ -30,7 +30,6 @@ fn figures(f: RunFigures) -> Figures
         front: f.front,
         levels: f.levels,
         width: f.width as u32,
-        passes: f.passes,
     }
 }
 
@@ -41,18 +40,20 @@ fn renumber(
     scratch: &mut [u16],
     numbers: &mut [u16],
     levels: &mut [u16],
+    passes: &mut [u16],
     output: &mut [u8],
 ) -> usize
     requires { ⌜ graphRefusal (now starts) (now neighbours) ≡ 0 ⌝ }
-    requires { ⌜ (wordsPerNode * maxNodes ≤ length (now scratch)) × TextRoom (now numbers) (now levels) (now output) ⌝ }
+    requires { ⌜ (wordsPerNode * maxNodes ≤ length (now scratch)) × TextRoom (now numbers) (now levels) (now passes) (now output) ⌝ }
     ensures { λ r. ⌜ r ≡ length (listing (graphWas starts neighbours) (run (graphWas starts neighbours))) ⌝ }
     ensures { λ _. ⌜ left output ≡ overwrite (listing (graphWas starts neighbours) (run (graphWas starts neighbours))) (was output) ⌝ }
 {
     let n = starts.len() - 1;
     let x = &mut numbers[..n];
     let l = &mut levels[..n];
-    let f = numbering::legal::number_all(starts, neighbours, x, l, scratch);
-    file_writing::legal::write_listing(figures(f), x, l, output)
+    let p = &mut passes[..n];
+    let f = numbering::legal::number_all(starts, neighbours, x, l, p, scratch);
+    file_writing::legal::write_listing(figures(f), x, l, p, output)
 }
 
 // The two lists of a file's mesh, and their entry count, or the refusal: the header's tests, then those of what follows it.
@@ -84,10 +85,11 @@ pub fn list_file(
     scratch: &mut [u16],
     numbers: &mut [u16],
     levels: &mut [u16],
+    passes: &mut [u16],
     output: &mut [u8],
 ) -> usize
     requires { ⌜ ReadingRoom (now words) (now starts) (now neighbours) (now scratch) ⌝ }
-    requires { ⌜ TextRoom (now numbers) (now levels) (now output) ⌝ }
+    requires { ⌜ TextRoom (now numbers) (now levels) (now passes) (now output) ⌝ }
     ensures { λ r. ⌜ r ≡ length (programOutput (was file)) ⌝ }
     ensures { λ _. ⌜ left output ≡ overwrite (programOutput (was file)) (was output) ⌝ }
 {
@@ -101,6 +103,7 @@ pub fn list_file(
                 scratch,
                 numbers,
                 levels,
+                passes,
                 output,
             )
         }

@@ -16,6 +16,7 @@ fn text(
     scratch: &mut [u16; 24576],
     numbers: &mut [u16; 4096],
     levels: &mut [u16; 4096],
+    passes: &mut [u16; 4096],
     output: &mut [u8; 61539],
 ) -> usize
     ensures { λ r. ⌜ Counts r (left output) ⌝ }
@@ -29,6 +30,7 @@ fn text(
         scratch,
         numbers,
         levels,
+        passes,
         output,
     );
     bytes
@@ -43,6 +45,7 @@ fn main() {
     let mut scratch = [0u16; 24576];
     let mut numbers = [0u16; 4096];
     let mut levels = [0u16; 4096];
+    let mut passes = [0u16; 4096];
     let mut output = [0u8; 61539];
     let size = io::read_full(STDIN_FILENO, &mut file);
     let bytes = text(
@@ -53,6 +56,7 @@ fn main() {
         &mut scratch,
         &mut numbers,
         &mut levels,
+        &mut passes,
         &mut output,
     );
     io::write_all(STDOUT_FILENO, &output[..bytes]);

@@ -10,7 +10,7 @@ use Rattle.renumber.proofs.text.Tie as tie
 list-file-requires : tie.Need-list-file-requires
 list-file-requires c κs = (
   record { words-fit = omega arith; starts-fit = omega arith; neighbours-fit = omega arith; scratch-fits = omega arith },
-  record { numbers-fit = omega arith; levels-fit = omega arith; output-fits = omega arith },
+  record { numbers-fit = omega arith; levels-fit = omega arith; passes-fit = omega arith; output-fits = omega arith },
 )
 
 -- ---- places

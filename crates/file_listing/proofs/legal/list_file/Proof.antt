@@ -18,17 +18,17 @@ use Rattle.file_listing.proofs.legal.list_file.Tie as tie
 
 -- ---- places
 
-abbrev lent : tie.After-slice-known7 → tie.After-slice-known3
+abbrev lent : tie.After-slice-known8 → tie.After-slice-known4
 lent k = k .before .before .before .before
 
-abbrev start : tie.After-slice-known7 → tie.Start
-start k = lent k .before .before .before .before
+abbrev start : tie.After-slice-known8 → tie.Start
+start k = lent k .before .before .before .before .before
 
-abbrev half : tie.After-slice-known11 → tie.After-slice-known9
+abbrev half : tie.After-slice-known12 → tie.After-slice-known10
 half k = k .before .before .before .before
 
 -- the file is read
-abbrev reading : tie.After-slice-known11 → tie.After-read
+abbrev reading : tie.After-slice-known12 → tie.After-read
 reading k = half k .before .before .before .before
 
 abbrev entry : tie.After-read → tie.Start
@@ -112,11 +112,11 @@ slice-reshare-prefix-renumber-2 c = entries-room (c .before)
 slice-aggregate-renumber-2 : tie.Need-slice-aggregate-renumber-2
 slice-aggregate-renumber-2 c = let m = c .before .before in sym (length-take-le (entries (m .before)) (neighbours′ (read (m .before))) (entries-room m))
 
-abbrev arg : tie.After-renumber-arg6 → tie.After-renumber-arg
+abbrev arg : tie.After-renumber-arg7 → tie.After-renumber-arg2
 arg k = k .before .before .before .before .before
 
-abbrev listed : tie.After-renumber-arg6 → tie.After-nodes
-listed k = arg k .before
+abbrev listed : tie.After-renumber-arg7 → tie.After-nodes
+listed k = arg k .before .before
 
 renumber-requires : tie.Need-renumber-requires
 renumber-requires c κs =
@@ -125,11 +125,14 @@ renumber-requires c κs =
     let s = entry r in
     (lists-legal (file r) (told (m .before) .0) (front m) (rows m), (omega (arith, s .pre .0 .scratch-fits, r .read .kept .1 .1 .1 .1 .0), s .pre .1))
 
-abbrev behind : tie.After-slice-known16 → tie.After-slice-known14
+abbrev behind : tie.After-slice-known18 → tie.After-slice-known16
 behind k = k .before .before .before .before
 
-abbrev done : tie.After-slice-known16 → tie.After-renumber
-done k = behind k .before .before .before .before
+abbrev texts : tie.After-slice-known18 → tie.After-slice-known14
+texts k = behind k .before .before .before .before
+
+abbrev done : tie.After-slice-known18 → tie.After-renumber
+done k = texts k .before .before
 
 returns-2 : tie.Need-returns-2
 returns-2 c =
@@ -161,6 +164,7 @@ list-file-spec =
     (λ c. search needs)
     (λ c. search needs)
     returns
+    (λ c. search needs)
     (λ c. search needs)
     (λ c. search needs)
     (λ c. search needs)
