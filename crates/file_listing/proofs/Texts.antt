@@ -1,10 +1,10 @@
 -- The text of a run over two lists that are not refused: it is what `write_listing` writes, and has room. Assumes nothing.
 use mathlib.Core.Path.{_≡_, sym, ap, _∙_}
-use mathlib.Core.List.{List}
+use mathlib.Core.List.{List, _++_}
 use Prim.Native.Nat.{ℕ, _≤_}
 use native.Mathlib.Omega.{arith}
-use lib.ListN.{length, take}
-use lib.Seq.{length-take-le}
+use lib.ListN.{length, take, drop, length-append, length-drop}
+use lib.Seq.{length-take-le, take-at}
 use Rattle.spec.specs.Graph.{graphOf, sizeOf, graphRefusal}
 use Rattle.spec.specs.Numbering.{Figures, run}
 use Rattle.spec.specs.File.{listing}
@@ -31,6 +31,17 @@ module _ (S N : List ℕ) (legal : graphRefusal S N ≡ 0) where
   pub front : (l : List ℕ) → 4096 ≤ length l → length (take (sizeOf S) l) ≡ sizeOf S
   front l h = length-take-le (sizeOf S) l (omega (arith, starts .few))
 
+  -- the list of passes that is lent, of which the run writes the first n words
+  module _ {P : List ℕ} (O : List ℕ) (p : P ≡ run (graphOf S N) .passes) where
+    n-words : length P ≡ sizeOf S
+    n-words = ap length p ∙ passes-length (graphOf S N)
+
+    pub passes-stay : 4096 ≤ length O → 4096 ≤ length (P ++ drop (sizeOf S) O)
+    passes-stay h = omega (arith, n-words, starts .few, length-append P (drop (sizeOf S) O), length-drop (sizeOf S) O)
+
+    pub passes-front : take (sizeOf S) (P ++ drop (sizeOf S) O) ≡ run (graphOf S N) .passes
+    passes-front = take-at P (drop (sizeOf S) O) (sizeOf S) n-words ∙ p
+
   -- what the run leaves: figures, numbers, levels and passes
   pub record Found (F : Figures) (X L P : List ℕ) : Type 0 where
     pub figures-are : F ≡ run (graphOf S N) .figures
@@ -43,9 +54,6 @@ module _ (S N : List ℕ) (legal : graphRefusal S N ≡ 0) where
     sizes =
         let a : length X ≡ sizeOf S = ap length (R .numbers-are) ∙ numbers-length in
         (a ∙ sym (ap length (R .levels-are) ∙ levels-length graph), omega (arith, a, starts .few))
-
-    pub passes-few : length P ≤ 4096
-    passes-few = omega (arith, ap length (R .passes-are), passes-length (graphOf S N), starts .few)
 
     pub text-is : listed F X L P ≡ listing (graphOf S N) (run (graphOf S N))
     text-is = rw (R .figures-are, R .numbers-are, R .levels-are, R .passes-are) (sym (run-listing graph (starts .few)))

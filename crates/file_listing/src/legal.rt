@@ -33,7 +33,7 @@ fn figures(f: RunFigures) -> Figures
     }
 }
 
-// The renumbering of a legal graph and its text, whose length is returned.
+// The renumbering of a legal graph and its text, whose length is returned. What the lists have behind their first n words is no part of it.
 fn renumber(
     starts: &[u16],
     neighbours: &[u16],
@@ -51,9 +51,8 @@ fn renumber(
     let n = starts.len() - 1;
     let x = &mut numbers[..n];
     let l = &mut levels[..n];
-    let p = &mut passes[..n];
-    let f = numbering::legal::number_all(starts, neighbours, x, l, p, scratch);
-    file_writing::legal::write_listing(figures(f), x, l, p, output)
+    let f = numbering::legal::number_all(starts, neighbours, x, l, &mut passes[..n], scratch);
+    file_writing::legal::write_listing(figures(f), x, l, &passes[..n], output)
 }
 
 // The two lists of a file's mesh, and their entry count, or the refusal: the header's tests, then those of what follows it.

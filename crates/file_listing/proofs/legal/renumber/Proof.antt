@@ -1,14 +1,16 @@
 -- `file_listing::legal::renumber` meets its contract: the run, then its text. Assumes nothing.
 use mathlib.Core.Path.{sym, ap, _∙_}
-use mathlib.Core.List.{List}
+use mathlib.Core.List.{List, _++_}
 use Prim.Native.Nat.{ℕ}
 use native.Mathlib.Omega.{arith}
-use lib.ListN.{length}
+use lib.ListN.{length, take, drop}
+use lib.Seq.{length-take-le}
 use denote.Ref.{now}
 use borrow.Author.Needs.{needs}
 use Rattle.basis.specs.Lists.{overwrite}
+use Rattle.spec.specs.Graph.{sizeOf}
 use Rattle.file_writing.specs.Figures.{figuresOf}
-use Rattle.file_listing.proofs.Texts.{Found, starts, front, sizes, passes-few, text-is, text-fits}
+use Rattle.file_listing.proofs.Texts.{Found, starts, front, sizes, passes-stay, passes-front, text-is, text-fits}
 use Rattle.file_listing.proofs.legal.renumber.Statement.{statement}
 use Rattle.file_listing.proofs.legal.renumber.Tie as tie
 
@@ -20,14 +22,11 @@ lent k = k .before .before .before .before
 abbrev start : tie.After-slice-known5 → tie.Start
 start k = lent k .before .before .before
 
-abbrev parts : tie.After-number-all-arg4 → tie.After-p
-parts a = a .before .before .before .before
-
-abbrev handed : tie.After-number-all-arg4 → tie.After-slice-known5
-handed a = parts a .before .before .before
+abbrev handed : tie.After-number-all-arg2 → tie.After-slice-known5
+handed a = a .before .before .before .before
 
 abbrev entry : tie.After-number-all → tie.Start
-entry m = start (handed (m .before))
+entry m = start (handed (m .before .before .before))
 
 -- the run is made
 abbrev kept : tie.After-slice-known9 → tie.After-slice-known7
@@ -53,15 +52,15 @@ slice-relend-prefix-l c = let s = start (c .before) in omega (arith, starts (now
 slice-aggregate-l : tie.Need-slice-aggregate-l
 slice-aggregate-l c = let s = start (c .before .before) in sym (front (now (s .args .starts)) (now (s .args .neighbours)) (s .pre .0) (now (s .args .levels)) (s .pre .1 .1 .levels-fit))
 
-slice-relend-prefix-p : tie.Need-slice-relend-prefix-p
-slice-relend-prefix-p c = let s = start (c .before .before) in omega (arith, starts (now (s .args .starts)) (now (s .args .neighbours)) (s .pre .0) .few, s .pre .1 .1 .passes-fit)
+slice-relend-prefix-number-all : tie.Need-slice-relend-prefix-number-all
+slice-relend-prefix-number-all c = let s = start (handed c) in omega (arith, starts (now (s .args .starts)) (now (s .args .neighbours)) (s .pre .0) .few, s .pre .1 .1 .passes-fit)
 
-slice-aggregate-p : tie.Need-slice-aggregate-p
-slice-aggregate-p c = let s = start (c .before .before .before) in sym (front (now (s .args .starts)) (now (s .args .neighbours)) (s .pre .0) (now (s .args .passes)) (s .pre .1 .1 .passes-fit))
+slice-aggregate-number-all : tie.Need-slice-aggregate-number-all
+slice-aggregate-number-all c = let s = start (handed (c .before)) in sym (front (now (s .args .starts)) (now (s .args .neighbours)) (s .pre .0) (now (s .args .passes)) (s .pre .1 .1 .passes-fit))
 
 number-all-requires : tie.Need-number-all-requires
 number-all-requires c κs =
-    let s = start (handed c) in
+    let s = start (handed (c .before .before)) in
     let S = now (s .args .starts) in
     let N = now (s .args .neighbours) in
     let t = s .pre .1 .1 in
@@ -72,15 +71,37 @@ number-all-requires c κs =
 
 -- ---- its text
 
--- what the run left, its figures as they are printed
+-- what the run left of the lists
+abbrev passes′ : tie.After-number-all → List ℕ
+passes′ m = m .number-all .last .1 .1 .1 .1 .0 ++ drop (sizeOf (now (entry m .args .starts))) (now (entry m .args .passes))
+
 found : (f : tie.After-figures) →
     let m = ran (f .before) in
     let s = entry m in
-    Found (now (s .args .starts)) (now (s .args .neighbours)) (s .pre .0) (figuresOf (f .figures .result))
-    (m .number-all .last .1 .1 .0) (m .number-all .last .1 .1 .1 .0) (m .number-all .last .1 .1 .1 .1 .0)
+    let S = now (s .args .starts) in
+    Found S (now (s .args .neighbours)) (s .pre .0) (figuresOf (f .figures .result))
+    (m .number-all .last .1 .1 .0) (m .number-all .last .1 .1 .1 .0) (take (sizeOf S) (passes′ m))
 found f =
-    let r = ran (f .before) .number-all .ensures in
-    record { figures-are = f .figures .ensures ∙ r .0; numbers-are = r .1 .0; levels-are = r .1 .1 .0; passes-are = r .1 .1 .1 .0 }
+    let m = ran (f .before) in
+    let s = entry m in
+    let r = m .number-all .ensures in
+    record {
+      figures-are = f .figures .ensures ∙ r .0;
+      numbers-are = r .1 .0;
+      levels-are = r .1 .1 .0;
+      passes-are = passes-front (now (s .args .starts)) (now (s .args .neighbours)) (s .pre .0) (now (s .args .passes)) (r .1 .1 .1 .0);
+    }
+
+slice-reshare-prefix-write-listing : tie.Need-slice-reshare-prefix-write-listing
+slice-reshare-prefix-write-listing c =
+    let m = ran (c .before .before .before) in
+    let s = entry m in
+    let S = now (s .args .starts) in
+    let N = now (s .args .neighbours) in
+    omega (arith, starts S N (s .pre .0) .few, passes-stay S N (s .pre .0) (now (s .args .passes)) (m .number-all .ensures .1 .1 .1 .0) (s .pre .1 .1 .passes-fit))
+
+slice-aggregate-write-listing : tie.Need-slice-aggregate-write-listing
+slice-aggregate-write-listing c = sym (length-take-le _ (passes′ (ran (c .before .before .before .before))) (slice-reshare-prefix-write-listing (c .before)))
 
 write-listing-requires : tie.Need-write-listing-requires
 write-listing-requires c κs =
@@ -88,17 +109,15 @@ write-listing-requires c κs =
     let s = entry (ran (f .before)) in
     let S = now (s .args .starts) in
     let N = now (s .args .neighbours) in
-    (sizes S N (s .pre .0) (found f), (passes-few S N (s .pre .0) (found f), omega (arith, text-fits S N (s .pre .0) (found f), starts S N (s .pre .0) .few, s .pre .1 .1 .output-fits)))
+    let few = starts S N (s .pre .0) .few in
+    (sizes S N (s .pre .0) (found f), (omega (arith, slice-aggregate-write-listing (c .before), few), omega (arith, text-fits S N (s .pre .0) (found f), few, s .pre .1 .1 .output-fits)))
 
-abbrev behind : tie.After-slice-known13 → tie.After-slice-known11
-behind k = k .before .before .before .before
-
-abbrev told : tie.After-slice-known13 → tie.After-write-listing
-told k = behind k .before .before .before .before
+abbrev told : tie.After-slice-known12 → tie.After-x4
+told k = k .before .before .before .before .before
 
 returns : tie.Need-returns
 returns c =
-    let w = told c in
+    let w = told c .before in
     let f = w .before .before .before .before .before in
     let s = entry (ran (f .before)) in
     let t = text-is (now (s .args .starts)) (now (s .args .neighbours)) (s .pre .0) (found f) in
@@ -113,10 +132,12 @@ renumber-spec =
     slice-aggregate-x
     slice-relend-prefix-l
     slice-aggregate-l
-    slice-relend-prefix-p
-    slice-aggregate-p
+    slice-relend-prefix-number-all
+    slice-aggregate-number-all
     number-all-requires
     (λ c κs. search needs)
+    slice-reshare-prefix-write-listing
+    slice-aggregate-write-listing
     write-listing-requires
     (λ c. search needs)
     (λ c. search needs)
