@@ -15,11 +15,11 @@ list-file-requires c κs = (
 
 -- ---- places
 
-abbrev arg : tie.After-list-file-arg7 → tie.After-list-file-arg2
+abbrev arg : tie.After-list-file-arg8 → tie.After-list-file-arg3
 arg a = a .before .before .before .before .before
 
 abbrev start : tie.After-list-file → tie.Start
-start c = arg (c .before) .before .before .before
+start c = arg (c .before) .before .before .before .before
 
 returns : tie.Need-returns
 returns c =
