@@ -1,7 +1,6 @@
 -- `renumber::text` meets its contract: there is room, so that the text is document 01's. Assumes nothing.
 use native.Mathlib.Omega.{arith}
 use denote.Ref.{now}
-use borrow.Author.Needs.{needs}
 use Rattle.io.proofs.Counting.{counts}
 use Rattle.file_listing.proofs.Output.{printed}
 use Rattle.renumber.proofs.text.Statement.{statement}
