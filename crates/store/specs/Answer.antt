@@ -6,7 +6,7 @@ use Rattle.spec.specs.Graph.{Graph}
 use Rattle.spec.specs.Lent.{Outcome, accepted, refused, outcome, filled, short}
 use Rattle.spec.specs.Refusal.{refuse}
 use Rattle.spec.specs.Store.{markByteCount, markBytes}
-use Rattle.numbering.specs.Answer.{eight}
+use Rattle.numbering.specs.Answer.{seven}
 use Rattle.store.specs.declared.answer.Counts.{Counts}
 use Rattle.store.specs.declared.answer.Elimination.{Elimination}
 use Rattle.store.specs.declared.answer.Elimination.the-variants.{Accepted, Refused}
@@ -27,9 +27,9 @@ abbrev pub runMeaning : RunEliminated → Outcome RunElimination
 -- 1 to 5, as the run is
 runMeaning (RunRefused c) = refused c
 -- the run's figures stand beside the refusal of the elimination
-runMeaning (RunOnly f c) = accepted (record { figures = eight f; elimination = refused c })
+runMeaning (RunOnly f c) = accepted (record { figures = seven f; elimination = refused c })
 -- the run's figures and the elimination's counts
-runMeaning (Both f c) = accepted (record { figures = eight f; elimination = accepted (figuresOf c) })
+runMeaning (Both f c) = accepted (record { figures = seven f; elimination = accepted (figuresOf c) })
 
 -- ---- the elimination of the graph h, by its new numbers, where mark bytes are lent
 

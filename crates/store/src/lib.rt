@@ -2,11 +2,11 @@
 // contract has demand 3.
 ghost use mathlib.Core.Path.{_≡_};
 ghost use Rattle.basis.specs.Moments.{was, left};
-ghost use Rattle.spec.specs.CallsNumbering.{runNumbers, runLevels, runScratch};
+ghost use Rattle.spec.specs.CallsNumbering.{runNumbers, runLevels, runPasses, runScratch};
 ghost use Rattle.spec.specs.CallsStore.{RunElimination as RunEliminated, eliminationAnswer, eliminationScratch, eliminationBytes, handedScratch, runEliminateAnswer, runEliminateBytes};
 ghost use Rattle.spec.specs.Claim.{Claimed};
 ghost use Rattle.spec.specs.Lent.{accepted};
-ghost use Rattle.numbering.specs.Answer.{eight};
+ghost use Rattle.numbering.specs.Answer.{seven};
 ghost use Rattle.store.specs.Answer.{meaning, runMeaning};
 
 mod answer;
@@ -55,7 +55,7 @@ fn eliminate_after(
     scratch: &mut [u16],
     bytes: &mut [u8],
 ) -> RunElimination
-    ensures { λ r. ⌜ runMeaning r ≡ accepted (record { figures = eight figures; elimination = eliminationAnswer (was starts) (was neighbours) (was numbers) (was scratch) (was bytes) }) ⌝ }
+    ensures { λ r. ⌜ runMeaning r ≡ accepted (record { figures = seven figures; elimination = eliminationAnswer (was starts) (was neighbours) (was numbers) (was scratch) (was bytes) }) ⌝ }
     ensures { λ _. ⌜ left scratch ≡ eliminationScratch (was starts) (was neighbours) (was numbers) (was scratch) (was bytes) ⌝ }
     ensures { λ _. ⌜ left bytes ≡ eliminationBytes (was starts) (was neighbours) (was numbers) (was scratch) (was bytes) ⌝ }
 {
@@ -74,19 +74,21 @@ pub fn run_eliminate(
     neighbours: &[u16],
     numbers: &mut [u16],
     levels: &mut [u16],
+    passes: &mut [u16],
     scratch: &mut [u16],
     bytes: &mut [u8],
 ) -> RunElimination
-    ensures { λ r. ⌜ runMeaning r ≡ runEliminateAnswer (was starts) (was neighbours) (was numbers) (was levels) (was scratch) (was bytes) ⌝ }
-    ensures { λ _. ⌜ left numbers ≡ runNumbers (was starts) (was neighbours) (was numbers) (was levels) (was scratch) ⌝ }
-    ensures { λ _. ⌜ left levels ≡ runLevels (was starts) (was neighbours) (was numbers) (was levels) (was scratch) ⌝ }
-    ensures { λ _. ⌜ left scratch ≡ runScratch (was starts) (was neighbours) (was numbers) (was levels) (was scratch) ⌝ }
-    ensures { λ _. ⌜ left bytes ≡ runEliminateBytes (was starts) (was neighbours) (was numbers) (was levels) (was scratch) (was bytes) ⌝ }
+    ensures { λ r. ⌜ runMeaning r ≡ runEliminateAnswer (was starts) (was neighbours) (was numbers) (was levels) (was passes) (was scratch) (was bytes) ⌝ }
+    ensures { λ _. ⌜ left numbers ≡ runNumbers (was starts) (was neighbours) (was numbers) (was levels) (was passes) (was scratch) ⌝ }
+    ensures { λ _. ⌜ left levels ≡ runLevels (was starts) (was neighbours) (was numbers) (was levels) (was passes) (was scratch) ⌝ }
+    ensures { λ _. ⌜ left passes ≡ runPasses (was starts) (was neighbours) (was numbers) (was levels) (was passes) (was scratch) ⌝ }
+    ensures { λ _. ⌜ left scratch ≡ runScratch (was starts) (was neighbours) (was numbers) (was levels) (was passes) (was scratch) ⌝ }
+    ensures { λ _. ⌜ left bytes ≡ runEliminateBytes (was starts) (was neighbours) (was numbers) (was levels) (was passes) (was scratch) (was bytes) ⌝ }
     ensures { λ r. ⌜ ((e : RunEliminated) → runMeaning r ≡ accepted e
         → Claimed (was starts) (was neighbours) (e .figures) (left numbers) (left levels)
-        (handedScratch (was starts) (was neighbours) (was numbers) (was levels) (was scratch)) (was bytes) (e .elimination) (left bytes)) ⌝ }
+        (handedScratch (was starts) (was neighbours) (was numbers) (was levels) (was passes) (was scratch)) (was bytes) (e .elimination) (left bytes)) ⌝ }
 {
-    match numbering::run(starts, neighbours, numbers, levels, scratch) {
+    match numbering::run(starts, neighbours, numbers, levels, passes, scratch) {
         RunAnswer::Refused(c) => RunElimination::Refused(c),
         RunAnswer::Numbered(figures) => {
             let n = starts.len() - 1;

@@ -1,6 +1,8 @@
 -- `store::run_eliminate` meets its contract, demand 3 included: the run's answer by cases, then the elimination by its numbers. Assumes nothing.
 use mathlib.Core.Path.{sym}
+use Prim.Native.Nat.{_≤_}
 use native.Mathlib.Omega.{arith}
+use lib.ListN.{length}
 use lib.Seq.{length-take-le}
 use denote.Ref.{now}
 use Rattle.spec.specs.Graph.{sizeOf}
@@ -8,130 +10,117 @@ use Rattle.store.proofs.Runs.{nodes, room, run-refused, run-passed, scr
 use borrow.Author.Needs.{needs}
 use Rattle.store.proofs.run_eliminate.Statement.{statement}
 use Rattle.store.proofs.run_eliminate.Tie as tie
-use Rattle.store.proofs.run_eliminate.Reads as reads
-use Rattle.store.proofs.run_eliminate.Lts as lts
-use Rattle.numbering.proofs.run.Reads as run-reads
-use Rattle.store.proofs.eliminate_after.Reads as eliminate-after-reads
 
--- src/lib.rt:86:11
-run-requires : tie.Need-run-requires
-run-requires c κs = search needs
+-- ---- places
 
--- src/lib.rt:87:28
-enum-known-c : tie.Need-enum-known-c
-enum-known-c c = search needs
+-- what is lent, and the two lists before it
+abbrev lent : tie.After-run → tie.After-slice-known5
+lent r = r .before .before .before .before .before
 
--- src/lib.rt:88:29
-enum-known-figures : tie.Need-enum-known-figures
-enum-known-figures c = search needs
+abbrev lists : tie.After-slice-known5 → tie.After-shared-slice-known2
+lists k = k .before .before .before .before .before
 
--- src/lib.rt:89:21
+abbrev entry : tie.After-run → tie.Start
+entry r = lists (lent r) .before .before
+
+-- the run has answered
+abbrev passes-back : tie.After-slice-known9 → tie.After-slice-known7
+passes-back k = k .before .before .before .before
+
+abbrev ran : tie.After-slice-known9 → tie.After-run
+ran k = passes-back k .before .before .before .before
+
+-- it has refused
+abbrev refusing : tie.After-known-told → tie.After-run
+refusing c = ran (c .before .before .before)
+
+-- it has accepted
+abbrev accepting : tie.After-known-told2 → tie.After-run
+accepting c = ran (c .before .before .before)
+
+-- the elimination has answered
+abbrev eliminating : tie.After-slice-known11 → tie.After-eliminate-after
+eliminating c = c .before .before .before .before
+
+abbrev handing : tie.After-slice-known11 → tie.After-known-told2
+handing c = eliminating c .before .before .before .before
+
+-- ---- what is handed on
+
+-- the start list has two words
+two-starts : (c : tie.After-known-told2) → 2 ≤ length (now (entry (accepting c) .args .starts))
+two-starts c =
+    let a = entry (accepting c) .args in
+    nodes (now (a .starts)) (now (a .neighbours)) (now (a .numbers)) (now (a .levels)) (now (a .passes)) (now (a .scratch)) (accepting c .run .ensures .0) (c .before .figures .given .1)
+
+-- the numbers and the scratch that the run leaves have n words
+enough : (c : tie.After-known-told2)
+    → let n = sizeOf (now (entry (accepting c) .args .starts)) in (n ≤ length (accepting c .run .last .1 .1 .0)) × (n ≤ length (accepting c .run .last .1 .1 .1 .1 .1 .0))
+enough c =
+    let a = entry (accepting c) .args in
+    let v = accepting c .run in
+    let r = room (now (a .starts)) (now (a .neighbours)) (now (a .numbers)) (now (a .levels)) (now (a .passes)) (now (a .scratch)) (v .ensures .0) (c .before .figures .given .1) in
+    (omega (arith, r .0, v .kept .1 .1 .0), omega (arith, r .2, v .kept .1 .1 .1 .1 .1 .0))
+
 sub-n : tie.Need-sub-n
-sub-n c =
-    let a = c .before .before .before .before .before .before .before .before .before .before .before .before .before .before .before .before .before .before .before .args in
-    let v = c .before .before .before .before .before .before .before .before .before .run in
-    omega (arith, nodes (now (a .starts)) (now (a .neighbours)) (now (a .numbers)) (now (a .levels)) (now (a .scratch)) (v .ensures .0) (c .before .figures .given .1))
+sub-n c = omega (arith, two-starts c)
 
--- src/lib.rt:94:17
 slice-reshare-prefix-eliminate-after : tie.Need-slice-reshare-prefix-eliminate-after
-slice-reshare-prefix-eliminate-after c =
-    let a = c .before .before .before .before .before .before .before .before .before .before .before .before .before .before .before .before .before .before .before .args in
-    let v = c .before .before .before .before .before .before .before .before .before .run in
-    omega (arith, room (now (a .starts)) (now (a .neighbours)) (now (a .numbers)) (now (a .levels)) (now (a .scratch)) (v .ensures .0) (c .before .figures .given .1), v .kept .1 .1 .0, v .kept .1 .1 .1 .0)
+slice-reshare-prefix-eliminate-after c = omega (arith, enough c .0)
 
--- src/lib.rt:94:17
 slice-aggregate-eliminate-after : tie.Need-slice-aggregate-eliminate-after
-slice-aggregate-eliminate-after c =
-    let a = c .before .before .before .before .before .before .before .before .before .before .before .before .before .before .before .before .before .before .before .before .args in
-    let v = c .before .before .before .before .before .before .before .before .before .before .run in
-    sym (length-take-le (sizeOf (now (a .starts))) _ (omega (arith, room (now (a .starts)) (now (a .neighbours)) (now (a .numbers)) (now (a .levels)) (now (a .scratch)) (v .ensures .0) (c .before .before .figures .given .1), v .kept .1 .1 .0, v .kept .1 .1 .1 .0)))
+slice-aggregate-eliminate-after c = sym (length-take-le (sizeOf (now (entry (accepting (c .before)) .args .starts))) _ (enough (c .before) .0))
 
--- src/lib.rt:95:17
 slice-relend-prefix-eliminate-after : tie.Need-slice-relend-prefix-eliminate-after
-slice-relend-prefix-eliminate-after c =
-    let a = c .before .before .before .before .before .before .before .before .before .before .before .before .before .before .before .before .before .before .before .before .args in
-    let v = c .before .before .before .before .before .before .before .before .before .before .run in
-    omega (arith, room (now (a .starts)) (now (a .neighbours)) (now (a .numbers)) (now (a .levels)) (now (a .scratch)) (v .ensures .0) (c .before .before .figures .given .1) .2, v .kept .1 .1 .1 .1 .0)
+slice-relend-prefix-eliminate-after c = omega (arith, enough (c .before) .1)
 
--- src/lib.rt:95:17
 slice-aggregate-eliminate-after-2 : tie.Need-slice-aggregate-eliminate-after-2
 slice-aggregate-eliminate-after-2 c =
-    let a = c .before .before .before .before .before .before .before .before .before .before .before .before .before .before .before .before .before .before .before .before .before .args in
-    let v = c .before .before .before .before .before .before .before .before .before .before .before .run in
-    sym (length-take-le (sizeOf (now (a .starts))) _ (omega (arith, room (now (a .starts)) (now (a .neighbours)) (now (a .numbers)) (now (a .levels)) (now (a .scratch)) (v .ensures .0) (c .before .before .before .figures .given .1) .2, v .kept .1 .1 .1 .1 .0)))
+    sym (length-take-le (sizeOf (now (entry (accepting (c .before .before)) .args .starts))) _ (enough (c .before .before) .1))
 
--- src/lib.rt:90:13
-eliminate-after-requires : tie.Need-eliminate-after-requires
-eliminate-after-requires c κs = search needs
+-- ---- the two ends
 
--- src/lib.rt:71:1
-same-length : tie.Need-same-length
-same-length c = search needs
-
--- src/lib.rt:71:1
-same-length-2 : tie.Need-same-length-2
-same-length-2 c = search needs
-
--- src/lib.rt:71:1
-same-length-3 : tie.Need-same-length-3
-same-length-3 c = search needs
-
--- src/lib.rt:71:1
 returns : tie.Need-returns
 returns c =
-    let a = c .before .before .before .before .before .before .before .before .before .before .before .before .before .before .before .before .before .before .before .args in
-    let v = c .before .before .before .before .before .before .before .before .before .run in
+    let a = entry (refusing c) .args in
+    let v = refusing c .run in
     let q = v .ensures .1 in
-    let R = run-refused (now (a .starts)) (now (a .neighbours)) (now (a .numbers)) (now (a .levels)) (now (a .scratch)) (now (a .bytes)) _ _ _ (q .0) (q .1 .1 .0) (v .ensures .0) (c .before .c .given .1) in
-    (R .answer, (q .0, (q .1 .0, (q .1 .1 .0, (R .bytes, R .claimed)))))
+    let R = run-refused (now (a .starts)) (now (a .neighbours)) (now (a .numbers)) (now (a .levels)) (now (a .passes)) (now (a .scratch)) (now (a .bytes)) _ _ _ (q .0) (q .1 .1 .1 .0) (v .ensures .0) (c .before .c .given .1) in
+    (R .answer, (q .0, (q .1 .0, (q .1 .1 .0, (q .1 .1 .1 .0, (R .bytes, R .claimed))))))
 
--- src/lib.rt:71:1
-same-length-4 : tie.Need-same-length-4
-same-length-4 c = search needs
-
--- src/lib.rt:71:1
-same-length-5 : tie.Need-same-length-5
-same-length-5 c = search needs
-
--- src/lib.rt:71:1
-same-length-6 : tie.Need-same-length-6
-same-length-6 c = search needs
-
--- src/lib.rt:71:1
-same-length-7 : tie.Need-same-length-7
-same-length-7 c = search needs
-
--- src/lib.rt:71:1
 returns-2 : tie.Need-returns-2
 returns-2 c =
-    let a = c .before .before .before .before .before .before .before .before .before .before .before .before .before .before .before .before .before .before .before .before .before .before .before .before .before .before .before .args in
-    let v = c .before .before .before .before .before .before .before .before .before .before .before .before .before .before .before .before .before .run in
+    let k = handing c in
+    let a = entry (accepting k) .args in
+    let v = accepting k .run in
     let q = v .ensures .1 in
-    let w = c .before .before .before .before .eliminate-after .ensures in
-    let h = c .before .before .before .before .before .before .before .before .before .figures .given .1 in
-    let R = run-passed (now (a .starts)) (now (a .neighbours)) (now (a .numbers)) (now (a .levels)) (now (a .scratch)) (now (a .bytes)) _ _ _ (q .0) (q .1 .1 .0) (v .ensures .0) h (q .1 .1 .1) (w .0) (w .1 .1) in
-    let C = scratch-stays (now (a .starts)) (now (a .neighbours)) (now (a .numbers)) (now (a .levels)) (now (a .scratch)) (now (a .bytes)) _ (now (a .levels)) _ (q .0) (q .1 .1 .0) (v .ensures .0) h (w .1 .0) in
-    (R .answer, (q .0, (q .1 .0, (C, (R .bytes, R .claimed)))))
+    let w = eliminating c .eliminate-after .ensures in
+    let h = k .before .figures .given .1 in
+    let R = run-passed (now (a .starts)) (now (a .neighbours)) (now (a .numbers)) (now (a .levels)) (now (a .passes)) (now (a .scratch)) (now (a .bytes)) _ _ _ (q .0) (q .1 .1 .1 .0) (v .ensures .0) h (q .1 .1 .1 .1) (w .0) (w .1 .1) in
+    let C = scratch-stays (now (a .starts)) (now (a .neighbours)) (now (a .numbers)) (now (a .levels)) (now (a .passes)) (now (a .scratch)) (now (a .bytes)) _ (now (a .levels)) _ (q .0) (q .1 .1 .1 .0) (v .ensures .0) h (w .1 .0) in
+    (R .answer, (q .0, (q .1 .0, (q .1 .1 .0, (C, (R .bytes, R .claimed))))))
 
 pub run-eliminate-spec : {M : Type 1} → statement M
 run-eliminate-spec =
     tie.close
     (tie.spec
-    run-requires
-    enum-known-c
-    enum-known-figures
+    (λ c κs. search needs)
+    (λ c. search needs)
+    (λ c. search needs)
     sub-n
     slice-reshare-prefix-eliminate-after
     slice-aggregate-eliminate-after
     slice-relend-prefix-eliminate-after
     slice-aggregate-eliminate-after-2
-    eliminate-after-requires
-    same-length
-    same-length-2
-    same-length-3
+    (λ c κs. search needs)
+    (λ c. search needs)
+    (λ c. search needs)
+    (λ c. search needs)
+    (λ c. search needs)
     returns
-    same-length-4
-    same-length-5
-    same-length-6
-    same-length-7
+    (λ c. search needs)
+    (λ c. search needs)
+    (λ c. search needs)
+    (λ c. search needs)
+    (λ c. search needs)
     returns-2)
