@@ -15,7 +15,7 @@ use Rattle.capi_figures.specs.Claimed.{ClaimedC}
 
 -- the run's list of figures, of width w
 abbrev figured : ℕ → List ℕ
-figured w = 3 ∷ 1 ∷ 1 ∷ 2 ∷ 2 ∷ 3 ∷ w ∷ 1 ∷ []
+figured w = 3 ∷ 1 ∷ 1 ∷ 2 ∷ 2 ∷ 3 ∷ w ∷ []
 
 abbrev X : List ℕ
 X = 1 ∷ 2 ∷ 3 ∷ []

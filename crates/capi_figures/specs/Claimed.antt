@@ -28,7 +28,6 @@ figuresIn P = record {
   front = getD P 4 0;
   levels = getD P 5 0;
   width = getD P 6 0;
-  passes = getD P 7 0;
 }
 
 pub record ClaimedC (S N P X L C B Q : List ℕ) (answer : ℕ) (Q′ B′ : List ℕ) : Type 0 where

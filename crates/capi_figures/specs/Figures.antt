@@ -66,9 +66,9 @@ directionNumber Reversed = 1
 abbrev pub reportList : PartReport → List ℕ
 reportList r = r .v ∷ r .u ∷ r .k ∷ r .width ∷ r .passes ∷ directionNumber (r .direction) ∷ []
 
--- "the eight figures of the program's first line"
+-- "both return seven figures" (document 02, A.9): those of the program's first line without the passes
 abbrev pub runList : Figures → List ℕ
-runList f = f .nodes ∷ f .parts ∷ f .bandwidth ∷ f .profile ∷ f .front ∷ f .levels ∷ f .width ∷ f .passes ∷ []
+runList f = f .nodes ∷ f .parts ∷ f .bandwidth ∷ f .profile ∷ f .front ∷ f .levels ∷ f .width ∷ []
 
 -- "elimination its two counts"
 abbrev pub eliminationList : EliminationFigures → List ℕ

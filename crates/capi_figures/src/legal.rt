@@ -131,9 +131,9 @@ pub fn put_report(answer: ReportAnswer, list: &mut [u64]) -> u16
     }
 }
 
-// The whole run: nodes, parts, bandwidth, profile, front, levels, width, passes.
+// The whole run: nodes, parts, bandwidth, profile, front, levels, width.
 pub fn put_run(answer: RunAnswer, list: &mut [u64]) -> u16
-    requires { ⌜ 8 ≤ length (now list) ⌝ }
+    requires { ⌜ 7 ≤ length (now list) ⌝ }
     ensures { λ r. ⌜ r ≡ number (runMeaning answer) ⌝ }
     ensures { λ _. ⌜ left list ≡ written runList (runMeaning answer) (was list) ⌝ }
 {
@@ -148,7 +148,6 @@ pub fn put_run(answer: RunAnswer, list: &mut [u64]) -> u16
                 count(f.front),
                 count(f.levels),
                 word(f.width),
-                count(f.passes),
             ],
             list,
         ),
