@@ -53,16 +53,16 @@ module _ (Q : List ℕ) (c : ℕ) (a : EliminationFigures) where
 
 -- ---- the two calls
 
--- the run: lists S and N, numbers X₀, levels L₀, scratch W and figures P₀ are lent; it answered 0 and left P, X and L
-module _ (S N X₀ L₀ W P₀ P X L : List ℕ) {r : ℕ} (run-answers : r ≡ answerC 8 P₀ (graphRefusal S N) (runAnswer S N X₀ L₀ W)) (run-figures : P ≡ figuresC 8 P₀ runList (runAnswer S N X₀ L₀ W)) (run-numbers : X ≡ lentC 8 P₀ X₀ (runNumbers S N X₀ L₀ W)) (run-levels : L ≡ lentC 8 P₀ L₀ (runLevels S N X₀ L₀ W)) (accepts : r ≡ 0) where
+-- the run: lists S and N, numbers X₀, levels L₀, passes T₀, scratch W and figures P₀ are lent; it answered 0 and left P, X and L
+module _ (S N X₀ L₀ T₀ W P₀ P X L : List ℕ) {r : ℕ} (run-answers : r ≡ answerC 7 P₀ (graphRefusal S N) (runAnswer S N X₀ L₀ T₀ W)) (run-figures : P ≡ figuresC 7 P₀ runList (runAnswer S N X₀ L₀ T₀ W)) (run-numbers : X ≡ lentC 7 P₀ X₀ (runNumbers S N X₀ L₀ T₀ W)) (run-levels : L ≡ lentC 7 P₀ L₀ (runLevels S N X₀ L₀ T₀ W)) (accepts : r ≡ 0) where
   abbrev F : Figures
   F = run (graphOf S N) .figures
 
-  passed : (short P₀ 8 ≡ false) × (runRefusal S N X₀ L₀ W ≡ 0)
+  passed : (short P₀ 7 ≡ false) × (runRefusal S N X₀ L₀ T₀ W ≡ 0)
   unfolding runAnswer
-  passed = zero-answer 8 P₀ (graphRefusal S N) (runRefusal S N X₀ L₀ W) F (sym run-answers ∙ accepts)
+  passed = zero-answer 7 P₀ (graphRefusal S N) (runRefusal S N X₀ L₀ T₀ W) F (sym run-answers ∙ accepts)
 
-  answer-is : runAnswer S N X₀ L₀ W ≡ accepted F
+  answer-is : runAnswer S N X₀ L₀ T₀ W ≡ accepted F
   unfolding runAnswer outcome
   answer-is = rw (passed .1)
 
@@ -72,7 +72,7 @@ module _ (S N X₀ L₀ W P₀ P X L : List ℕ) {r : ℕ} (run-answers : r ≡ 
 
   run-claim : Claim S N (figuresIn P) (take (sizeOf S) X) (take (sizeOf S) L)
   unfolding lentC
-  run-claim = rw (figures-are, run-numbers, run-levels, passed .0) (claim S N X₀ L₀ W F answer-is)
+  run-claim = rw (figures-are, run-numbers, run-levels, passed .0) (claim S N X₀ L₀ T₀ W F answer-is)
 
   abbrev Y : List ℕ
   Y = take (sizeOf S) X

@@ -1,7 +1,7 @@
 // The calls of the library of numberings.
 ghost use mathlib.Core.Path.{_≡_};
 ghost use Rattle.basis.specs.Moments.{was, left};
-ghost use Rattle.spec.specs.CallsNumbering.{measuresAnswer, measuresScratch, reportAnswer, reportScratch, runAnswer, runNumbers, runLevels, runScratch};
+ghost use Rattle.spec.specs.CallsNumbering.{measuresAnswer, measuresScratch, reportAnswer, reportScratch, runAnswer, runNumbers, runLevels, runPasses, runScratch};
 ghost use Rattle.spec.specs.Graph.{graphRefusal};
 ghost use Rattle.capi_figures.specs.Figures.{answerC, lentC, figuresC, measuresList, reportList, runList};
 use crate::lists::lists_refusal;
@@ -54,27 +54,29 @@ pub extern "C" fn wagonepoch_part_report(
     )
 }
 
-// The whole run. Figures: nodes, parts, bandwidth, profile, front, levels, width, passes.
+// The whole run. Figures: nodes, parts, bandwidth, profile, front, levels, width.
 #[no_mangle]
 pub extern "C" fn wagonepoch_run(
     starts: &[u16],
     neighbours: &[u16],
     numbers: &mut [u16],
     levels: &mut [u16],
+    passes: &mut [u16],
     scratch: &mut [u16],
     figures: &mut [u64],
 ) -> u16
-    ensures { λ r. ⌜ r ≡ answerC 8 (was figures) (graphRefusal (was starts) (was neighbours)) (runAnswer (was starts) (was neighbours) (was numbers) (was levels) (was scratch)) ⌝ }
-    ensures { λ _. ⌜ left figures ≡ figuresC 8 (was figures) runList (runAnswer (was starts) (was neighbours) (was numbers) (was levels) (was scratch)) ⌝ }
-    ensures { λ _. ⌜ left numbers ≡ lentC 8 (was figures) (was numbers) (runNumbers (was starts) (was neighbours) (was numbers) (was levels) (was scratch)) ⌝ }
-    ensures { λ _. ⌜ left levels ≡ lentC 8 (was figures) (was levels) (runLevels (was starts) (was neighbours) (was numbers) (was levels) (was scratch)) ⌝ }
-    ensures { λ _. ⌜ left scratch ≡ lentC 8 (was figures) (was scratch) (runScratch (was starts) (was neighbours) (was numbers) (was levels) (was scratch)) ⌝ }
+    ensures { λ r. ⌜ r ≡ answerC 7 (was figures) (graphRefusal (was starts) (was neighbours)) (runAnswer (was starts) (was neighbours) (was numbers) (was levels) (was passes) (was scratch)) ⌝ }
+    ensures { λ _. ⌜ left figures ≡ figuresC 7 (was figures) runList (runAnswer (was starts) (was neighbours) (was numbers) (was levels) (was passes) (was scratch)) ⌝ }
+    ensures { λ _. ⌜ left numbers ≡ lentC 7 (was figures) (was numbers) (runNumbers (was starts) (was neighbours) (was numbers) (was levels) (was passes) (was scratch)) ⌝ }
+    ensures { λ _. ⌜ left levels ≡ lentC 7 (was figures) (was levels) (runLevels (was starts) (was neighbours) (was numbers) (was levels) (was passes) (was scratch)) ⌝ }
+    ensures { λ _. ⌜ left passes ≡ lentC 7 (was figures) (was passes) (runPasses (was starts) (was neighbours) (was numbers) (was levels) (was passes) (was scratch)) ⌝ }
+    ensures { λ _. ⌜ left scratch ≡ lentC 7 (was figures) (was scratch) (runScratch (was starts) (was neighbours) (was numbers) (was levels) (was passes) (was scratch)) ⌝ }
 {
-    if figures.len() < 8 {
+    if figures.len() < 7 {
         return or_five(lists_refusal(starts, neighbours));
     }
     put_run(
-        numbering::run(starts, neighbours, numbers, levels, scratch),
+        numbering::run(starts, neighbours, numbers, levels, passes, scratch),
         figures,
     )
 }
