@@ -123,7 +123,7 @@ pub(crate) fn measures(starts: &[u16], neighbours: &[u16], numbering: &[u16], sc
     }
 }
 
-// The eight figures of a run.
+// The seven figures of a run.
 fn run_figures(f: RunFigures) {
     accepted(
         &[
@@ -134,7 +134,6 @@ fn run_figures(f: RunFigures) {
             f.front as u64,
             f.levels as u64,
             f.width as u64,
-            f.passes as u64,
         ],
     );
 }
@@ -144,9 +143,10 @@ pub(crate) fn whole_run(
     neighbours: &[u16],
     numbers: &mut [u16],
     levels: &mut [u16],
+    passes: &mut [u16],
     scratch: &mut [u16],
 ) {
-    match numbering::run(starts, neighbours, numbers, levels, scratch) {
+    match numbering::run(starts, neighbours, numbers, levels, passes, scratch) {
         RunAnswer::Refused(number) => refused(number),
         RunAnswer::Numbered(f) => run_figures(f),
     }
@@ -175,10 +175,11 @@ pub(crate) fn run_eliminate(
     neighbours: &[u16],
     numbers: &mut [u16],
     levels: &mut [u16],
+    passes: &mut [u16],
     scratch: &mut [u16],
     bytes: &mut [u8],
 ) {
-    match store::run_eliminate(starts, neighbours, numbers, levels, scratch, bytes) {
+    match store::run_eliminate(starts, neighbours, numbers, levels, passes, scratch, bytes) {
         RunElimination::Refused(number) => refused(number),
         RunElimination::RunOnly { figures, refusal } => {
             run_figures(figures);

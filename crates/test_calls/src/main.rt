@@ -1,7 +1,7 @@
 // Runs the entry points on cases from standard input and writes a line for each: the answer, and the end contents of what was lent. The cases
 // and the expected lines come from an independent program: tests/vectors/entry_points.py.
 //
-// A case: the call's number; three given lists (starts, neighbours, and a numbering or elements); a given node, or n; the lengths of three
+// A case: the call's number; three given lists (starts, neighbours, and a numbering or elements); a given node, or n; the lengths of four
 // lent lists and of the lent bytes. A call leaves alone what it doesn't need.
 mod calls;
 
@@ -15,6 +15,7 @@ fn run(
     first: &mut [u16],
     second: &mut [u16],
     third: &mut [u16],
+    fourth: &mut [u16],
     bytes: &mut [u8],
 ) {
     match call {
@@ -25,8 +26,8 @@ fn run(
         5 => calls::eliminate(starts, neighbours, given, first, bytes),
         6 => calls::mesh(node, given, first, second, third),
         7 => calls::combined(starts, neighbours, node, first, second),
-        8 => calls::whole_run(starts, neighbours, first, second, third),
-        9 => calls::run_eliminate(starts, neighbours, first, second, third, bytes),
+        8 => calls::whole_run(starts, neighbours, first, second, third, fourth),
+        9 => calls::run_eliminate(starts, neighbours, first, second, third, fourth, bytes),
         10 => calls::part_report(starts, neighbours, node, first),
         _ => {}
     }
@@ -42,6 +43,7 @@ fn answer(
     first: &mut [u16],
     second: &mut [u16],
     third: &mut [u16],
+    fourth: &mut [u16],
     bytes: &mut [u8],
 ) {
     run(
@@ -53,11 +55,13 @@ fn answer(
         first,
         second,
         third,
+        fourth,
         bytes,
     );
     test_vectors::show(first);
     test_vectors::show(second);
     test_vectors::show(third);
+    test_vectors::show(fourth);
     test_vectors::show_bytes(bytes);
     test_vectors::end_line();
 }
@@ -71,13 +75,15 @@ fn lend(
     first: &mut [u16],
     second: &mut [u16],
     third: &mut [u16],
+    fourth: &mut [u16],
     bytes: &mut [u8],
 ) {
     let node = test_vectors::number();
     let a = test_vectors::lend(first);
     let b = test_vectors::lend(second);
     let c = test_vectors::lend(third);
-    let d = test_vectors::lend_bytes(bytes);
+    let d = test_vectors::lend(fourth);
+    let e = test_vectors::lend_bytes(bytes);
     answer(
         call,
         starts,
@@ -87,7 +93,8 @@ fn lend(
         &mut first[..a],
         &mut second[..b],
         &mut third[..c],
-        &mut bytes[..d],
+        &mut fourth[..d],
+        &mut bytes[..e],
     );
 }
 
@@ -99,6 +106,7 @@ fn one(
     first: &mut [u16],
     second: &mut [u16],
     third: &mut [u16],
+    fourth: &mut [u16],
     bytes: &mut [u8],
 ) -> bool {
     let call = test_vectors::number();
@@ -116,6 +124,7 @@ fn one(
         first,
         second,
         third,
+        fourth,
         bytes,
     );
     true
@@ -128,9 +137,19 @@ fn another(
     first: &mut [u16; 33000],
     second: &mut [u16; 33000],
     third: &mut [u16; 33000],
+    fourth: &mut [u16; 33000],
     bytes: &mut [u8; 40000],
 ) -> bool {
-    one(starts, neighbours, given, first, second, third, bytes)
+    one(
+        starts,
+        neighbours,
+        given,
+        first,
+        second,
+        third,
+        fourth,
+        bytes,
+    )
 }
 
 // A proved loop has to end, and nothing says that the input does: so the cases are counted down.
@@ -141,6 +160,7 @@ fn main() {
     let mut first = [0u16; 33000];
     let mut second = [0u16; 33000];
     let mut third = [0u16; 33000];
+    let mut fourth = [0u16; 33000];
     let mut bytes = [0u8; 40000];
     let mut left: usize = 100000000;
     while 0 < left
@@ -151,6 +171,7 @@ fn main() {
             &mut first,
             &mut second,
             &mut third,
+            &mut fourth,
             &mut bytes,
         )
     {
