@@ -53,30 +53,38 @@ two-starts c =
     let a = entry (accepting c) .args in
     nodes (now (a .starts)) (now (a .neighbours)) (now (a .numbers)) (now (a .levels)) (now (a .passes)) (now (a .scratch)) (accepting c .run .ensures .0) (c .before .figures .given .1)
 
--- the numbers and the scratch that the run leaves have n words
-enough : (c : tie.After-known-told2)
-    → let n = sizeOf (now (entry (accepting c) .args .starts)) in (n ≤ length (accepting c .run .last .1 .1 .0)) × (n ≤ length (accepting c .run .last .1 .1 .1 .1 .1 .0))
+-- what the run leaves has n words
+record Enough (c : tie.After-known-told2) : Type 0 where
+  numbers : sizeOf (now (entry (accepting c) .args .starts)) ≤ length (accepting c .run .last .1 .1 .0)
+  -- so that the levels handed on in their place are refused by the claim, not by their length
+  levels : sizeOf (now (entry (accepting c) .args .starts)) ≤ length (accepting c .run .last .1 .1 .1 .0)
+  scratch : sizeOf (now (entry (accepting c) .args .starts)) ≤ length (accepting c .run .last .1 .1 .1 .1 .1 .0)
+
+enough : (c : tie.After-known-told2) → Enough c
 enough c =
     let a = entry (accepting c) .args in
     let v = accepting c .run in
     let r = room (now (a .starts)) (now (a .neighbours)) (now (a .numbers)) (now (a .levels)) (now (a .passes)) (now (a .scratch)) (v .ensures .0) (c .before .figures .given .1) in
-    (omega (arith, r .0, v .kept .1 .1 .0), omega (arith, r .2, v .kept .1 .1 .1 .1 .1 .0))
+    record { numbers = omega (arith, r .0, v .kept .1 .1 .0); levels = omega (arith, r .1, v .kept .1 .1 .1 .0); scratch = omega (arith, r .2, v .kept .1 .1 .1 .1 .1 .0) }
 
 sub-n : tie.Need-sub-n
 sub-n c = omega (arith, two-starts c)
 
 slice-reshare-prefix-eliminate-after : tie.Need-slice-reshare-prefix-eliminate-after
-slice-reshare-prefix-eliminate-after c = omega (arith, enough c .0)
+slice-reshare-prefix-eliminate-after c = omega (arith, enough c .numbers, enough c .levels)
 
 slice-aggregate-eliminate-after : tie.Need-slice-aggregate-eliminate-after
-slice-aggregate-eliminate-after c = sym (length-take-le (sizeOf (now (entry (accepting (c .before)) .args .starts))) _ (enough (c .before) .0))
+slice-aggregate-eliminate-after c =
+    let k = c .before in
+    sym (length-take-le (sizeOf (now (entry (accepting k) .args .starts))) _ (omega (arith, enough k .numbers, enough k .levels)))
 
 slice-relend-prefix-eliminate-after : tie.Need-slice-relend-prefix-eliminate-after
-slice-relend-prefix-eliminate-after c = omega (arith, enough (c .before) .1)
+slice-relend-prefix-eliminate-after c = omega (arith, enough (c .before) .scratch)
 
 slice-aggregate-eliminate-after-2 : tie.Need-slice-aggregate-eliminate-after-2
 slice-aggregate-eliminate-after-2 c =
-    sym (length-take-le (sizeOf (now (entry (accepting (c .before .before)) .args .starts))) _ (enough (c .before .before) .1))
+    let k = c .before .before in
+    sym (length-take-le (sizeOf (now (entry (accepting k) .args .starts))) _ (enough k .scratch))
 
 -- ---- the two ends
 
