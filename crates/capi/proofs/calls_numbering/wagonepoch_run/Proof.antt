@@ -46,12 +46,15 @@ start k = lists k .before .before
 abbrev long : tie.After-run → tie.Else1
 long r = r .before .before .before .before .before
 
-abbrev left : tie.After-put-run → tie.After-passes
-left p = p .before .before .before .before .before
+abbrev left : tie.After-put-run → tie.After-slice-known8
+left p = p .before .before .before .before
+
+abbrev first-left : tie.After-slice-known8 → tie.After-slice-known6
+first-left k = k .before .before .before .before
 
 -- the library has answered
 abbrev answered : tie.After-put-run → tie.After-run
-answered p = left p .before .before .before .before .before
+answered p = first-left (left p) .before .before
 
 -- ---- the two ends
 
