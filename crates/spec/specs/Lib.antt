@@ -10,8 +10,10 @@ pub mod Mesh
 pub mod Text
 pub mod File
 pub mod Lent
+pub mod Cuthill
 pub mod CallsLevels
 pub mod CallsNumbering
+pub mod CallsCuthill
 pub mod CallsStore
 pub mod CallsMesh
 pub mod Claim

@@ -1,0 +1,35 @@
+-- The call of document 02's A.3, Reverse Cuthill-McKee: "a further call with the run's buffers and figures". It refuses as the run does.
+-- Assumes nothing.
+use Prim.Native.Nat.{ℕ}
+use mathlib.Core.List.{List}
+use Rattle.spec.specs.Lent.{Outcome, outcome, filled}
+use Rattle.spec.specs.Graph.{graphOf}
+use Rattle.spec.specs.Numbering.{Figures}
+use Rattle.spec.specs.Cuthill.{cuthillRun}
+use Rattle.spec.specs.CallsNumbering.{runRefusal, runScratch}
+
+-- numbers n, levels n, passes n and scratch 6n are lent
+module _ (starts neighbours numbersBuffer levelsBuffer passesBuffer scratch : List ℕ) where
+  -- 1 to 4, then 5 for any of the four buffers
+  unfoldable pub cuthillRefusal : ℕ
+  cuthillRefusal = runRefusal starts neighbours numbersBuffer levelsBuffer passesBuffer scratch
+
+  -- what the call answers: the run's seven figures
+  unfoldable pub cuthillAnswer : Outcome Figures
+  cuthillAnswer = outcome cuthillRefusal (cuthillRun (graphOf starts neighbours) .figures)
+
+  -- the numbers afterwards, by old number
+  unfoldable pub cuthillNumbers : List ℕ
+  cuthillNumbers = filled cuthillRefusal (cuthillRun (graphOf starts neighbours) .numbers) numbersBuffer
+
+  -- the levels afterwards, by old number: "Levels are those rooted at v"
+  unfoldable pub cuthillLevels : List ℕ
+  cuthillLevels = filled cuthillRefusal (cuthillRun (graphOf starts neighbours) .levels) levelsBuffer
+
+  -- the passes of each part afterwards, as A.9 has them
+  unfoldable pub cuthillPasses : List ℕ
+  cuthillPasses = filled cuthillRefusal (cuthillRun (graphOf starts neighbours) .passes) passesBuffer
+
+  -- the scratch afterwards
+  unfoldable pub cuthillScratch : List ℕ
+  cuthillScratch = runScratch starts neighbours numbersBuffer levelsBuffer passesBuffer scratch
