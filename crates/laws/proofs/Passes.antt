@@ -9,12 +9,12 @@ use Rattle.basis.specs.Lists.{joinAll, sum}
 use Rattle.basis.proofs.Count.{length-filter, count-length}
 use Rattle.basis.proofs.Index.{getD-map, getD-right, zeros-at, memb-getD}
 use Rattle.basis.proofs.Lists.{sum-append, sum-zeros}
-use Rattle.spec.specs.Claim.{depthOf}
 use Rattle.spec.specs.File.{figuresLine, nodeLine, listing, output, fileRefusal, fileGraph, programOutput}
 use Rattle.spec.specs.Graph.{Graph, nodes}
 use Rattle.spec.specs.Levels.{leads, leaders}
-use Rattle.spec.specs.Numbering.{PartResult, partResultBy, partResult, partResults, partPasses, runOf, run}
+use Rattle.spec.specs.Numbering.{PartResult, partResults, partPasses, runOf, run}
 use Rattle.laws.specs.Legal.{LegalGraph}
+use Rattle.laws.specs.Results.{AllSound, wholeOf}
 use Rattle.laws.specs.Passes.{oneCount, outputBefore, programBefore}
 use Rattle.laws.proofs.Ends.{ends-of}
 use Rattle.laws.proofs.Legal.{length-nodes}
@@ -25,45 +25,50 @@ pub leaders-most : (g : Graph) → length (leaders g) ≤ g .size
 unfolding leaders
 leaders-most g = omega (arith, length-filter (leads g) (nodes g), count-length (leads g) (nodes g), length-nodes g)
 
--- the passes of the j-th part
-one-pass : (g : Graph) (j : ℕ) → j < length (leaders g) → getD (run g .passes) j 0 ≡ partResult g (getD (leaders g) j 0) .report .passes
-unfolding run runOf partPasses partResults
-one-pass g j h =
-    List·getD-append (map (λ r. r .report .passes) (map (partResult g) (leaders g))) (replicate (g .size - length (map (partResult g) (leaders g))) 0) 0 j
-    (omega (arith, length-map (map (partResult g) (leaders g)) (λ r. r .report .passes), length-map (leaders g) (partResult g)))
-    ∙ getD-map (λ r. r .report .passes) (map (partResult g) (leaders g)) j (partResult g 0) 0 (omega (arith, length-map (leaders g) (partResult g)))
-    ∙ ap (λ r. r .report .passes) (getD-map (partResult g) (leaders g) j 0 (partResult g 0) h)
+-- ---- of any results of the parts
 
--- the list has n words
-pub passes-length : (g : Graph) → length (run g .passes) ≡ g .size
-unfolding run runOf partPasses partResults
-passes-length g =
-    let rs : List PartResult = map (partResult g) (leaders g) in
-    omega (
-      arith,
-      length-append (map (λ r. r .report .passes) rs) (replicate (g .size - length rs) 0),
-      length-map rs (λ r. r .report .passes),
-      length-map (leaders g) (partResult g),
-      length-replicate {A = ℕ} (g .size - length rs) 0,
-      leaders-most g,
-    )
+module _ (g : Graph) (R : ℕ → PartResult) where
+  abbrev rs : List PartResult
+  rs = map R (leaders g)
 
--- "For every graph each count is at least 1 and at most its own part's depth"
-pub passes-within : {g : Graph} (G : LegalGraph g) (j : ℕ) → j < length (leaders g)
-    → (1 ≤ getD (run g .passes) j 0) × (getD (run g .passes) j 0 ≤ depthOf g (getD (leaders g) j 0))
-unfolding partResult partResultBy
-passes-within {g} G j h =
-    let E = ends-of G (leaders-in g (getD (leaders g) j 0) (memb-getD (leaders g) j h) .0) in
-    (omega (arith, one-pass g j h, E .some-pass), omega (arith, one-pass g j h, E .most-passes))
+  -- the passes of the j-th part
+  one-pass : (j : ℕ) → j < length (leaders g) → getD (wholeOf g R .passes) j 0 ≡ R (getD (leaders g) j 0) .report .passes
+  unfolding runOf partPasses
+  one-pass j h =
+      List·getD-append (map (λ r. r .report .passes) rs) (replicate (g .size - length rs) 0) 0 j
+      (omega (arith, length-map rs (λ r. r .report .passes), length-map (leaders g) R))
+      ∙ getD-map (λ r. r .report .passes) rs j (R 0) 0 (omega (arith, length-map (leaders g) R))
+      ∙ ap (λ r. r .report .passes) (getD-map R (leaders g) j 0 (R 0) h)
 
--- "zeros after the last part"
-pub passes-behind : (g : Graph) (j : ℕ) → length (leaders g) ≤ j → getD (run g .passes) j 0 ≡ 0
-unfolding run runOf partPasses partResults
-passes-behind g j h =
-    let rs : List PartResult = map (partResult g) (leaders g) in
-    getD-right 0 (map (λ r. r .report .passes) rs) (replicate (g .size - length rs) 0) j
-    (omega (arith, length-map rs (λ r. r .report .passes), length-map (leaders g) (partResult g)))
-    ∙ zeros-at (g .size - length rs) (j - length (map (λ r. r .report .passes) rs))
+  -- the list has n words
+  pub passes-length : length (wholeOf g R .passes) ≡ g .size
+  unfolding runOf partPasses
+  passes-length =
+      omega (
+        arith,
+        length-append (map (λ r. r .report .passes) rs) (replicate (g .size - length rs) 0),
+        length-map rs (λ r. r .report .passes),
+        length-map (leaders g) R,
+        length-replicate {A = ℕ} (g .size - length rs) 0,
+        leaders-most g,
+      )
+
+  -- "zeros after the last part"
+  pub passes-behind : (j : ℕ) → length (leaders g) ≤ j → getD (wholeOf g R .passes) j 0 ≡ 0
+  unfolding runOf partPasses
+  passes-behind j h =
+      getD-right 0 (map (λ r. r .report .passes) rs) (replicate (g .size - length rs) 0) j
+      (omega (arith, length-map rs (λ r. r .report .passes), length-map (leaders g) R))
+      ∙ zeros-at (g .size - length rs) (j - length (map (λ r. r .report .passes) rs))
+
+-- "For every graph each count is at least 1 and at most its own part's depth", of sound results: of the run and of A.3's call
+pub passes-within : {g : Graph} (G : LegalGraph g) (R : ℕ → PartResult) → AllSound g R → (j : ℕ) → j < length (leaders g)
+    → (1 ≤ getD (wholeOf g R .passes) j 0) × (getD (wholeOf g R .passes) j 0 ≤ R (getD (leaders g) j 0) .report .k)
+passes-within {g} G R ok j h =
+    let Z = leaders-in g (getD (leaders g) j 0) (memb-getD (leaders g) j h) .0 in
+    let E = ends-of G Z in
+    let r = ok .sound (getD (leaders g) j 0) Z in
+    (omega (arith, one-pass g R j h, r .passes, E .some-pass), omega (arith, one-pass g R j h, r .passes, r .depth, E .most-passes))
 
 -- ---- the sum
 

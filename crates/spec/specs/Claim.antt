@@ -14,7 +14,7 @@ use Rattle.spec.specs.Refusal.{refuse, _orElse_}
 use Rattle.spec.specs.Graph.{Graph, nodes, adjoins, ofNode, sizeOf, graphOf, graphRefusal}
 use Rattle.spec.specs.Levels.{part, leaders, Neighbouring}
 use Rattle.spec.specs.Measures.{isNumbering, renumbered, bandwidth, profile, front}
-use Rattle.spec.specs.Numbering.{Figures, partResult, run}
+use Rattle.spec.specs.Numbering.{Figures, PartResult, Run, partResult, run}
 use Rattle.spec.specs.Store.{Pair, hasPlace, place, joinedAfter, joined, markAt}
 use Rattle.spec.specs.Lent.{Outcome, outcome, accepted, short}
 use Rattle.spec.specs.CallsStore.{EliminationFigures, eliminationFigures, eliminationAnswer, eliminationBytes}
@@ -90,23 +90,24 @@ pub record StoreClaim (S N X : List ℕ) (size : ℕ) : Type 0 where
   pub marks : (C B : List ℕ) (e : EliminationFigures) → eliminationAnswer S N X C B ≡ accepted e → (t : ℕ) → t < 8 * ((size + 7) / 8)
       → (markAt (eliminationBytes S N X C B) t ≡ 1) ↔ JoinedPlace (renumbered (graphOf S N) X) t
 
--- ---- the numbering: S and N are the two lists, F the reported figures, X and L the first n words of numbers and levels as the run leaves them.
--- This is what the store rests on: "the numbering crate's stated permutation and levels".
+-- ---- the numbering: S and N are the two lists, F the reported figures, X and L the first n words of numbers and levels as the call leaves them.
+-- This is what the store rests on: "the numbering crate's stated permutation and levels". It is said once for every order of ours: `whole` is
+-- what the documents find of the graph, and `result` what they find of the part that a node leads.
 
-pub record Numbered (S N : List ℕ) (F : Figures) (X L : List ℕ) : Type 0 where
+pub record NumberedAs (whole : Run) (result : ℕ → PartResult) (S N : List ℕ) (F : Figures) (X L : List ℕ) : Type 0 where
   -- what the run accepts is a legal adjacency: none of 1 to 4 is due
   -- rules out: a run that numbers broken lists
   pub legal : graphRefusal S N ≡ 0
   -- "The levels, their greatest width w, the new numbers, the bandwidth and the profile that it reports are those document 01 defines."
   -- rules out: levels all equal to 1, old numbers handed straight back, an invented figure
-  pub figures : F ≡ run (graphOf S N) .figures
-  pub levels : L ≡ run (graphOf S N) .levels
-  pub numbers : X ≡ run (graphOf S N) .numbers
+  pub figures : F ≡ whole .figures
+  pub levels : L ≡ whole .levels
+  pub numbers : X ≡ whole .numbers
   -- a level for each node
   pub full : length L ≡ sizeOf S
   -- the levels are those of each part, "as they stand after any change of names"
   pub level-is : (z x : ℕ) → memb z (leaders (graphOf S N)) ≡ true → memb x (part (graphOf S N) z) ≡ true
-      → ofNode L x ≡ ofNode (partResult (graphOf S N) z .levels) x
+      → ofNode L x ≡ ofNode (result z .levels) x
   -- w "is the greatest level count of any part": no level has more, and one has as many
   pub width-most : (z i : ℕ) → IsLevel (graphOf S N) z i → countIn (graphOf S N) L z i ≤ F .width
   pub width-met : (z : ℕ) × (i : ℕ) × IsLevel (graphOf S N) z i × (countIn (graphOf S N) L z i ≡ F .width)
@@ -131,24 +132,36 @@ pub record Numbered (S N : List ℕ) (F : Figures) (X L : List ℕ) : Type 0 whe
   -- rules out: an order that does not go level by level
   pub band : F .bandwidth ≤ 2 * F .width - 1
 
+-- the run's
+abbrev pub Numbered : List ℕ → List ℕ → Figures → List ℕ → List ℕ → Type 0
+Numbered S N F X L = NumberedAs (run (graphOf S N)) (partResult (graphOf S N)) S N F X L
+
 -- ---- the claim: the same S, N, F, X and L
 
-pub record Claim (S N : List ℕ) (F : Figures) (X L : List ℕ) : Type 0 where
+pub record ClaimAs (whole : Run) (result : ℕ → PartResult) (S N : List ℕ) (F : Figures) (X L : List ℕ) : Type 0 where
   -- the sentences on levels, numbers and figures
-  pub numbered : Numbered S N F X L
+  pub numbered : NumberedAs whole result S N F X L
   -- the sentences on the store, the eliminations and the elimination call: "a store of exactly the reported profile"
   pub store : StoreClaim S N X (F .profile)
 
--- ---- the two calls, the run and then the elimination: F is what the run answered, X and L its numbers and levels at exit; scratch C and mark
+-- the run's: demand 3
+abbrev pub Claim : List ℕ → List ℕ → Figures → List ℕ → List ℕ → Type 0
+Claim S N F X L = ClaimAs (run (graphOf S N)) (partResult (graphOf S N)) S N F X L
+
+-- ---- the two calls, a numbering call and then the elimination: F is what the first answered, X and L its numbers and levels at exit; scratch C and mark
 -- bytes B are lent to the elimination, E is what it answered and B′ its bytes at exit. "The numbers handed on are the run's n, without the excess
 -- of a longer buffer, and nobody writes them or the two lists between the calls."
 
-pub record Claimed (S N : List ℕ) (F : Figures) (X L C B : List ℕ) (E : Outcome EliminationFigures) (B′ : List ℕ) : Type 0 where
+pub record ClaimedAs (whole : Run) (result : ℕ → PartResult) (S N : List ℕ) (F : Figures) (X L C B : List ℕ) (E : Outcome EliminationFigures) (B′ : List ℕ) : Type 0 where
   -- rules out: a run of which another run's figures are reported
-  pub claim : Claim S N F (take (sizeOf S) X) (take (sizeOf S) L)
+  pub claim : ClaimAs whole result S N F (take (sizeOf S) X) (take (sizeOf S) L)
   -- the elimination's answer is that for just these numbers
   -- rules out: an elimination handed the old numbers
   pub elimination : E ≡ eliminationAnswer S N (take (sizeOf S) X) C B
   -- and so are its bytes
   -- rules out: marks that another numbering has
   pub bytes : B′ ≡ eliminationBytes S N (take (sizeOf S) X) C B
+
+-- the run's: demand 3 of the two calls
+abbrev pub Claimed : List ℕ → List ℕ → Figures → List ℕ → List ℕ → List ℕ → List ℕ → Outcome EliminationFigures → List ℕ → Type 0
+Claimed S N F X L C B E B′ = ClaimedAs (run (graphOf S N)) (partResult (graphOf S N)) S N F X L C B E B′

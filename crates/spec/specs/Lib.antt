@@ -17,3 +17,4 @@ pub mod CallsCuthill
 pub mod CallsStore
 pub mod CallsMesh
 pub mod Claim
+pub mod ClaimCuthill

@@ -1,0 +1,36 @@
+-- What the laws of the whole ask of the result of a part, whichever order it is of. Assumes nothing.
+use mathlib.Core.Path.{_≡_}
+use mathlib.Core.Bool.{true}
+use mathlib.Core.List.{List, map}
+use Prim.Native.Nat.{ℕ, _*_}
+use Rattle.basis.specs.Lists.{memb}
+use Rattle.basis.specs.Perm.{Perm}
+use Rattle.spec.specs.Combined.{widthOf}
+use Rattle.spec.specs.Ends.{ends}
+use Rattle.spec.specs.Graph.{Graph}
+use Rattle.spec.specs.Levels.{part, leaders}
+use Rattle.spec.specs.Numbering.{PartResult, Run, runOf}
+use Rattle.laws.specs.Legal.{Node}
+use Rattle.laws.specs.Order.{Spans}
+use Rattle.laws.specs.Structure.{LevelStructure}
+
+-- its order is a permutation of the part in which no edge reaches twice its width; its levels are a level structure, as deep as the end search
+-- found the part; its passes are those of that search
+pub record Sound (g : Graph) (z : ℕ) (r : PartResult) : Type 0 where
+  pub perm : Perm (r .order) (part g z)
+  pub span : Spans g (r .order) (2 * r .report .width)
+  pub first : ℕ
+  pub last : ℕ
+  pub first-part : memb first (part g z) ≡ true
+  pub structure : LevelStructure g z (ends g z .k) first last (r .levels)
+  pub depth : r .report .k ≡ ends g z .k
+  pub width : r .report .width ≡ widthOf (ends g z .k) (r .levels)
+  pub passes : r .report .passes ≡ ends g z .passes
+
+-- the results of all parts are sound
+pub record AllSound (g : Graph) (R : ℕ → PartResult) : Type 0 where
+  pub sound : (z : ℕ) → Node g z → Sound g z (R z)
+
+-- the whole of these results
+abbrev pub wholeOf : Graph → (ℕ → PartResult) → Run
+wholeOf g R = runOf g (map R (leaders g))
