@@ -8,3 +8,5 @@ pub mod Buffers
 pub mod Wrong
 pub mod WrongStore
 pub mod WrongCalls
+pub mod CuthillTable
+pub mod WrongCuthill
