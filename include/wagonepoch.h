@@ -33,8 +33,9 @@
    words that it asks for are 0. A longer list keeps its excess. A refusal leaves every lent list as it was, but for the first n scratch words,
    which are 0 after 7, 8 and 11. Lent lists need not be cleared.
 
-   ONE CALL AFTER ANOTHER. wagonepoch_mesh makes the two lists, wagonepoch_run the numbers of their nodes, wagonepoch_eliminate the marks of the
-   store by both. That these go together holds as long as nobody writes the two lists or the numbers between the calls. */
+   ONE CALL AFTER ANOTHER. wagonepoch_mesh makes the two lists, wagonepoch_run or wagonepoch_reverse_cuthill_mckee the numbers of their nodes,
+   wagonepoch_eliminate the marks of the store by both. That these go together holds as long as nobody writes the two lists or the numbers between
+   the calls. */
 
 #ifndef WAGONEPOCH_H
 #define WAGONEPOCH_H
@@ -47,8 +48,8 @@ extern "C" {
 #endif
 
 /* The version, that of the file VERSION, as a text and as 10000 a + 100 b + c for a.b.c; CHANGES.md says what each of the three numbers means. */
-#define WAGONEPOCH_VERSION "1.4.0"
-#define WAGONEPOCH_VERSION_NUMBER 10400
+#define WAGONEPOCH_VERSION "1.5.0"
+#define WAGONEPOCH_VERSION_NUMBER 10500
 
 /* The most nodes and neighbour entries. */
 #define WAGONEPOCH_NODES 4096
@@ -61,6 +62,7 @@ extern "C" {
 #define WAGONEPOCH_MEASURES_FIGURES 3
 #define WAGONEPOCH_PART_REPORT_FIGURES 6
 #define WAGONEPOCH_RUN_FIGURES 7
+#define WAGONEPOCH_REVERSE_CUTHILL_MCKEE_FIGURES 7
 #define WAGONEPOCH_ELIMINATE_FIGURES 2
 #define WAGONEPOCH_MESH_FIGURES 1
 
@@ -144,15 +146,32 @@ uint16_t wagonepoch_run(const uint16_t *starts, size_t starts_len,
                         uint16_t *scratch, size_t scratch_len,
                         uint64_t *figures, size_t figures_len);
 
+/* Reverse Cuthill-McKee: every part in that order, for a solver that expects it. A part starts at the v of wagonepoch_ends. The neighbours of v
+   come next, then those of each of them in turn, and so on, every time the ones that have not come yet, by degree and then by node number. So
+   they come level by level of the levels rooted at v. Then every part is turned end for end: v has the highest number of its part.
+   Lent: as for wagonepoch_run: numbers n, levels n (the level of each node, rooted at the v of its part; levels are not turned, v has 1),
+   passes n, scratch 6n, figures 7.
+   Figures: as of wagonepoch_run: nodes, parts, bandwidth, profile, front, levels, width, of these numbers and of these levels. In a part with two
+   or more nodes the bandwidth is at least the greatest count w of nodes in one of its levels, and at most 2w - 1.
+   The n numbers are a numbering for wagonepoch_measures and wagonepoch_eliminate, as those of the run are.
+   Refusals: 1 to 5. */
+uint16_t wagonepoch_reverse_cuthill_mckee(const uint16_t *starts, size_t starts_len,
+                                          const uint16_t *neighbours, size_t neighbours_len,
+                                          uint16_t *numbers, size_t numbers_len,
+                                          uint16_t *levels, size_t levels_len,
+                                          uint16_t *passes, size_t passes_len,
+                                          uint16_t *scratch, size_t scratch_len,
+                                          uint64_t *figures, size_t figures_len);
+
 /* Elimination under a numbering, as for the measures: which places of the store are ever used.
    With f_q the least of q and the neighbours of q, by new numbers, the pair p < q with p >= f_q has place s_q + p - f_q, counted from 0, where
    s_q is the sum of r - f_r over r < q. Place t is bit t % 8, bit 0 the lowest, of byte t / 8: 1 if the pair is joined in the end, by an edge
    or by an elimination. Spare bits of the last byte used are 0.
    Lent: scratch n, bytes (profile + 7) / 8, figures 2.
    Figures: marks that are 1, newly joined pairs.
-   After a run, on the same two lists and with the run's n numbers as it left them, only a short list is refused: 5, or 8 where the bytes are
-   fewer than the run's profile asks for. The profile is then the run's fourth figure, and the scratch may be the run's. The numbers are read
-   and not written, so after 8 all that the run gave still stands, and this call can be made again with bytes enough.
+   After a run, or after wagonepoch_reverse_cuthill_mckee, on the same two lists and with its n numbers as it left them, only a short list is
+   refused: 5, or 8 where the bytes are fewer than its profile asks for. The profile is its fourth figure, and the scratch may be the same. The
+   numbers are read and not written, so after 8 all that it gave still stands, and this call can be made again with bytes enough.
    Refusals: 1 to 5, and 7 and 8, which leave the first n scratch words 0. */
 uint16_t wagonepoch_eliminate(const uint16_t *starts, size_t starts_len,
                               const uint16_t *neighbours, size_t neighbours_len,
