@@ -214,8 +214,10 @@ an element counts once, so the graph and the listing are those of the same plate
 `tools/README.md` says how a picture is made, and how meshes come from other formats.
 
 `c`, `fortran` and `rust` have callers of the library: `bracket` renumbers a mesh file, says how many passes the search for the ends of each part
-took and in which level, counted from the node with number 1, it is thickest, eliminates by the new numbers and opens the store. In `c`, `grd.c`
-reads such a file and makes its graph, refused as the program refuses it, and `renumber.c` prints its listing.
+took and in which level, counted from the node with number 1, it is thickest, eliminates by the new numbers and opens the store. It also says what
+reverse Cuthill-McKee would give. In `c`, `grd.c` reads such a file and makes its graph, refused as the program refuses it, `renumber.c` prints its
+listing, and `orders.c` prints both orders side by side: old number, number by the run, number by reverse Cuthill-McKee. For `bracket` and
+`encoder_plate` the two are the same; for `hub_sector` the second has bandwidth 148 and profile 39329.
 '''
 
 

@@ -1,8 +1,8 @@
 #!/usr/bin/env python3
 """The examples in C, Fortran and Rust: built over the static library, run on two meshes and on broken files, held to the independent program.
 
-`renumber` must print what the program prints for every file, so it is run on many. One without its compiler here is skipped, as 'skipped: no
-gfortran'. The library is built first where it is older than the crates.
+`renumber` must print what the program prints for every file, so it is run on many, and `orders` on a tenth of them. One without its compiler
+here is skipped, as 'skipped: no gfortran'. The library is built first where it is older than the crates.
 """
 
 import os
@@ -30,6 +30,7 @@ C_WORDS = '-std=c99 -Wall -Wextra -pedantic -Werror -O2 -Iinclude examples/c/{0}
 EXAMPLES = {
     'C': ('cc', C_WORDS.format('bracket', 'C')),
     'renumber': ('cc', C_WORDS.format('renumber', 'renumber')),
+    'orders': ('cc', C_WORDS.format('orders', 'orders')),
     'Fortran': ('gfortran', '-std=f2008 -Wall -Werror -fcheck=all -O2 -J {out} examples/fortran/wagonepoch.f90 examples/fortran/bracket.f90 '
                 + LIBRARY + ' -o {out}/Fortran'),
     'Rust': ('rustc', '--edition 2021 -D warnings -O -L target/staticlib -l static=capi examples/rust/bracket.rs -o {out}/Rust'),
@@ -42,26 +43,53 @@ def value(answer):
     return figures
 
 
+def lists_of(file):
+    """The two lists of the mesh in these bytes."""
+    n = nodes_of_file(file)
+    starts, neighbours = [0] * (n + 1), [0] * 32768
+    entries, = value(calls.mesh(n, words_after_header(file), starts, neighbours, [0] * n))
+    return starts, neighbours[:entries]
+
+
+def order(call, starts, neighbours):
+    """Its numbers, the passes of each part, and its figures."""
+    n = len(starts) - 1
+    numbers, passes = [0] * n, [0] * n
+    figures = value(call(starts, neighbours, numbers, [0] * n, passes, [0] * calls.scratch_words(n)))
+    return numbers, passes[:figures[1]], figures
+
+
+MEASURES = '{}: bandwidth {} profile {} front {}'
+
+
+def both_orders(file):
+    """What `orders` prints for the mesh in these bytes."""
+    lists = lists_of(file)
+    run, _, figures = order(calls.whole_run, *lists)
+    reverse, _, others = order(calls.reverse_cuthill_mckee, *lists)
+    lines = [MEASURES.format('run', *figures[2:5]), MEASURES.format('reverse Cuthill-McKee', *others[2:5])]
+    return '\n'.join(lines + ['%d %d %d' % row for row in zip(range(1, len(run) + 1), run, reverse)]) + '\n'
+
+
 def expected(file):
     """What the brackets print for the mesh in these bytes."""
-    n = nodes_of_file(file)
-    starts, neighbours, scratch = [0] * (n + 1), [0] * 32768, [0] * calls.scratch_words(n)
-    entries, = value(calls.mesh(n, words_after_header(file), starts, neighbours, scratch))
-    del neighbours[entries:]
-    numbers, levels, passes, sizes = [0] * n, [0] * n, [0] * n, [0] * n
+    starts, neighbours = lists_of(file)
+    n, entries = len(starts) - 1, len(neighbours)
+    scratch, levels, sizes = [0] * n, [0] * n, [0] * n
     before = value(calls.measures(starts, neighbours, list(range(1, n + 1)), scratch))
-    parts = value(calls.whole_run(starts, neighbours, numbers, levels, passes, scratch))[1]
+    numbers, passes, _ = order(calls.whole_run, starts, neighbours)
     after = value(calls.measures(starts, neighbours, numbers, scratch))
+    reverse = order(calls.reverse_cuthill_mckee, starts, neighbours)[2][2:5]
     root = numbers.index(1) + 1
     depth, width, _ = value(calls.rooted_levels(starts, neighbours, root, levels, sizes))
     profile = after[1]
     marks, new = value(calls.elimination(starts, neighbours, numbers, scratch, [0] * ((profile + 7) // 8)))
-    measures = '{}: bandwidth {} profile {} front {}'
     return '\n'.join([
         'mesh: nodes {} entries {}'.format(n, entries),
-        measures.format('before', *before),
-        measures.format('after', *after),
-        ' '.join(['passes:'] + [str(count) for count in passes[:parts]]),
+        MEASURES.format('before', *before),
+        MEASURES.format('after', *after),
+        MEASURES.format('reverse Cuthill-McKee', *reverse),
+        ' '.join(['passes:'] + [str(count) for count in passes]),
         'levels: root {} depth {} thickest {} nodes {}'.format(root, depth, sizes.index(width) + 1, width),
         'elimination: marked {} new {}'.format(marks, new),
         'store: places {} marked {} edges {}'.format(profile, marks, entries // 2),
@@ -81,7 +109,7 @@ def wrong(example, file, run):
     text = text_for(file).decode('ascii')
     refused = text.startswith('refused')
     if example != 'renumber' and not refused:
-        text = expected(file)
+        text = (both_orders if example == 'orders' else expected)(file)
     if example == 'C' and refused:
         text = 'mesh: ' + text
     if example in ('Fortran', 'Rust') and refused:
@@ -121,10 +149,10 @@ def try_example(example, files, out):
     return 'ok (%d files)' % len(files)
 
 
-def not_written(out):
-    """Whether `renumber` says by its status that its output could not be written."""
+def not_written(example, out):
+    """Whether the example says by its status that its output could not be written."""
     with open('/dev/full', 'wb') as device:
-        return subprocess.run([os.path.join(out, 'renumber')], stdout=device).returncode == 2
+        return subprocess.run([os.path.join(out, example)], stdout=device).returncode == 2
 
 
 def main():
@@ -137,9 +165,11 @@ def main():
     meshes.update(broken(meshes['bracket']))
     many = {'file %d (%s)' % (i, kind): file for i, (kind, file) in list(enumerate(all_files(), 1))[::STEP]}
     with tempfile.TemporaryDirectory() as out:
-        results = {example: try_example(example, dict(meshes, **many) if example == 'renumber' else meshes, out) for example in EXAMPLES}
-        if results['renumber'].startswith('ok') and os.path.exists('/dev/full') and not not_written(out):
-            results['renumber'] = 'FAILED: a full device'
+        more = {'renumber': many, 'orders': dict(list(many.items())[::10])}
+        results = {example: try_example(example, dict(meshes, **more.get(example, {})), out) for example in EXAMPLES}
+        for example in more if os.path.exists('/dev/full') else ():
+            if results[example].startswith('ok') and not not_written(example, out):
+                results[example] = 'FAILED: a full device'
     print('; '.join('%s %s' % pair for pair in results.items()))
     return any(result.startswith('FAILED') for result in results.values())
 

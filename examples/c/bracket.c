@@ -1,5 +1,5 @@
-/* Renumbers a mesh file, says how many passes each part took and where it is thickest, eliminates by the new numbers and opens the store:
-   examples/bracket.grd, or the file named.
+/* Renumbers a mesh file, says what another order would give, how many passes each part took and where it is thickest, eliminates by the new
+   numbers and opens the store: examples/bracket.grd, or the file named.
    cc -Iinclude examples/c/bracket.c examples/c/grd.c target/staticlib/libcapi.a */
 #include <stdio.h>
 #include <stdlib.h>
@@ -61,11 +61,22 @@ static void open_store(const uint8_t *bytes)
     printf("store: places %zu marked %zu edges %zu\n", from[g.n + 1], ones, edges);
 }
 
-static void print_measures(const char *when)
+static void print_measures(const char *when, const uint16_t *numbering)
 {
     uint64_t f[WAGONEPOCH_MEASURES_FIGURES];
-    stop_if(wagonepoch_measures(g.starts, g.n + 1, g.neighbours, g.entries, numbers, g.n, scratch, g.n, f, WAGONEPOCH_MEASURES_FIGURES), "measures");
+    stop_if(wagonepoch_measures(g.starts, g.n + 1, g.neighbours, g.entries, numbering, g.n, scratch, g.n, f, WAGONEPOCH_MEASURES_FIGURES),
+            "measures");
     printf("%s: bandwidth %llu profile %llu front %llu\n", when, (unsigned long long)f[0], (unsigned long long)f[1], (unsigned long long)f[2]);
+}
+
+/* The order for a solver that expects reverse Cuthill-McKee, with lists of its own. */
+static void print_reverse(void)
+{
+    static uint16_t reverse[NODES], from_end[NODES], of_search[NODES];
+    uint64_t f[WAGONEPOCH_REVERSE_CUTHILL_MCKEE_FIGURES];
+    stop_if(wagonepoch_reverse_cuthill_mckee(g.starts, g.n + 1, g.neighbours, g.entries, reverse, g.n, from_end, g.n, of_search, g.n,
+                                             scratch, 6 * g.n, f, WAGONEPOCH_REVERSE_CUTHILL_MCKEE_FIGURES), "reverse Cuthill-McKee");
+    print_measures("reverse Cuthill-McKee", reverse);
 }
 
 /* The passes of each part, parts by lowest old number: which of them the search for its ends was slow on. */
@@ -102,12 +113,13 @@ int main(int argc, char **argv)
     printf("mesh: nodes %zu entries %zu\n", g.n, g.entries);
     for (p = 0; p < g.n; p++)
         numbers[p] = (uint16_t)(p + 1);
-    print_measures("before");
+    print_measures("before", numbers);
     stop_if(wagonepoch_run(g.starts, g.n + 1, g.neighbours, g.entries, numbers, g.n, levels, g.n, passes, g.n, scratch, 6 * g.n, f,
                            WAGONEPOCH_RUN_FIGURES), "run");
     /* the run's profile says how many bytes the marks need */
     length = (size_t)(f[3] + 7) / 8;
-    print_measures("after");
+    print_measures("after", numbers);
+    print_reverse();
     print_passes((size_t)f[1]);
     print_thickest();
     bytes = malloc(length + 1);

@@ -1,5 +1,5 @@
-! Renumbers a mesh file, says how many passes each part took and where it is thickest, eliminates by the new numbers and opens the store:
-! examples/bracket.grd, or the file named.
+! Renumbers a mesh file, says what another order would give, how many passes each part took and where it is thickest, eliminates by the new
+! numbers and opens the store: examples/bracket.grd, or the file named.
 ! gfortran examples/fortran/wagonepoch.f90 examples/fortran/bracket.f90 target/staticlib/libcapi.a
 program bracket
   use, intrinsic :: iso_c_binding, only: c_int16_t, c_int64_t, c_int8_t, c_size_t
@@ -22,12 +22,13 @@ program bracket
   entries = figures(1)
   print '(a,i0,a,i0)', 'mesh: nodes ', n, ' entries ', entries
   numbers(1:n) = [(int(p, c_int16_t), p = 1, int(n))]
-  call print_measures('before')
+  call print_measures('before', numbers)
   call stop_if(wagonepoch_run(starts, n + 1, neighbours, entries, numbers, n, levels, n, passes, n, scratch, 6 * n, figures, &
                               7_c_size_t), 'run')
   parts = int(figures(2))
   length = (figures(4) + 7) / 8
-  call print_measures('after')
+  call print_measures('after', numbers)
+  call print_reverse()
   ! the passes of each part, parts by lowest old number: which of them the search for its ends was slow on
   print '(a,*(1x,i0))', 'passes:', passes(1:parts)
   call print_thickest()
@@ -91,10 +92,19 @@ contains
     if (at /= words + 1) elements_read = -1
   end function
 
-  subroutine print_measures(when)
+  subroutine print_measures(when, numbering)
     character(*), intent(in) :: when
-    call stop_if(wagonepoch_measures(starts, n + 1, neighbours, entries, numbers, n, scratch, n, figures, 3_c_size_t), 'measures')
+    integer(c_int16_t), intent(in) :: numbering(*)
+    call stop_if(wagonepoch_measures(starts, n + 1, neighbours, entries, numbering, n, scratch, n, figures, 3_c_size_t), 'measures')
     print '(a,a,i0,a,i0,a,i0)', when, ': bandwidth ', figures(1), ' profile ', figures(2), ' front ', figures(3)
+  end subroutine
+
+  ! The order for a solver that expects reverse Cuthill-McKee, with lists of its own.
+  subroutine print_reverse()
+    integer(c_int16_t) :: reverse(n), from_end(n), of_search(n)
+    call stop_if(wagonepoch_reverse_cuthill_mckee(starts, n + 1, neighbours, entries, reverse, n, from_end, n, of_search, n, &
+                                                  scratch, 6 * n, figures, 7_c_size_t), 'reverse Cuthill-McKee')
+    call print_measures('reverse Cuthill-McKee', reverse)
   end subroutine
 
   ! Where the part that has number 1 is thickest, level by level from the node with that number: the first level with the most nodes.

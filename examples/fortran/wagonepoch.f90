@@ -38,6 +38,17 @@ module wagonepoch
       integer(c_int16_t) :: answer
     end function
 
+    function wagonepoch_reverse_cuthill_mckee(starts, starts_len, neighbours, neighbours_len, numbers, numbers_len, levels, &
+                                              levels_len, passes, passes_len, scratch, scratch_len, figures, figures_len) &
+                                              bind(C) result(answer)
+      import
+      integer(c_int16_t), intent(in) :: starts(*), neighbours(*)
+      integer(c_int16_t), intent(inout) :: numbers(*), levels(*), passes(*), scratch(*)
+      integer(c_int64_t), intent(inout) :: figures(*)
+      integer(c_size_t), value :: starts_len, neighbours_len, numbers_len, levels_len, passes_len, scratch_len, figures_len
+      integer(c_int16_t) :: answer
+    end function
+
     function wagonepoch_eliminate(starts, starts_len, neighbours, neighbours_len, numbering, numbering_len, scratch, scratch_len, &
                                   bytes, bytes_len, figures, figures_len) bind(C) result(answer)
       import

@@ -1,5 +1,5 @@
-//! Renumbers a mesh file, says how many passes each part took and where it is thickest, eliminates by the new numbers and opens the store:
-//! examples/bracket.grd, or the file named.
+//! Renumbers a mesh file, says what another order would give, how many passes each part took and where it is thickest, eliminates by the new
+//! numbers and opens the store: examples/bracket.grd, or the file named.
 //! rustc --edition 2021 -L target/staticlib -l static=capi examples/rust/bracket.rs
 mod wagonepoch;
 
@@ -115,6 +115,8 @@ fn run() -> Result<(), String> {
     print_measures("before", &graph, &before)?;
     let run = wagonepoch::run(&graph.starts, &graph.neighbours)?;
     print_measures("after", &graph, &run.numbers)?;
+    let reverse = wagonepoch::reverse_cuthill_mckee(&graph.starts, &graph.neighbours)?;
+    print_measures("reverse Cuthill-McKee", &graph, &reverse.numbers)?;
     print_passes(&run.passes);
     print_thickest(&graph, &run.numbers)?;
     let (bytes, [marked, new]) = wagonepoch::eliminate(&graph.starts, &graph.neighbours, &run.numbers, run.figures[3])?;

@@ -14,6 +14,11 @@ mod c {
             levels: *mut u16, levels_len: usize, passes: *mut u16, passes_len: usize, scratch: *mut u16, scratch_len: usize,
             figures: *mut u64, figures_len: usize,
         ) -> u16;
+        pub fn wagonepoch_reverse_cuthill_mckee(
+            starts: *const u16, starts_len: usize, neighbours: *const u16, neighbours_len: usize, numbers: *mut u16, numbers_len: usize,
+            levels: *mut u16, levels_len: usize, passes: *mut u16, passes_len: usize, scratch: *mut u16, scratch_len: usize,
+            figures: *mut u64, figures_len: usize,
+        ) -> u16;
         pub fn wagonepoch_eliminate(
             starts: *const u16, starts_len: usize, neighbours: *const u16, neighbours_len: usize, numbering: *const u16, numbering_len: usize,
             scratch: *mut u16, scratch_len: usize, bytes: *mut u8, bytes_len: usize, figures: *mut u64, figures_len: usize,
@@ -82,9 +87,9 @@ pub fn measures(starts: &[u16], neighbours: &[u16], numbering: &[u16]) -> Result
     Ok(figures)
 }
 
-/// What the whole run gives: new number and level of each node; the passes of each part, parts by lowest node; nodes, parts, bandwidth, profile,
-/// front, levels, width.
-pub struct Run {
+/// What the whole run gives, and reverse Cuthill-McKee: new number and level of each node; the passes of each part, parts by lowest node; nodes,
+/// parts, bandwidth, profile, front, levels, width.
+pub struct Order {
     pub numbers: Vec<u16>,
     #[allow(dead_code)]
     pub levels: Vec<u16>,
@@ -92,19 +97,32 @@ pub struct Run {
     pub figures: [u64; 7],
 }
 
-pub fn run(starts: &[u16], neighbours: &[u16]) -> Result<Run, String> {
+/// Either call; they have the same parameters.
+type OrderCall = unsafe extern "C" fn(
+    *const u16, usize, *const u16, usize, *mut u16, usize, *mut u16, usize, *mut u16, usize, *mut u16, usize, *mut u64, usize,
+) -> u16;
+
+fn order_by(name: &str, call: OrderCall, starts: &[u16], neighbours: &[u16]) -> Result<Order, String> {
     let n = nodes(starts);
     let mut scratch = vec![0; 6 * n];
-    let mut run = Run { numbers: vec![0; n], levels: vec![0; n], passes: vec![0; n], figures: [0; 7] };
-    refused("run", unsafe {
-        c::wagonepoch_run(
-            starts.as_ptr(), starts.len(), neighbours.as_ptr(), neighbours.len(), run.numbers.as_mut_ptr(), n,
-            run.levels.as_mut_ptr(), n, run.passes.as_mut_ptr(), n, scratch.as_mut_ptr(), scratch.len(), run.figures.as_mut_ptr(),
-            run.figures.len(),
+    let mut made = Order { numbers: vec![0; n], levels: vec![0; n], passes: vec![0; n], figures: [0; 7] };
+    refused(name, unsafe {
+        call(
+            starts.as_ptr(), starts.len(), neighbours.as_ptr(), neighbours.len(), made.numbers.as_mut_ptr(), n,
+            made.levels.as_mut_ptr(), n, made.passes.as_mut_ptr(), n, scratch.as_mut_ptr(), scratch.len(), made.figures.as_mut_ptr(),
+            made.figures.len(),
         )
     })?;
-    run.passes.truncate(run.figures[1] as usize);
-    Ok(run)
+    made.passes.truncate(made.figures[1] as usize);
+    Ok(made)
+}
+
+pub fn run(starts: &[u16], neighbours: &[u16]) -> Result<Order, String> {
+    order_by("run", c::wagonepoch_run, starts, neighbours)
+}
+
+pub fn reverse_cuthill_mckee(starts: &[u16], neighbours: &[u16]) -> Result<Order, String> {
+    order_by("reverse Cuthill-McKee", c::wagonepoch_reverse_cuthill_mckee, starts, neighbours)
 }
 
 /// The mark bytes, for a numbering of this profile; the marks that are 1, and the newly joined pairs.
