@@ -27,6 +27,9 @@ inline void clear(u16 *words, size_t count) { memset(words, 0, count * sizeof(u1
   u16 run(const u16 *starts, size_t starts_len, const u16 *neighbours, size_t neighbours_len, u16 *numbers, size_t numbers_len,            \
           u16 *levels, size_t levels_len, u16 *passes, size_t passes_len, u16 *scratch, size_t scratch_len, u64 *figures,                  \
           size_t figures_len);                                                                                                             \
+  u16 reverse_cuthill_mckee(const u16 *starts, size_t starts_len, const u16 *neighbours, size_t neighbours_len, u16 *numbers,              \
+                            size_t numbers_len, u16 *levels, size_t levels_len, u16 *passes, size_t passes_len, u16 *scratch,              \
+                            size_t scratch_len, u64 *figures, size_t figures_len);                                                         \
   u16 eliminate(const u16 *starts, size_t starts_len, const u16 *neighbours, size_t neighbours_len, const u16 *numbering,                  \
                 size_t numbering_len, u16 *scratch, size_t scratch_len, u8 *bytes, size_t bytes_len, u64 *figures, size_t figures_len);    \
   u16 mesh(size_t n, const u16 *elements, size_t elements_len, u16 *starts, size_t starts_len, u16 *neighbours, size_t neighbours_len,     \
@@ -35,6 +38,8 @@ inline void clear(u16 *words, size_t count) { memset(words, 0, count * sizeof(u1
   void bare_rooted(const u16 *starts, const u16 *neighbours, u32 n, u32 root, u16 *levels, u16 *sizes, u64 *figures);                      \
   void bare_measures(const u16 *starts, const u16 *neighbours, u32 n, const u16 *numbering, u16 *scratch, u64 *figures);                   \
   void bare_run(const u16 *starts, const u16 *neighbours, u32 n, u16 *numbers, u16 *levels, u16 *passes, u16 *scratch, u64 *figures);      \
+  void bare_reverse_cuthill_mckee(const u16 *starts, const u16 *neighbours, u32 n, u16 *numbers, u16 *levels, u16 *passes, u16 *scratch,   \
+                                  u64 *figures);                                                                                           \
   void bare_eliminate(const u16 *starts, const u16 *neighbours, u32 n, const u16 *numbering, u16 *scratch, u8 *bytes, size_t bytes_len,    \
                       u64 *figures);                                                                                                       \
   void bare_mesh(u32 n, const u16 *elements, size_t elements_len, u16 *starts, u16 *neighbours, u64 *figures);                             \

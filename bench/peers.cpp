@@ -252,9 +252,9 @@ const Prepare freefem_gibbs;
 
 const Peer PEERS[] = {
     {"ViennaCL, Gibbs-Poole-Stockmeyer", viennacl_gps}, {"DOLFINx, Gibbs-Poole-Stockmeyer", dolfinx_gps},
-    {"FreeFEM, Gibbs-Poole-Stockmeyer", freefem_gibbs}, {"Boost, Cuthill-McKee", boost(CUTHILL_MCKEE)},
-    {"Boost, King", boost(KING)},                       {"Boost, Sloan", boost(SLOAN)},
-    {"PETSc, Cuthill-McKee", petsc_rcm},
+    {"FreeFEM, Gibbs-Poole-Stockmeyer", freefem_gibbs}, {"Boost, reverse Cuthill-McKee", boost(CUTHILL_MCKEE)},
+    {"PETSc, reverse Cuthill-McKee", petsc_rcm},        {"Boost, King", boost(KING)},
+    {"Boost, Sloan", boost(SLOAN)},
 };
 
 enum State { DONE, NO_NUMBERING, TOO_LONG, CRASHED };

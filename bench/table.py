@@ -5,7 +5,9 @@ from math import exp, log
 # The line of docs/PERFORMANCE.md below which the tables stand.
 BELOW = '## Measured\n'
 
-CALLS = ('adjacency test', 'rooted levels', 'mesh', 'measures', 'whole run', 'elimination', 'measures, numbers as given',
+# Our two orders, by the calls that make them.
+ORDERS = ('whole run', 'reverse Cuthill-McKee')
+CALLS = ('adjacency test', 'rooted levels', 'mesh', 'measures', *ORDERS, 'elimination', 'measures, numbers as given',
          'elimination, numbers as given')
 EACH, MEAN = 2.0, 1.5
 
@@ -14,7 +16,7 @@ class Mesh:
     def __init__(self, name, nodes, entries, parts):
         self.name, self.nodes, self.entries, self.parts = name, nodes, entries, parts
         self.times = {}    # call: nanoseconds of the proved library, of the C++ for any processor and for this one, of the bare stage
-        self.figures = {}  # 'as given', 'whole run': bandwidth, profile, front
+        self.figures = {}  # 'as given' and each order: bandwidth, profile, front
         self.peers = {}    # name: nanoseconds, bandwidth, profile, front; or a word
 
 
@@ -85,25 +87,33 @@ def figure_table(meshes):
     for mesh in meshes:
         cells = [mesh.peers[name] for name in names]
         body.append([mesh.name] + ['{:,}'.format(count) for count in (mesh.nodes, mesh.entries, mesh.parts)]
-                    + [figures(mesh.figures[which]) for which in ('as given', 'whole run')]
+                    + [figures(mesh.figures[which]) for which in ('as given', *ORDERS)]
                     + [cell if isinstance(cell, str) else figures(cell[1:]) for cell in cells])
-    return rows(['mesh', 'nodes', 'entries', 'parts', 'as given', 'whole run'] + names, body)
+    return rows(['mesh', 'nodes', 'entries', 'parts', 'as given', *ORDERS] + names, body)
 
 
-def peer_table(meshes):
-    names = list(meshes[0].peers)
+def peer_table(meshes, call, names):
+    """The times of these programs as multiples of that of our call."""
     body = []
     for mesh in meshes:
-        ours = mesh.times['whole run'][0]
+        ours = mesh.times[call][0]
         cells = [mesh.peers[name] for name in names]
         body.append([mesh.name, micro(ours)] + [cell if isinstance(cell, str) else times(cell[0] / ours) for cell in cells])
-    return rows(['mesh', 'whole run, µs'] + names, body)
+    return rows(['mesh', call + ', µs'] + names, body)
+
+
+def peer_tables(meshes):
+    """All programs beside the whole run, and beside reverse Cuthill-McKee those that make that order."""
+    names = list(meshes[0].peers)
+    parts = ['### Other programs: time\n']
+    for call, beside in zip(ORDERS, (names, [name for name in names if name.endswith(ORDERS[1])])):
+        parts += ['Multiples of the time of our %s; below 1 they are faster.\n' % call, peer_table(meshes, call, beside)]
+    return parts
 
 
 def tables(meshes):
     parts = ['\nRatios of processor time, the proved library to the same job in C++. Over %g: bold.\n' % EACH, summary(meshes)]
     for call in CALLS:
         parts += ['### %s\n' % (call[0].upper() + call[1:]), call_table(meshes, call)]
-    parts += ['### Other programs: time\n', 'Multiples of the time of our whole run; below 1 they are faster.\n', peer_table(meshes),
-              '### Bandwidth, profile and front\n', figure_table(meshes)]
+    parts += peer_tables(meshes) + ['### Bandwidth, profile and front\n', figure_table(meshes)]
     return '\n'.join(parts)

@@ -20,14 +20,16 @@ struct Calls {
   decltype(&wagonepoch_test_adjacency) test_adjacency;
   decltype(&wagonepoch_rooted_levels) rooted_levels;
   decltype(&wagonepoch_mesh) mesh;
-  decltype(&wagonepoch_run) run;
+  decltype(&wagonepoch_run) run, reverse_cuthill_mckee;
   decltype(&wagonepoch_measures) measures;
   decltype(&wagonepoch_eliminate) eliminate;
 };
 
-#define CALLS_OF(build) {build::test_adjacency, build::rooted_levels, build::mesh, build::run, build::measures, build::eliminate}
+#define CALLS_OF(build) \
+  {build::test_adjacency, build::rooted_levels, build::mesh, build::run, build::reverse_cuthill_mckee, build::measures, build::eliminate}
 static const Calls PROGRAMS[] = {
-    {wagonepoch_test_adjacency, wagonepoch_rooted_levels, wagonepoch_mesh, wagonepoch_run, wagonepoch_measures, wagonepoch_eliminate},
+    {wagonepoch_test_adjacency, wagonepoch_rooted_levels, wagonepoch_mesh, wagonepoch_run, wagonepoch_reverse_cuthill_mckee,
+     wagonepoch_measures, wagonepoch_eliminate},
     CALLS_OF(any_processor),
     CALLS_OF(this_processor),
 };
@@ -75,11 +77,13 @@ static void mesh_job(const Calls &c, const Given &g, Lent &l) {
   l.answer = c.mesh(g.n, data(g.elements), g.elements.size(), l.starts.data(), l.starts.size(), l.neighbours.data(), l.neighbours.size(),
                     l.scratch.data(), l.scratch.size(), l.figures.data(), l.figures.size());
 }
-static void run_job(const Calls &c, const Given &g, Lent &l) {
-  l.answer = c.run(data(g.starts), g.starts.size(), data(g.neighbours), g.neighbours.size(), l.numbers.data(), l.numbers.size(),
-                   l.levels.data(), l.levels.size(), l.passes.data(), l.passes.size(), l.scratch.data(), l.scratch.size(), l.figures.data(),
-                   l.figures.size());
+static void order_by(decltype(Calls::run) call, const Given &g, Lent &l) {
+  l.answer = call(data(g.starts), g.starts.size(), data(g.neighbours), g.neighbours.size(), l.numbers.data(), l.numbers.size(),
+                  l.levels.data(), l.levels.size(), l.passes.data(), l.passes.size(), l.scratch.data(), l.scratch.size(), l.figures.data(),
+                  l.figures.size());
 }
+static void run_job(const Calls &c, const Given &g, Lent &l) { order_by(c.run, g, l); }
+static void reverse_job(const Calls &c, const Given &g, Lent &l) { order_by(c.reverse_cuthill_mckee, g, l); }
 static void measures_job(const Calls &c, const Given &g, Lent &l) {
   l.answer = c.measures(data(g.starts), g.starts.size(), data(g.neighbours), g.neighbours.size(), data(g.numbering), g.numbering.size(),
                         l.scratch.data(), l.scratch.size(), l.figures.data(), l.figures.size());
@@ -116,7 +120,7 @@ static void try_refusals(const Given &good, size_t byte_count) {
     damage(given, lent);
     agreed("a refusal", job, given, lent, wanted);
   };
-  for (const Job &job : {Job(test_job), Job(rooted_job), Job(run_job), Job(measures_job), Job(eliminate_job)}) {
+  for (const Job &job : {Job(test_job), Job(rooted_job), Job(run_job), Job(reverse_job), Job(measures_job), Job(eliminate_job)}) {
     refused(job, 1, [](Given &g, Lent &) { g.starts.clear(); });
     refused(job, 1, [](Given &g, Lent &) { g.starts.resize(1); });
     refused(job, 1, [](Given &g, Lent &) { g.starts.resize(4098, g.starts.back()); });
@@ -135,7 +139,7 @@ static void try_refusals(const Given &good, size_t byte_count) {
       for (size_t p = row; p <= n; p++) g.starts[p]--;
     });
   }
-  for (const Job &job : {Job(run_job), Job(measures_job), Job(eliminate_job), Job(mesh_job)}) {
+  for (const Job &job : {Job(run_job), Job(reverse_job), Job(measures_job), Job(eliminate_job), Job(mesh_job)}) {
     refused(job, 5, [n](Given &, Lent &l) { l.scratch.resize(n - 1); });
     refused(job, 5, [](Given &, Lent &l) { l.figures.clear(); });
   }
@@ -145,11 +149,13 @@ static void try_refusals(const Given &good, size_t byte_count) {
   refused(rooted_job, 5, [](Given &, Lent &l) { l.figures.resize(2); });
   refused(rooted_job, 6, [](Given &g, Lent &) { g.root = 0; });
   refused(rooted_job, 6, [n](Given &g, Lent &) { g.root = u16(n + 1); });
-  refused(run_job, 5, [n](Given &, Lent &l) { l.numbers.resize(n - 1); });
-  refused(run_job, 5, [n](Given &, Lent &l) { l.levels.resize(n - 1); });
-  refused(run_job, 5, [n](Given &, Lent &l) { l.passes.resize(n - 1); });
-  refused(run_job, 5, [](Given &, Lent &l) { l.figures.resize(6); });
-  refused(run_job, 5, [n](Given &, Lent &l) { l.scratch.resize(6 * n - 1); });
+  for (const Job &job : {Job(run_job), Job(reverse_job)}) {
+    refused(job, 5, [n](Given &, Lent &l) { l.numbers.resize(n - 1); });
+    refused(job, 5, [n](Given &, Lent &l) { l.levels.resize(n - 1); });
+    refused(job, 5, [n](Given &, Lent &l) { l.passes.resize(n - 1); });
+    refused(job, 5, [n](Given &, Lent &l) { l.scratch.resize(6 * n - 1); });
+    refused(job, 5, [](Given &, Lent &l) { l.figures.resize(6); });
+  }
   for (const Job &job : {Job(measures_job), Job(eliminate_job)}) {
     refused(job, 7, [](Given &g, Lent &) { g.numbering.pop_back(); });
     refused(job, 7, [](Given &g, Lent &) { g.numbering[0] = 0; });
@@ -191,6 +197,23 @@ static void try_roots(const Given &good) {
     lent.sizes.resize(n);
     agreed("rooted levels", rooted_job, given, lent, 0);
   }
+}
+
+static Given numbered_by(const Given &given, const Lent &made) {
+  Given g = given;
+  g.numbering.assign(made.numbers.begin(), made.numbers.begin() + long(g.n));
+  return g;
+}
+
+// An order that a call made: the measures find the figures that it reported, and the elimination takes so many bytes as its profile asks for.
+static void try_order(const Given &given, const Lent &made) {
+  const Given g = numbered_by(given, made);
+  const Lent measured = agreed("measures", measures_job, g, Lent(g.n), 0);
+  if (!std::equal(measured.figures.begin(), measured.figures.begin() + 3, made.figures.begin() + 2)) {
+    printf("%s: other measures than the order's own\n", mesh_name.c_str());
+    exit(1);
+  }
+  agreed("elimination", eliminate_job, g, Lent(g.n, (made.figures[3] + 7) / 8), 0);
 }
 
 static u64 now() {
@@ -251,10 +274,10 @@ static Words words_of(const std::string &path) {
   return words;
 }
 
-// The lists of a mesh, its nodes numbered as given, and what the run and the measures make of it.
+// The lists of a mesh, its nodes numbered as given, and what the run, the measures and reverse Cuthill-McKee make of it.
 struct Case {
   Given given;
-  Lent ran, measured;
+  Lent ran, measured, turned;
 };
 
 // Compares the calls that make the case, and prints its figures.
@@ -267,11 +290,13 @@ static Case compare(const Words &file) {
   for (long p = 1; p <= n; p++) g.numbering.push_back(u16(p));
   agreed("adjacency test", test_job, g, Lent(g.n), 0);
   const Lent ran = agreed("whole run", run_job, g, Lent(g.n), 0), measured = agreed("measures", measures_job, g, Lent(g.n), 0);
-  const auto &f = ran.figures, &m = measured.figures;
+  const Lent turned = agreed("reverse Cuthill-McKee", reverse_job, g, Lent(g.n), 0);
+  const auto &f = ran.figures, &m = measured.figures, &r = turned.figures;
   printf("mesh\t%s\t%ld\t%zu\t%lu\n", mesh_name.c_str(), n, g.neighbours.size(), f[1]);
   printf("figures\tas given\t%lu\t%lu\t%lu\n", m[0], m[1], m[2]);
   printf("figures\twhole run\t%lu\t%lu\t%lu\n", f[2], f[3], f[4]);
-  return {g, ran, measured};
+  printf("figures\treverse Cuthill-McKee\t%lu\t%lu\t%lu\n", r[2], r[3], r[4]);
+  return {g, ran, measured, turned};
 }
 
 // The calls that take no numbering.
@@ -290,9 +315,15 @@ static void time_lists(const Given &g, bool quick) {
              bare_run(starts, neighbours, n, own.numbers.data(), own.levels.data(), own.passes.data(), own.scratch.data(), own.figures.data());
            },
            quick);
+  time_job("reverse Cuthill-McKee", reverse_job, g, Lent(n),
+           [&] {
+             bare_reverse_cuthill_mckee(starts, neighbours, n, own.numbers.data(), own.levels.data(), own.passes.data(), own.scratch.data(),
+                                        own.figures.data());
+           },
+           quick);
 }
 
-// The calls that take a numbering, of this profile. They are compared first.
+// The calls that take a numbering, of this profile.
 static void time_numbered(const Given &g, u64 profile, const std::string &which, bool quick) {
   const u16 *starts = data(g.starts), *neighbours = data(g.neighbours), *numbering = data(g.numbering);
   const u32 n = u32(g.n);
@@ -300,8 +331,6 @@ static void time_numbered(const Given &g, u64 profile, const std::string &which,
   const Lent lent(n, bytes);
   Lent own = lent;
   using namespace this_processor;
-  agreed("measures", measures_job, g, lent, 0);
-  agreed("elimination", eliminate_job, g, lent, 0);
   time_job(("measures" + which).c_str(), measures_job, g, lent,
            [&] { bare_measures(starts, neighbours, n, numbering, own.scratch.data(), own.figures.data()); }, quick);
   time_job(("elimination" + which).c_str(), eliminate_job, g, lent,
@@ -316,11 +345,12 @@ static void bench(const std::string &path, bool quick) {
   const size_t n = c.given.n;
   try_collapsed(c.given);
   try_roots(c.given);
+  try_order(c.given, c.ran);
+  try_order(c.given, c.turned);
   if (n < 1500) try_refusals(c.given, (c.measured.figures[1] + 7) / 8);  // larger ones take long and tell no more
   time_lists(c.given, quick);
-  Given by_run = c.given;
-  by_run.numbering.assign(c.ran.numbers.begin(), c.ran.numbers.begin() + long(n));
-  time_numbered(by_run, c.ran.figures[3], "", quick);
+  time_numbered(numbered_by(c.given, c.ran), c.ran.figures[3], "", quick);
+  agreed("elimination", eliminate_job, c.given, Lent(n, (c.measured.figures[1] + 7) / 8), 0);
   time_numbered(c.given, c.measured.figures[1], ", numbers as given", quick);
   fflush(stdout);
   if (!quick) time_peers(c.given.starts, c.given.neighbours);
