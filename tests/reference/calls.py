@@ -1,4 +1,4 @@
-"""The entry points with their lent buffers and refusals; document 01's 'Lent buffers' and table, with A.2, A.7 and A.9 of document 02.
+"""The entry points with their lent buffers and refusals; document 01's 'Lent buffers' and table, with A.2, A.3, A.7 and A.9 of document 02.
 
 Every call answers ('accepted', tuple) or ('refused', number).
 """
@@ -6,6 +6,7 @@ Every call answers ('accepted', tuple) or ('refused', number).
 # from_edges, small_graphs and rows_of stand here for the scripts that import calls.
 import store
 from combined import combined_levels as combined_of_part
+from cuthill import reverse_cuthill_mckee as cuthill_of_graph
 from ends import ends_of_part
 from graph import (MOST_ENTRIES, adjacency_refusal, from_edges, lists_of, part_of,
                    rows_of, small_graphs, wrong_node_count)
@@ -145,7 +146,7 @@ def part_report(starts, neighbours, node, scratch):
     return accepted(done.v, done.u, done.k, done.width, done.passes, done.direction)
 
 
-def whole_run(starts, neighbours, numbers, levels, passes, scratch):
+def numbered(run_of_rows, starts, neighbours, numbers, levels, passes, scratch):
     """(nodes, parts, bandwidth, profile, front, levels, width)"""
     number = adjacency_refusal(starts, neighbours)
     if number:
@@ -154,13 +155,22 @@ def whole_run(starts, neighbours, numbers, levels, passes, scratch):
     # A.9: "Refusal 5 covers the list"
     if is_short((numbers, n), (levels, n), (passes, n), (scratch, scratch_words(n))):
         return refused(5)
-    run = run_of_graph(rows_of(starts, neighbours))
+    run = run_of_rows(rows_of(starts, neighbours))
     # "Numbers and levels run by old number"
     put(numbers, [run.number_of[p] for p in range(1, n + 1)])
     put(levels, by_old_number(run.level_of, n))
     put(passes, pass_list(run.passes, n))
     zero(scratch, scratch_words(n))
     return accepted(*run.figures)
+
+
+def whole_run(starts, neighbours, numbers, levels, passes, scratch):
+    return numbered(run_of_graph, starts, neighbours, numbers, levels, passes, scratch)
+
+
+def reverse_cuthill_mckee(starts, neighbours, numbers, levels, passes, scratch):
+    # A.3: "a further call with the run's buffers and figures"
+    return numbered(cuthill_of_graph, starts, neighbours, numbers, levels, passes, scratch)
 
 
 # Measures, store.

@@ -118,12 +118,17 @@ def number_part(rows, part):
 
 
 def whole_run(rows):
+    return number_parts(rows, number_part)
+
+
+def number_parts(rows, numbering_of_part):
+    """Numbers, levels, passes and figures of the graph, each part numbered by the function."""
     number_of = {}
     level_of = {}
     numbered = []
     # "Parts come in order of lowest old number and take the next free numbers."
     for part in parts_of(rows):
-        done = number_part(rows, part)
+        done = numbering_of_part(rows, part)
         number_of.update(numbers_from(len(number_of) + 1, done.order))
         level_of.update(done.level_of)
         numbered.append(done)

@@ -87,6 +87,15 @@ def components(checks, rows):
     checks.equal('paper: C_1 is so placed', {z: level_of[z] for z in pieces[0]}, {z: pairs[z][1] for z in pieces[0]})
 
 
+def cuthill_mckee(checks, lists, bandwidth):
+    """'The bandwidth obtained by a Cuthill-McKee numbering can never be less than the width of the rooted level structure used.'"""
+    numbers, levels, passes = [0] * 24, [0] * 24, [0] * 24
+    figures = calls.reverse_cuthill_mckee(*lists, numbers, levels, passes, [0] * (6 * 24))[1]
+    checks.equal('paper: reverse Cuthill-McKee, depth and width', figures[5:], (6, 7))
+    checks.holds('paper: its bandwidth is at least the width, and more than ours', bandwidth < 7 <= figures[2] <= 13)
+    checks.equal('paper: its levels, those rooted at 9, and its last number', (levels, numbers[8]), (rooted(*lists, 9)[1], 24))
+
+
 def whole(checks, lists, column):
     """By hand: the columns are the levels. They are numbered one after the other from 9, so neighbours are at most 5 apart, and
     q - f_q is 4 at the head of a column and 5 below, in the first column 0 and 1."""
@@ -116,7 +125,9 @@ def main():
         rows = rows_of(*lists)
         degrees(checks, rows)
         components(checks, rows)
-        corners(checks, lists, whole(checks, lists, column))
+        bandwidth = whole(checks, lists, column)
+        corners(checks, lists, bandwidth)
+        cuthill_mckee(checks, lists, bandwidth)
     sizes_claims(checks, *lists)
     trees(checks)
     return checks.report()

@@ -73,6 +73,7 @@ ADJACENCY_CALLS = [
     ('combined levels', calls.combined_levels, [1], [1, 6]),
     ('part report', calls.part_report, [1], [6]),
     ('whole run', calls.whole_run, [], [1, 1, 1, 6]),
+    ('reverse Cuthill-McKee', calls.reverse_cuthill_mckee, [], [1, 1, 1, 6]),
     ('measures', calls.measures, [[1, 2, 3]], [1]),
     ('elimination', calls.elimination, [[1, 2, 3]], [1]),
     ('run and eliminate', calls.run_and_eliminate, [], [1, 1, 1, 6]),
@@ -160,6 +161,8 @@ def accepted_buffers(checks):
             ('part report', calls.part_report, [3], [words(25)], (1, 3, 3, 1, 1, 'Forward'), [zeroed]),
             ('whole run', calls.whole_run, [], [words(5), words(5), words(6), words(25)],
              (4, 2, 1, 2, 2, 4, 1), [[1, 2, 3, 4, OLD], [1, 2, 3, 1, OLD], [1, 1, 0, 0, OLD, OLD], zeroed]),
+            ('reverse Cuthill-McKee', calls.reverse_cuthill_mckee, [], [words(5), words(5), words(6), words(25)],
+             (4, 2, 1, 2, 2, 4, 1), [[3, 2, 1, 4, OLD], [1, 2, 3, 1, OLD], [1, 1, 0, 0, OLD, OLD], zeroed]),
             ('measures', calls.measures, [[4, 1, 2, 3]], [words(5)], (3, 4, 3), [[0] * 4 + [OLD]]),
             ('elimination', calls.elimination, [[4, 1, 2, 3]], [words(5), [OLD_BYTE] * 2], (3, 1),
              [[0] * 4 + [OLD], [0b111, OLD_BYTE]]),
@@ -193,13 +196,13 @@ def list_of_passes(checks):
         n, edges = of_parts(parts)
         graph = calls.from_edges(n, edges)
         due = passes + [0] * (n - len(passes))
-        for call in (calls.whole_run, calls.run_and_eliminate):
+        for call in (calls.whole_run, calls.reverse_cuthill_mckee, calls.run_and_eliminate):
             for length in (n, n + 2, 2 * n):
-                lent = [words(n), words(n), words(length), words(6 * n)] + mark_bytes_of(call.__name__, n * n)
+                lent = [words(n + 3), words(n + 1), words(length), words(6 * n)] + mark_bytes_of(call.__name__, n * n)
                 checks.equal('%s, %d words of passes: accepted' % (name, length), call(*graph, *lent)[0], 'accepted')
                 checks.equal('%s, %d words of passes' % (name, length), lent[2], due + words(length - n))
             for length in (n - 1, 0):
-                lent = [words(n), words(n), words(length), words(6 * n)] + mark_bytes_of(call.__name__, n * n)
+                lent = [words(n + 3), words(n + 1), words(length), words(6 * n)] + mark_bytes_of(call.__name__, n * n)
                 untouched(checks, '%s, %d words of passes' % (name, length), call, [*graph], lent, 5)
         # mark bytes that are short come after the run, which leaves its list
         lent = [words(n), words(n), words(n + 2), words(6 * n), []]
