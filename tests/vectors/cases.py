@@ -8,6 +8,7 @@ from collections import namedtuple
 from itertools import permutations
 
 import calls
+import cuthill_cases
 import elements
 import shapes
 import store
@@ -37,7 +38,11 @@ CALLS = {
     'whole run': Call(8, calls.whole_run, 'starts neighbours', 'first second third fourth'),
     'run and eliminate': Call(9, calls.run_and_eliminate, 'starts neighbours', 'first second third fourth bytes'),
     'part report': Call(10, calls.part_report, 'starts neighbours node', 'first'),
+    'reverse Cuthill-McKee': Call(11, calls.reverse_cuthill_mckee, 'starts neighbours', 'first second third fourth'),
 }
+
+# The calls with the run's buffers.
+RUNS = ['whole run', 'reverse Cuthill-McKee', 'run and eliminate']
 
 
 def fields(c, names):
@@ -174,17 +179,18 @@ def run_byte_count(lists):
 
 
 def runs(draw, kind, lists):
-    """The run and run and eliminate on a legal adjacency, with all that they need; now and then also with one thing short."""
+    """The calls with the run's buffers on a legal adjacency, with all that they need; now and then also with one thing short."""
     need, due = run_byte_count(lists), run_lengths(lists)
     most = [enough(draw, size) for size in due]
     yield Case(kind, 'whole run', *lists, [], 0, *most, 2)
+    yield Case(kind, 'reverse Cuthill-McKee', *lists, [], 0, *most, 2)
     yield Case(kind, 'run and eliminate', *lists, [], 0, *most, enough(draw, need))
     if draw.chance(0.3):
         yield Case(kind, 'run and eliminate', *lists, [], 0, *most, max(0, need - 1))
     if draw.chance(0.3):
         at = draw.below(4)
         short = most[:at] + [due[at] - 1] + most[at + 1:]
-        yield Case(kind, draw.one(['whole run', 'run and eliminate']), *lists, [], 0, *short, enough(draw, need))
+        yield Case(kind, draw.one(RUNS), *lists, [], 0, *short, enough(draw, need))
 
 
 def whole(draw, kind, lists):
@@ -212,7 +218,7 @@ def on_illegal(draw, lists):
     made += [Case('illegal adjacency', call, *lists, list(range(1, n + 1)), 0, lent(draw, n), 3, bytes=lent(draw, n))
              for call in ('measures', 'elimination')]
     made += [Case('illegal adjacency', call, *lists, [], 0, *[lent(draw, size) for size in run_lengths(lists)], lent(draw, n))
-             for call in ('whole run', 'run and eliminate')]
+             for call in RUNS]
     return [made[0], draw.one(made[1:])]
 
 
@@ -308,7 +314,7 @@ def telling(draw, count):
         if tells(rows_of(*lists), node):
             count -= 1
             yield from at_node(draw, 'telling graph', lists, node)
-            yield draw.one(list(runs(draw, 'telling graph', lists)))
+            yield from draw.some(runs(draw, 'telling graph', lists), 2)
 
 
 def of_table(draw):
@@ -332,6 +338,7 @@ def of_many_parts():
     """As many parts as there can be, and nearly so: isolated nodes, pairs, rings of four."""
     for lists in shapes.many_parts():
         yield Case('many parts', 'run and eliminate', *lists, [], 0, *run_lengths(lists), run_byte_count(lists))
+        yield Case('many parts', 'reverse Cuthill-McKee', *lists, [], 0, *run_lengths(lists))
 
 
 def of_full_size(draw):
@@ -379,8 +386,8 @@ def with_scratch(kind, lists, node, length, need):
     yield Case(kind, 'ends', *lists, [], node, length)
     yield Case(kind, 'combined levels', *lists, [], node, n, length)
     yield Case(kind, 'part report', *lists, [], node, length)
-    yield Case(kind, 'whole run', *lists, [], 0, n, n, n, length)
-    yield Case(kind, 'run and eliminate', *lists, [], 0, n, n, n, length, need)
+    for call in RUNS:
+        yield Case(kind, call, *lists, [], 0, n, n, n, length, need)
 
 
 def scratch_sizes(draw):
@@ -398,7 +405,7 @@ def scratch_sizes(draw):
     for length in (6 * 7 - 1, 5 * 7, 0):
         for call, first, second in (('ends', length, 0), ('combined levels', 99, length), ('part report', length, 0)):
             yield Case('short scratch', call, *lists, [], draw.one([0, 8, 65535]), first, second)
-        for call in ('whole run', 'run and eliminate'):
+        for call in RUNS:
             yield Case('short scratch', call, *lists, [], 0, 99, 99, 99, length, 9)
 
 
@@ -420,11 +427,39 @@ def pass_counts(draw, count):
     fixed = [from_edges(*worked.of_parts(parts)) for _, parts, *_ in worked.PASSES]
     for lists in fixed + [mixed(draw, [draw.one(PARTS) for _ in range(2 + draw.below(4))]) for _ in range(count)]:
         n, need = len(lists[0]) - 1, run_byte_count(lists)
-        for length in (n, n + 2):
-            yield Case('passes', 'whole run', *lists, [], 0, n, n, length, scratch_words(n), 2)
+        for call in ('whole run', 'reverse Cuthill-McKee'):
+            yield Case('passes', call, *lists, [], 0, n, n, n, scratch_words(n), 2)
+            yield Case('passes', call, *lists, [], 0, n + 1, n, n + 2, scratch_words(n), 2)
+            yield Case('short passes', call, *lists, [], 0, n, n, n - 1, scratch_words(n), 2)
         yield Case('passes', 'run and eliminate', *lists, [], 0, n, n, n + 1, scratch_words(n), need)
-        yield Case('short passes', 'whole run', *lists, [], 0, n, n, n - 1, scratch_words(n), 2)
         yield Case('short passes', 'run and eliminate', *lists, [], 0, n + 3, n, draw.below(n), scratch_words(n), need)
+
+
+def changes_names(lists):
+    """Whether the run changes the names of v and u in some part, so that it starts at another node than reverse Cuthill-McKee."""
+    n = len(lists[0]) - 1
+    return any(calls.ends(*lists, p, pattern(scratch_words(n)))[1][0] != calls.part_report(*lists, p, pattern(scratch_words(n)))[1][0]
+               for p in range(1, n + 1))
+
+
+def with_names_changed(draw, count):
+    """Random graphs of 7 to 20 nodes."""
+    while count > 0:
+        lists = random_graph(draw, 7 + draw.below(14))
+        if changes_names(lists):
+            count -= 1
+            yield lists
+
+
+def cuthill_orders(draw, count):
+    """A.3: graphs worked with pencil, and such as change names in the run; each of the four lists exact, long and short."""
+    fixed = [from_edges(n, edges) for _, n, edges, *_ in cuthill_cases.WORKED_ORDERS] + [from_edges(*shapes.grid(7, 4, True))]
+    for lists in fixed + list(with_names_changed(draw, count)):
+        due = run_lengths(lists)
+        yield Case('order', 'reverse Cuthill-McKee', *lists, [], 0, *due)
+        yield Case('order', 'reverse Cuthill-McKee', *lists, [], 0, *[size + 1 + draw.below(9) for size in due], 2)
+        for at in range(4):
+            yield Case('order', 'reverse Cuthill-McKee', *lists, [], 0, *due[:at], due[at] - 1, *due[at + 1:])
 
 
 def illegal(draw, count):
@@ -448,16 +483,19 @@ def limits(draw):
         yield Case(kind, 'ends', starts, [], [], 1, scratch_words(n))
         yield Case(kind, 'measures', starts, [], given, 0, n)
         yield Case(kind, 'elimination', starts, [], given, 0, n)
-        yield Case(kind, 'whole run', starts, [], [], 0, n, n, n, scratch_words(n))
+        for call in RUNS:
+            yield Case(kind, call, starts, [], [], 0, n, n, n, scratch_words(n))
     path = from_edges(*shapes.path(4096))
     for root in (1, 2048, 4096):
         yield Case(kind, 'rooted levels', *path, [], root, 4096, 4096)
     yield Case(kind, 'ends', *path, [], 77, scratch_words(4096) + 2)
     yield Case(kind, 'combined levels', *path, [], 77, 4096, scratch_words(4096))
     yield Case(kind, 'run and eliminate', *path, [], 0, *run_lengths(path), 512)
+    yield Case(kind, 'reverse Cuthill-McKee', *path, [], 0, *run_lengths(path))
     ring = from_edges(*shapes.band(4096, 4))
     yield Case(kind, 'adjacency test', *ring, [], 0)
-    yield Case(kind, 'whole run', *ring, [], 0, 4096, 4099, 4096, scratch_words(4096))
+    for call in ('whole run', 'reverse Cuthill-McKee'):
+        yield Case(kind, call, *ring, [], 0, 4096, 4099, 4096, scratch_words(4096))
     yield Case(kind, 'adjacency test', [0, 32769], [1] * 32769, [], 0)
 
 
