@@ -3,11 +3,11 @@
 import cases
 import paper
 import shapes
-from calls import scratch_words
+from calls import reverse_cuthill_mckee, scratch_words, whole_run
 from cases import CALLS, Case, fields
 from graph import from_edges
 from library import FIGURES
-from trials import FILLS, FUNCTIONS, ONES, PAIR, STAR, ZEROS, Trial
+from trials import FILLS, FUNCTIONS, ONES, PAIRS, STAR, ZEROS, Trial
 
 
 def length_of_figures(draw, need):
@@ -23,13 +23,15 @@ def trial(draw, kind, call, given, lent):
 
 
 def of_case(draw, c):
-    """The trial of a case. Run and eliminate is here the two calls, with one scratch or with two."""
+    """The trials of a case. Run and eliminate is here the two calls, then reverse Cuthill-McKee and the elimination, with one scratch or with two."""
     given, lent = fields(c, CALLS[c.call].given), fields(c, CALLS[c.call].lent)
     if c.call != 'run and eliminate':
-        return trial(draw, c.kind, c.call, given, lent)
+        yield trial(draw, c.kind, c.call, given, lent)
+        return
     n = max(0, len(c.starts) - 1)
-    other = None if draw.chance(0.5) else cases.lent(draw, n)
-    return trial(draw, c.kind, PAIR, given, lent[:4] + [other] + lent[4:])
+    for pair in PAIRS:
+        other = None if draw.chance(0.5) else cases.lent(draw, n)
+        yield trial(draw, c.kind, pair, given, lent[:4] + [other] + lent[4:])
 
 
 def every_call(kind, lists, node, numbering, n):
@@ -40,6 +42,7 @@ def every_call(kind, lists, node, numbering, n):
     yield Case(kind, 'combined levels', *lists, [], node, n, scratch_words(n))
     yield Case(kind, 'part report', *lists, [], node, scratch_words(n))
     yield Case(kind, 'whole run', *lists, [], 0, n, n, n, scratch_words(n))
+    yield Case(kind, 'reverse Cuthill-McKee', *lists, [], 0, n, n, n, scratch_words(n))
     yield Case(kind, 'measures', *lists, numbering, 0, n)
     need = cases.byte_count(lists, numbering) if len(lists[0]) == n + 1 else 2
     yield Case(kind, 'elimination', *lists, numbering, 0, n, bytes=need)
@@ -83,18 +86,20 @@ def full_size(draw):
 
 
 def pairs(draw, count):
-    """Random graphs of up to 40 nodes: the run, then the elimination, with mark bytes short, exact and long."""
+    """Random graphs of up to 40 nodes: the run or reverse Cuthill-McKee, then the elimination, with mark bytes short, exact and long."""
     for _ in range(count):
         n = 1 + draw.below(40)
         lists = cases.random_graph(draw, n)
         sizes = [cases.enough(draw, size) for size in cases.run_lengths(lists)]
-        yield Case('random graph', 'run and eliminate', *lists, [], 0, *sizes, cases.lent(draw, cases.run_byte_count(lists)))
+        need = cases.run_byte_count(lists, draw.one([whole_run, reverse_cuthill_mckee]))
+        yield Case('random graph', 'run and eliminate', *lists, [], 0, *sizes, cases.lent(draw, need))
 
 
 def among_ones(draw, count):
     """Stores of a few bytes where all that is lent holds ones: the bytes behind the store stay so and are not counted."""
     for c in cases.store_sizes(draw, count):
-        yield of_case(draw, c)._replace(fill=ONES)
+        for made in of_case(draw, c):
+            yield made._replace(fill=ONES)
 
 
 def stars():
@@ -113,11 +118,12 @@ def at_random(draw, count):
     yield from cases.telling(draw, count)
     yield from cases.at_random(draw, count // 2, 3)
     yield from cases.runs_at_random(draw, count // 2)
-    yield from pairs(draw, 4 * count)
+    yield from pairs(draw, 2 * count)
     yield from cases.large(draw, count // 20)
     yield from cases.illegal(draw, 4 * count)
     yield from cases.meshes(draw, 2 * count)
     yield from cases.pass_counts(draw, count // 5)
+    yield from cases.cuthill_orders(draw, count // 5)
 
 
 def some(draw, count):
@@ -126,7 +132,7 @@ def some(draw, count):
                  cases.of_many_parts(), cases.collapsed_meshes(), cases.full_meshes(), cases.long_meshes(), cases.scratch_sizes(draw),
                  cases.level_sizes(draw), full_size(draw)):
         for c in made:
-            yield of_case(draw, c)
+            yield from of_case(draw, c)
     yield from among_ones(draw, 12)
     yield from stars()
 
@@ -135,5 +141,5 @@ def more(draw, count):
     """What every further round of a long run adds: random kinds, and full size with the nodes named anew."""
     for made in (cases.some_of_five(draw, count), at_random(draw, count), cases.of_full_size(draw)):
         for c in made:
-            yield of_case(draw, c)
+            yield from of_case(draw, c)
     yield from among_ones(draw, 12)

@@ -16,7 +16,7 @@ from cases import CALLS, Case, fields
 from graph import from_edges
 from kinds import every_call
 from library import BEHIND, FIGURES, Library, Span
-from trials import FUNCTIONS, PAIR, Trial, got
+from trials import FUNCTIONS, PAIRS, Trial, got
 
 
 class Altered:
@@ -52,11 +52,11 @@ class Faulting:
 
 
 def trials():
-    """Each call on three nodes, with one word more than it needs in every list that is lent; the pair of calls with one scratch and with two."""
+    """Each call on three nodes, with one word more than it needs in every list that is lent; the pairs of calls with one scratch and with two."""
     on_graph = list(every_call('self-test', from_edges(3, [(1, 2), (2, 3)]), 1, [1, 2, 3], 3))
     for c in on_graph + [Case('self-test', 'mesh', [], [], [1, 1, 2], 3, 4, 32768, 3)]:
         given, lent = fields(c, CALLS[c.call].given), [size + 1 for size in fields(c, CALLS[c.call].lent)]
-        paired = [(PAIR, lent[:4] + [other] + lent[4:]) for other in (None, 4)]
+        paired = [(pair, lent[:4] + [other] + lent[4:]) for pair in PAIRS for other in (None, 4)]
         for call, lengths in paired if c.call == 'run and eliminate' else [(c.call, lent)]:
             yield Trial(c.kind, call, given, lengths, [FIGURES[function] + 1 for function in FUNCTIONS[call] if FIGURES[function]], 0)
 

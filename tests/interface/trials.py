@@ -1,6 +1,7 @@
 """A trial of the C interface: what a call is given and lent, and what the independent program says that it must answer and leave.
 
-A trial has one call, or the whole run and then the elimination on the n numbers that the run left, in the memory that it left them in.
+A trial has one call, or the whole run or reverse Cuthill-McKee and then the elimination on the n numbers that it left, in the memory that it left
+them in.
 """
 
 import json
@@ -16,19 +17,19 @@ from library import CODE_OF, FIGURES, PARAMETERS, Span, guarded
 # What is given, lists and numbers in the order of the call; the lengths of what is lent, and of the list of figures of each call; what is in them.
 Trial = namedtuple('Trial', 'kind call given lent figures fill')
 
-# Lent to the pair: numbers, levels, passes and scratch to the run; to the elimination a scratch of its own, or None for the run's, and bytes.
-PAIR = 'run, then eliminate'
+# Lent to a pair: numbers, levels, passes and scratch to the first; to the elimination a scratch of its own, or None for the first's, and bytes.
+PAIRS = ('run, then eliminate', 'reverse Cuthill-McKee, then eliminate')
 LENT_TO_PAIR = ('numbers', 'levels', 'passes', 'scratch', 'other scratch', 'bytes')
 
 # The functions that a trial calls, one after the other.
 FUNCTIONS = {
     'adjacency test': ('test_adjacency',), 'rooted levels': ('rooted_levels',), 'ends': ('ends',), 'combined levels': ('combined_levels',),
-    'measures': ('measures',), 'part report': ('part_report',), 'whole run': ('run',), 'elimination': ('eliminate',), PAIR: ('run', 'eliminate'),
-    'mesh': ('mesh',),
+    'measures': ('measures',), 'part report': ('part_report',), 'whole run': ('run',), 'reverse Cuthill-McKee': ('reverse_cuthill_mckee',),
+    'elimination': ('eliminate',), PAIRS[0]: ('run', 'eliminate'), PAIRS[1]: ('reverse_cuthill_mckee', 'eliminate'), 'mesh': ('mesh',),
 }
 # Eliminations of a star whose centre has number 1, with enough of everything lent: by sums, where the reference would take hours.
 STAR = 'star, centre first'
-REFERENCE = {functions[0]: CASE_CALLS[call].reference for call, functions in FUNCTIONS.items() if call != PAIR}
+REFERENCE = {functions[0]: CASE_CALLS[call].reference for call, functions in FUNCTIONS.items() if call not in PAIRS}
 
 # What a lent list holds before the call, by place, below the modulus of its elements: falling from the top, zeros, ones, small numbers.
 FILLS = (lambda i: -1 - i % 5000, lambda i: 0, lambda i: -1, lambda i: 1 + i % 7)
@@ -56,7 +57,7 @@ def filled(fill, code, count):
 
 def before(trial):
     """Numbers and lists by name, as they are before the first call."""
-    if trial.call == PAIR:
+    if trial.call in PAIRS:
         names = ('starts', 'neighbours') + LENT_TO_PAIR + ('figures', 'other figures')
     else:
         names = [parameter.name for parameter in PARAMETERS[FUNCTIONS[trial.call][0]]]
@@ -77,11 +78,11 @@ def whole(values, *names):
 
 def steps(trial, values):
     """The calls: a function, and the name of each argument with the length that the call is told."""
-    if trial.call != PAIR:
+    if trial.call not in PAIRS:
         return [(FUNCTIONS[trial.call][0], whole(values, *values))]
     n = max(0, len(values['starts']) - 1)
     scratch = 'scratch' if trial.lent[LENT_TO_PAIR.index('other scratch')] is None else 'other scratch'
-    return [('run', whole(values, 'starts', 'neighbours', 'numbers', 'levels', 'passes', 'scratch', 'figures')),
+    return [(FUNCTIONS[trial.call][0], whole(values, 'starts', 'neighbours', 'numbers', 'levels', 'passes', 'scratch', 'figures')),
             ('eliminate', whole(values, 'starts', 'neighbours') + [('numbers', n)] + whole(values, scratch, 'bytes', 'other figures'))]
 
 

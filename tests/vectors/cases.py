@@ -171,10 +171,10 @@ def run_lengths(lists):
     return [n, n, n, scratch_words(n)]
 
 
-def run_byte_count(lists):
-    """Mark bytes that the run's own numbers need, as the reference counts them."""
+def run_byte_count(lists, call=calls.whole_run):
+    """Mark bytes that the numbers of the run, or of another call with its buffers, need, as the reference counts them."""
     n = len(lists[0]) - 1
-    _, figures = calls.whole_run(*lists, pattern(n), pattern(n), pattern(n), pattern(scratch_words(n)))
+    _, figures = call(*lists, pattern(n), pattern(n), pattern(n), pattern(scratch_words(n)))
     return store.byte_count(figures[3])
 
 
