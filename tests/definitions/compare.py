@@ -35,6 +35,7 @@ use Rattle.spec.specs.CallsLevels.{adjacencyAnswer, rootedAnswer, rootedLevels,
 use Rattle.spec.specs.CallsLevels.{combinedAnswer, combinedLevels, combinedScratch}
 use Rattle.spec.specs.CallsNumbering.{reportAnswer, reportScratch, runAnswer, runNumbers, runLevels, runPasses, runScratch}
 use Rattle.spec.specs.CallsNumbering.{measuresAnswer, measuresScratch}
+use Rattle.spec.specs.CallsCuthill.{cuthillAnswer, cuthillNumbers, cuthillLevels, cuthillPasses, cuthillScratch}
 use Rattle.spec.specs.CallsStore.{eliminationAnswer, eliminationScratch, eliminationBytes, runEliminateAnswer, runEliminateBytes}
 use Rattle.spec.specs.CallsMesh.{meshAnswer, meshStarts, meshNeighbours, meshScratch}
 use Rattle.spec.specs.Mesh.{startList, neighbourList}

@@ -1,6 +1,6 @@
 #!/usr/bin/env python3
-"""The second table of crate `spec`: a dozen graphs, one for each slip and each tie rule of document 01, the passes of each part, the order of the
-refusals, the sizes of levels, and elements that have a node more than once.
+"""The second table of crate `spec`: a dozen graphs, one for each slip and each tie rule of document 01, the passes of each part, reverse
+Cuthill-McKee, the order of the refusals, the sizes of levels, and elements that have a node more than once.
 
   examples.py            print crates/spec/proofs/Examples.antt; `rt fmt` lays it out
   examples.py --check    say whether the file stands as this script prints it, layout aside
@@ -114,8 +114,8 @@ FILES = [
     ('a brick on one node', b'GRD', [1, 2, 1, 7, 2, 2, 2, 2, 2, 2, 2, 2], b''),
 ]
 
-HEAD = '''-- A second table by computation: graphs chosen so that each slip of document 01 and each tie rule shows, the passes of each part, the order of the
--- refusals, the sizes of levels, and elements that have a node more than once.
+HEAD = '''-- A second table by computation: graphs chosen so that each slip of document 01 and each tie rule shows, the passes of each part, reverse
+-- Cuthill-McKee, the order of the refusals, the sizes of levels, and elements that have a node more than once.
 -- Made by tests/definitions/examples.py: every expected value is the independent program's, tests/reference. Assumes nothing.
 use Prim.Native.Nat.{ℕ, _*_}
 use mathlib.Core.Path.{_≡_, refl}
@@ -129,6 +129,7 @@ use Rattle.spec.specs.Mesh.{startList, neighbourList}
 use Rattle.spec.specs.File.{fileGraph, fileRefusal}
 use Rattle.spec.specs.CallsLevels.{adjacencyAnswer, rootedAnswer, rootedSizes, endsAnswer}
 use Rattle.spec.specs.CallsNumbering.{runAnswer, runPasses, measuresAnswer}
+use Rattle.spec.specs.CallsCuthill.{cuthillAnswer, cuthillNumbers, cuthillLevels, cuthillPasses}
 use Rattle.spec.specs.CallsStore.{EliminationFigures, eliminationAnswer}
 use Rattle.spec.proofs.Compute.{computes}
 use Rattle.spec.proofs.Called.{Lists, numberOf, numbersFor, levelsFor, passesFor, figuresFor}
@@ -158,6 +159,24 @@ found l = record {
   marks = eliminationFor l (numbersFor l) 4;
   bytes = bytesFor l (numbersFor l) 4;
 }
+
+-- what reverse Cuthill-McKee says of a graph, with just enough lent
+record Ordered : Type 0 where
+  levels : List ℕ
+  numbers : List ℕ
+  passes : List ℕ
+  figures : Outcome Figures
+
+ordered : List ℕ → List ℕ → Ordered
+ordered S N =
+    let w : List ℕ = replicate (sizeOf S) 9 in
+    let x : List ℕ = replicate (6 * sizeOf S) 9 in
+    record {
+      levels = cuthillLevels S N w w w x;
+      numbers = cuthillNumbers S N w w w x;
+      passes = cuthillPasses S N w w w x;
+      figures = cuthillAnswer S N w w w x;
+    }
 '''
 
 
@@ -180,6 +199,13 @@ def found(n, edges):
             ('marks', outcome(elimination, figures(ELIMINATION_FIGURES))), ('bytes', words(marks))]
 
 
+def ordered(n, edges):
+    """The fields of Ordered, as the reference has them."""
+    numbers, levels, passes = buffer(n), buffer(n), buffer(n)
+    answer = calls.reverse_cuthill_mckee(*from_edges(n, edges), numbers, levels, passes, buffer(calls.scratch_words(n)))
+    return [('levels', words(levels)), ('numbers', words(numbers)), ('passes', words(passes)), ('figures', outcome(answer, figures(FIGURES)))]
+
+
 def refusal_of(answer):
     state, value = answer
     return value if state == 'refused' else 0
@@ -193,6 +219,7 @@ def refusals(starts, neighbours, node, numbering, per_node):
                calls.rooted_levels(starts, neighbours, node, lent(), lent()),
                calls.ends(starts, neighbours, node, lent()),
                calls.whole_run(starts, neighbours, lent(), lent(), lent(), lent()),
+               calls.reverse_cuthill_mckee(starts, neighbours, lent(), lent(), lent(), lent()),
                calls.measures(starts, neighbours, numbering, lent()),
                calls.elimination(starts, neighbours, numbering, lent(), [])]
     return [refusal_of(answer) for answer in answers]
@@ -210,15 +237,17 @@ def listed(name, kind, fields):
 
 
 def graph_rows():
-    """The lists of each graph and what is found of it, its field of the table, and its proof."""
+    """The lists of each graph and what is found of it, its fields of the table, and their proofs."""
     lists, fields, proofs = [], [], []
     for name, why, n, edges in GRAPHS:
         starts, neighbours = from_edges(n, edges)
         lists.append('-- %s\n' % why
                      + listed(name, 'Lists', [('starts', words(starts)), ('neighbours', words(neighbours))]))
         lists.append(listed(name + '-found', 'Found', found(n, edges)))
+        lists.append(listed(name + '-ordered', 'Ordered', ordered(n, edges)))
         fields.append('  is-%s : found %s ≡ %s-found' % (name, name, name))
-        proofs.append('  is-%s = refl;' % name)
+        fields.append('  order-of-%s : ordered %s %s ≡ %s-ordered' % (name, words(starts), words(neighbours), name))
+        proofs += ['  is-%s = refl;' % name, '  order-of-%s = refl;' % name]
     return lists, fields, proofs
 
 
@@ -247,15 +276,18 @@ def size_rows():
 
 
 def pass_rows():
-    """A field for what the run refuses each by, and one for its list of passes, and their proofs."""
+    """Fields for what the run and reverse Cuthill-McKee refuse each by, and for their lists of passes, and their proofs."""
     fields, proofs = [], []
     for number, (why, n, edges, *lengths) in enumerate(PASSES, 1):
         given, lent = from_edges(n, edges), [buffer(length) for length in lengths]
         arguments = ' '.join(map(words, [*given, *lent]))
-        refusal = refusal_of(calls.whole_run(*given, *lent))
-        fields.append('  -- %s\n  passes-%d-refusal : numberOf (runAnswer %s) ≡ %d' % (why, number, arguments, refusal))
-        fields.append('  passes-%d : runPasses %s ≡ %s' % (number, arguments, words(lent[2])))
-        proofs += ['  passes-%d-refusal = refl;' % number, '  passes-%d = refl;' % number]
+        fields.append('  -- %s' % why)
+        for name, call in ('run', calls.whole_run), ('cuthill', calls.reverse_cuthill_mckee):
+            after = [list(one) for one in lent]
+            refusal = refusal_of(call(*given, *after))
+            fields.append('  %s-%d-refusal : numberOf (%sAnswer %s) ≡ %d' % (name, number, name, arguments, refusal))
+            fields.append('  %s-%d-passes : %sPasses %s ≡ %s' % (name, number, name, arguments, words(after[2])))
+            proofs += ['  %s-%d-refusal = refl;' % (name, number), '  %s-%d-passes = refl;' % (name, number)]
     return fields, proofs
 
 
@@ -287,7 +319,8 @@ def file_rows():
     return fields, proofs
 
 
-REFUSED = '''-- what the adjacency test, rooted levels, ends, run, measures and elimination refuse by, with so many words lent for each node and no mark byte
+REFUSED = '''-- what the adjacency test, rooted levels, ends, run, reverse Cuthill-McKee, measures and elimination refuse by, with so many words lent for each
+-- node and no mark byte
 refusals : List ℕ → List ℕ → ℕ → List ℕ → ℕ → List ℕ
 refusals S N node x k =
     let w : List ℕ = replicate (k * sizeOf S) 9 in
@@ -295,6 +328,7 @@ refusals S N node x k =
     ∷ numberOf (rootedAnswer S N node w w)
     ∷ numberOf (endsAnswer S N node w)
     ∷ numberOf (runAnswer S N w w w w)
+    ∷ numberOf (cuthillAnswer S N w w w w)
     ∷ numberOf (measuresAnswer S N x w)
     ∷ numberOf (eliminationAnswer S N x w [])
     ∷ []
@@ -307,12 +341,12 @@ def text():
     sizes, sized = size_rows()
     passes, passed = pass_rows()
     files, read = file_rows()
-    names = ' '.join('%s %s-found' % (name, name) for name, *_ in GRAPHS)
+    names = ' '.join('%s %s-found %s-ordered' % (name, name, name) for name, *_ in GRAPHS)
     return '\n'.join([
         HEAD,
         REFUSED, *lists, 'record ExampleTable : Type 0 where', *fields, *more, *sizes, *passes, *files,
         '\n-- the whole table\nexample-table : ExampleTable',
-        'unfolding computes found numberOf refusals ' + names,
+        'unfolding computes found ordered numberOf refusals ' + names,
         'example-table = record {', *proofs, *refused, *sized, *passed, *read, '}', ''])
 
 

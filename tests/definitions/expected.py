@@ -50,6 +50,8 @@ def of_graph(i):
                   'reportAnswer', figures(PART_REPORT), ('reportScratch',))
         + of_call(calls.whole_run, lists, run,
                   'runAnswer', figures(FIGURES), ('runNumbers', 'runLevels', 'runPasses', 'runScratch'))
+        + of_call(calls.reverse_cuthill_mckee, lists, run,
+                  'cuthillAnswer', figures(FIGURES), ('cuthillNumbers', 'cuthillLevels', 'cuthillPasses', 'cuthillScratch'))
         + of_call(calls.measures, lists + (i.numbering,), (i.words,),
                   'measuresAnswer', figures(MEASURE_FIGURES), ('measuresScratch',))
         + of_call(calls.elimination, lists + (i.numbering,), (i.words, i.bytes),

@@ -1,5 +1,5 @@
--- A second table by computation: graphs chosen so that each slip of document 01 and each tie rule shows, the passes of each part, the order of the
--- refusals, the sizes of levels, and elements that have a node more than once.
+-- A second table by computation: graphs chosen so that each slip of document 01 and each tie rule shows, the passes of each part, reverse
+-- Cuthill-McKee, the order of the refusals, the sizes of levels, and elements that have a node more than once.
 -- Made by tests/definitions/examples.py: every expected value is the independent program's, tests/reference. Assumes nothing.
 use Prim.Native.Nat.{ℕ, _*_}
 use mathlib.Core.Path.{_≡_, refl}
@@ -13,6 +13,7 @@ use Rattle.spec.specs.Mesh.{startList, neighbourList}
 use Rattle.spec.specs.File.{fileGraph, fileRefusal}
 use Rattle.spec.specs.CallsLevels.{adjacencyAnswer, rootedAnswer, rootedSizes, endsAnswer}
 use Rattle.spec.specs.CallsNumbering.{runAnswer, runPasses, measuresAnswer}
+use Rattle.spec.specs.CallsCuthill.{cuthillAnswer, cuthillNumbers, cuthillLevels, cuthillPasses}
 use Rattle.spec.specs.CallsStore.{EliminationFigures, eliminationAnswer}
 use Rattle.spec.proofs.Compute.{computes}
 use Rattle.spec.proofs.Called.{Lists, numberOf, numbersFor, levelsFor, passesFor, figuresFor}
@@ -43,7 +44,26 @@ found l = record {
   bytes = bytesFor l (numbersFor l) 4;
 }
 
--- what the adjacency test, rooted levels, ends, run, measures and elimination refuse by, with so many words lent for each node and no mark byte
+-- what reverse Cuthill-McKee says of a graph, with just enough lent
+record Ordered : Type 0 where
+  levels : List ℕ
+  numbers : List ℕ
+  passes : List ℕ
+  figures : Outcome Figures
+
+ordered : List ℕ → List ℕ → Ordered
+ordered S N =
+    let w : List ℕ = replicate (sizeOf S) 9 in
+    let x : List ℕ = replicate (6 * sizeOf S) 9 in
+    record {
+      levels = cuthillLevels S N w w w x;
+      numbers = cuthillNumbers S N w w w x;
+      passes = cuthillPasses S N w w w x;
+      figures = cuthillAnswer S N w w w x;
+    }
+
+-- what the adjacency test, rooted levels, ends, run, reverse Cuthill-McKee, measures and elimination refuse by, with so many words lent for each
+-- node and no mark byte
 refusals : List ℕ → List ℕ → ℕ → List ℕ → ℕ → List ℕ
 refusals S N node x k =
     let w : List ℕ = replicate (k * sizeOf S) 9 in
@@ -51,6 +71,7 @@ refusals S N node x k =
     ∷ numberOf (rootedAnswer S N node w w)
     ∷ numberOf (endsAnswer S N node w)
     ∷ numberOf (runAnswer S N w w w w)
+    ∷ numberOf (cuthillAnswer S N w w w w)
     ∷ numberOf (measuresAnswer S N x w)
     ∷ numberOf (eliminationAnswer S N x w [])
     ∷ []
@@ -75,6 +96,14 @@ names-found = record {
   bytes = 255 ∷ 31 ∷ 9 ∷ 9 ∷ [];
 }
 
+names-ordered : Ordered
+names-ordered = record {
+  levels = 1 ∷ 3 ∷ 3 ∷ 2 ∷ 2 ∷ 2 ∷ 4 ∷ [];
+  numbers = 7 ∷ 2 ∷ 3 ∷ 6 ∷ 5 ∷ 4 ∷ 1 ∷ [];
+  passes = 2 ∷ 0 ∷ 0 ∷ 0 ∷ 0 ∷ 0 ∷ 0 ∷ [];
+  figures = accepted (record { nodes = 7; parts = 1; bandwidth = 3; profile = 13; front = 4; levels = 4; width = 3 });
+}
+
 -- a change of names after two passes: the first s deeper than v, not the last
 deeper : Lists
 deeper = record {
@@ -93,6 +122,14 @@ deeper-found = record {
   figures = accepted (record { nodes = 8; parts = 1; bandwidth = 2; profile = 8; front = 3; levels = 6; width = 2 });
   marks = accepted (record { marked = 8; new = 0 });
   bytes = 255 ∷ 9 ∷ 9 ∷ 9 ∷ [];
+}
+
+deeper-ordered : Ordered
+deeper-ordered = record {
+  levels = 4 ∷ 2 ∷ 5 ∷ 3 ∷ 1 ∷ 2 ∷ 5 ∷ 6 ∷ [];
+  numbers = 4 ∷ 6 ∷ 3 ∷ 5 ∷ 8 ∷ 7 ∷ 2 ∷ 1 ∷ [];
+  passes = 2 ∷ 0 ∷ 0 ∷ 0 ∷ 0 ∷ 0 ∷ 0 ∷ 0 ∷ [];
+  figures = accepted (record { nodes = 8; parts = 1; bandwidth = 2; profile = 8; front = 3; levels = 6; width = 2 });
 }
 
 -- three passes
@@ -115,6 +152,14 @@ passes-found = record {
   bytes = 255 ∷ 31 ∷ 9 ∷ 9 ∷ [];
 }
 
+passes-ordered : Ordered
+passes-ordered = record {
+  levels = 4 ∷ 4 ∷ 6 ∷ 5 ∷ 5 ∷ 1 ∷ 2 ∷ 2 ∷ 3 ∷ [];
+  numbers = 5 ∷ 4 ∷ 1 ∷ 3 ∷ 2 ∷ 9 ∷ 8 ∷ 7 ∷ 6 ∷ [];
+  passes = 3 ∷ 0 ∷ 0 ∷ 0 ∷ 0 ∷ 0 ∷ 0 ∷ 0 ∷ 0 ∷ [];
+  figures = accepted (record { nodes = 9; parts = 1; bandwidth = 2; profile = 13; front = 3; levels = 6; width = 2 });
+}
+
 -- S is taken in E, not by number
 inE : Lists
 inE = record {
@@ -133,6 +178,14 @@ inE-found = record {
   figures = accepted (record { nodes = 7; parts = 1; bandwidth = 2; profile = 7; front = 3; levels = 5; width = 2 });
   marks = accepted (record { marked = 7; new = 0 });
   bytes = 127 ∷ 9 ∷ 9 ∷ 9 ∷ [];
+}
+
+inE-ordered : Ordered
+inE-ordered = record {
+  levels = 2 ∷ 5 ∷ 4 ∷ 5 ∷ 4 ∷ 3 ∷ 1 ∷ [];
+  numbers = 6 ∷ 2 ∷ 3 ∷ 1 ∷ 4 ∷ 5 ∷ 7 ∷ [];
+  passes = 2 ∷ 0 ∷ 0 ∷ 0 ∷ 0 ∷ 0 ∷ 0 ∷ [];
+  figures = accepted (record { nodes = 7; parts = 1; bandwidth = 2; profile = 7; front = 3; levels = 5; width = 2 });
 }
 
 -- several pieces of equal size: the lowest number first, each against the counts as they then are
@@ -155,6 +208,14 @@ equal-found = record {
   bytes = 63 ∷ 9 ∷ 9 ∷ 9 ∷ [];
 }
 
+equal-ordered : Ordered
+equal-ordered = record {
+  levels = 3 ∷ 2 ∷ 1 ∷ 4 ∷ 4 ∷ 4 ∷ [];
+  numbers = 4 ∷ 5 ∷ 6 ∷ 3 ∷ 2 ∷ 1 ∷ [];
+  passes = 1 ∷ 0 ∷ 0 ∷ 0 ∷ 0 ∷ 0 ∷ [];
+  figures = accepted (record { nodes = 6; parts = 1; bandwidth = 3; profile = 5; front = 2; levels = 4; width = 3 });
+}
+
 -- larger pieces first; a second part
 larger : Lists
 larger = record {
@@ -173,6 +234,14 @@ larger-found = record {
   figures = accepted (record { nodes = 8; parts = 2; bandwidth = 4; profile = 13; front = 5; levels = 4; width = 3 });
   marks = accepted (record { marked = 13; new = 4 });
   bytes = 255 ∷ 31 ∷ 9 ∷ 9 ∷ [];
+}
+
+larger-ordered : Ordered
+larger-ordered = record {
+  levels = 3 ∷ 2 ∷ 1 ∷ 1 ∷ 3 ∷ 3 ∷ 3 ∷ 3 ∷ [];
+  numbers = 4 ∷ 6 ∷ 7 ∷ 8 ∷ 2 ∷ 1 ∷ 5 ∷ 3 ∷ [];
+  passes = 1 ∷ 1 ∷ 0 ∷ 0 ∷ 0 ∷ 0 ∷ 0 ∷ 0 ∷ [];
+  figures = accepted (record { nodes = 8; parts = 2; bandwidth = 5; profile = 11; front = 4; levels = 4; width = 5 });
 }
 
 -- h over the levels that the piece touches
@@ -195,6 +264,14 @@ untouched-found = record {
   bytes = 255 ∷ 7 ∷ 9 ∷ 9 ∷ [];
 }
 
+untouched-ordered : Ordered
+untouched-ordered = record {
+  levels = 2 ∷ 3 ∷ 1 ∷ 3 ∷ 3 ∷ 3 ∷ 3 ∷ [];
+  numbers = 6 ∷ 5 ∷ 7 ∷ 3 ∷ 2 ∷ 4 ∷ 1 ∷ [];
+  passes = 1 ∷ 0 ∷ 0 ∷ 0 ∷ 0 ∷ 0 ∷ 0 ∷ [];
+  figures = accepted (record { nodes = 7; parts = 1; bandwidth = 5; profile = 13; front = 4; levels = 3; width = 5 });
+}
+
 -- h and l equal, and u narrower than v: by second numbers
 narrower : Lists
 narrower = record {
@@ -213,6 +290,14 @@ narrower-found = record {
   figures = accepted (record { nodes = 6; parts = 1; bandwidth = 2; profile = 6; front = 3; levels = 4; width = 2 });
   marks = accepted (record { marked = 6; new = 0 });
   bytes = 63 ∷ 9 ∷ 9 ∷ 9 ∷ [];
+}
+
+narrower-ordered : Ordered
+narrower-ordered = record {
+  levels = 4 ∷ 1 ∷ 3 ∷ 2 ∷ 4 ∷ 4 ∷ [];
+  numbers = 2 ∷ 6 ∷ 4 ∷ 5 ∷ 3 ∷ 1 ∷ [];
+  passes = 1 ∷ 0 ∷ 0 ∷ 0 ∷ 0 ∷ 0 ∷ [];
+  figures = accepted (record { nodes = 6; parts = 1; bandwidth = 3; profile = 6; front = 3; levels = 4; width = 3 });
 }
 
 -- degree in the whole graph, not in what is left of it
@@ -235,6 +320,14 @@ degrees-found = record {
   bytes = 255 ∷ 9 ∷ 9 ∷ 9 ∷ [];
 }
 
+degrees-ordered : Ordered
+degrees-ordered = record {
+  levels = 1 ∷ 3 ∷ 2 ∷ 3 ∷ 3 ∷ 3 ∷ [];
+  numbers = 6 ∷ 2 ∷ 5 ∷ 4 ∷ 1 ∷ 3 ∷ [];
+  passes = 1 ∷ 0 ∷ 0 ∷ 0 ∷ 0 ∷ 0 ∷ [];
+  figures = accepted (record { nodes = 6; parts = 1; bandwidth = 4; profile = 6; front = 3; levels = 3; width = 4 });
+}
+
 -- nodes left in a level: the first in E
 leftover : Lists
 leftover = record {
@@ -253,6 +346,14 @@ leftover-found = record {
   figures = accepted (record { nodes = 6; parts = 1; bandwidth = 3; profile = 8; front = 3; levels = 3; width = 3 });
   marks = accepted (record { marked = 8; new = 0 });
   bytes = 255 ∷ 9 ∷ 9 ∷ 9 ∷ [];
+}
+
+leftover-ordered : Ordered
+leftover-ordered = record {
+  levels = 2 ∷ 3 ∷ 3 ∷ 3 ∷ 3 ∷ 1 ∷ [];
+  numbers = 5 ∷ 4 ∷ 2 ∷ 1 ∷ 3 ∷ 6 ∷ [];
+  passes = 1 ∷ 0 ∷ 0 ∷ 0 ∷ 0 ∷ 0 ∷ [];
+  figures = accepted (record { nodes = 6; parts = 1; bandwidth = 4; profile = 10; front = 4; levels = 3; width = 4 });
 }
 
 -- within a level the lowest-numbered node first
@@ -275,6 +376,14 @@ lowest-found = record {
   bytes = 255 ∷ 255 ∷ 127 ∷ 9 ∷ [];
 }
 
+lowest-ordered : Ordered
+lowest-ordered = record {
+  levels = 4 ∷ 1 ∷ 3 ∷ 2 ∷ 3 ∷ 3 ∷ 2 ∷ 3 ∷ 3 ∷ [];
+  numbers = 1 ∷ 9 ∷ 6 ∷ 8 ∷ 4 ∷ 5 ∷ 7 ∷ 3 ∷ 2 ∷ [];
+  passes = 1 ∷ 0 ∷ 0 ∷ 0 ∷ 0 ∷ 0 ∷ 0 ∷ 0 ∷ 0 ∷ [];
+  figures = accepted (record { nodes = 9; parts = 1; bandwidth = 5; profile = 23; front = 5; levels = 4; width = 5 });
+}
+
 -- three parts, Forward beside Reversed
 directions : Lists
 directions = record {
@@ -293,6 +402,14 @@ directions-found = record {
   figures = accepted (record { nodes = 7; parts = 2; bandwidth = 3; profile = 6; front = 3; levels = 5; width = 3 });
   marks = accepted (record { marked = 6; new = 0 });
   bytes = 63 ∷ 9 ∷ 9 ∷ 9 ∷ [];
+}
+
+directions-ordered : Ordered
+directions-ordered = record {
+  levels = 3 ∷ 2 ∷ 3 ∷ 1 ∷ 1 ∷ 4 ∷ 3 ∷ [];
+  numbers = 4 ∷ 5 ∷ 3 ∷ 7 ∷ 6 ∷ 1 ∷ 2 ∷ [];
+  passes = 1 ∷ 1 ∷ 0 ∷ 0 ∷ 0 ∷ 0 ∷ 0 ∷ [];
+  figures = accepted (record { nodes = 7; parts = 2; bandwidth = 3; profile = 6; front = 3; levels = 5; width = 3 });
 }
 
 -- equal profiles stay Forward; equal widths of u and v go by first numbers
@@ -315,6 +432,14 @@ profiles-found = record {
   bytes = 7 ∷ 9 ∷ 9 ∷ 9 ∷ [];
 }
 
+profiles-ordered : Ordered
+profiles-ordered = record {
+  levels = 1 ∷ 2 ∷ 1 ∷ 2 ∷ [];
+  numbers = 3 ∷ 2 ∷ 4 ∷ 1 ∷ [];
+  passes = 1 ∷ 1 ∷ 0 ∷ 0 ∷ [];
+  figures = accepted (record { nodes = 4; parts = 2; bandwidth = 2; profile = 3; front = 3; levels = 3; width = 2 });
+}
+
 -- parts of two, three and one passes: in the order of the parts, neither by size nor by passes
 eachPart : Lists
 eachPart = record {
@@ -333,6 +458,14 @@ eachPart-found = record {
   figures = accepted (record { nodes = 16; parts = 3; bandwidth = 2; profile = 18; front = 3; levels = 12; width = 2 });
   marks = accepted (record { marked = 18; new = 3 });
   bytes = 255 ∷ 255 ∷ 3 ∷ 9 ∷ [];
+}
+
+eachPart-ordered : Ordered
+eachPart-ordered = record {
+  levels = 4 ∷ 4 ∷ 1 ∷ 2 ∷ 4 ∷ 1 ∷ 6 ∷ 5 ∷ 4 ∷ 5 ∷ 1 ∷ 3 ∷ 2 ∷ 5 ∷ 2 ∷ 3 ∷ [];
+  numbers = 3 ∷ 11 ∷ 16 ∷ 5 ∷ 10 ∷ 6 ∷ 7 ∷ 9 ∷ 2 ∷ 8 ∷ 15 ∷ 4 ∷ 14 ∷ 1 ∷ 13 ∷ 12 ∷ [];
+  passes = (2 ∷ []) ++ (3 ∷ []) ++ (1 ∷ []) ++ replicate 13 0;
+  figures = accepted (record { nodes = 16; parts = 3; bandwidth = 2; profile = 18; front = 3; levels = 12; width = 2 });
 }
 
 -- two isolated nodes: a pass each
@@ -355,44 +488,67 @@ isolated-found = record {
   bytes = 9 ∷ 9 ∷ 9 ∷ 9 ∷ [];
 }
 
+isolated-ordered : Ordered
+isolated-ordered = record {
+  levels = 1 ∷ 1 ∷ [];
+  numbers = 1 ∷ 2 ∷ [];
+  passes = 1 ∷ 1 ∷ [];
+  figures = accepted (record { nodes = 2; parts = 2; bandwidth = 0; profile = 0; front = 1; levels = 2; width = 1 });
+}
+
 record ExampleTable : Type 0 where
   is-names : found names ≡ names-found
+  order-of-names : ordered (0 ∷ 3 ∷ 5 ∷ 8 ∷ 12 ∷ 16 ∷ 20 ∷ 22 ∷ []) (4 ∷ 5 ∷ 6 ∷ 5 ∷ 7 ∷ 4 ∷ 6 ∷ 7 ∷ 1 ∷ 3 ∷ 5 ∷ 6 ∷ 1 ∷ 2 ∷ 4 ∷ 6 ∷ 1 ∷ 3 ∷ 4 ∷ 5 ∷ 2 ∷ 3 ∷ []) ≡ names-ordered
   is-deeper : found deeper ≡ deeper-found
+  order-of-deeper : ordered (0 ∷ 3 ∷ 6 ∷ 7 ∷ 9 ∷ 11 ∷ 13 ∷ 15 ∷ 16 ∷ []) (3 ∷ 4 ∷ 7 ∷ 4 ∷ 5 ∷ 6 ∷ 1 ∷ 1 ∷ 2 ∷ 2 ∷ 6 ∷ 2 ∷ 5 ∷ 1 ∷ 8 ∷ 7 ∷ []) ≡ deeper-ordered
   is-passes : found passes ≡ passes-found
+  order-of-passes : ordered (0 ∷ 2 ∷ 4 ∷ 6 ∷ 8 ∷ 10 ∷ 12 ∷ 14 ∷ 17 ∷ 20 ∷ []) (4 ∷ 9 ∷ 5 ∷ 9 ∷ 4 ∷ 5 ∷ 1 ∷ 3 ∷ 2 ∷ 3 ∷ 7 ∷ 8 ∷ 6 ∷ 8 ∷ 6 ∷ 7 ∷ 9 ∷ 1 ∷ 2 ∷ 8 ∷ []) ≡ passes-ordered
   is-inE : found inE ≡ inE-found
+  order-of-inE : ordered (0 ∷ 2 ∷ 4 ∷ 7 ∷ 9 ∷ 10 ∷ 13 ∷ 14 ∷ []) (6 ∷ 7 ∷ 3 ∷ 4 ∷ 2 ∷ 4 ∷ 6 ∷ 2 ∷ 3 ∷ 6 ∷ 1 ∷ 3 ∷ 5 ∷ 1 ∷ []) ≡ inE-ordered
   is-equal : found equal ≡ equal-found
+  order-of-equal : ordered (0 ∷ 4 ∷ 6 ∷ 7 ∷ 8 ∷ 9 ∷ 10 ∷ []) (2 ∷ 4 ∷ 5 ∷ 6 ∷ 1 ∷ 3 ∷ 2 ∷ 1 ∷ 1 ∷ 1 ∷ []) ≡ equal-ordered
   is-larger : found larger ≡ larger-found
+  order-of-larger : ordered (0 ∷ 2 ∷ 8 ∷ 9 ∷ 9 ∷ 12 ∷ 15 ∷ 16 ∷ 18 ∷ []) (2 ∷ 6 ∷ 1 ∷ 3 ∷ 5 ∷ 6 ∷ 7 ∷ 8 ∷ 2 ∷ 2 ∷ 6 ∷ 8 ∷ 1 ∷ 2 ∷ 5 ∷ 2 ∷ 2 ∷ 5 ∷ []) ≡ larger-ordered
   is-untouched : found untouched ≡ untouched-found
+  order-of-untouched : ordered (0 ∷ 6 ∷ 8 ∷ 9 ∷ 12 ∷ 15 ∷ 17 ∷ 20 ∷ []) (2 ∷ 3 ∷ 4 ∷ 5 ∷ 6 ∷ 7 ∷ 1 ∷ 4 ∷ 1 ∷ 1 ∷ 2 ∷ 7 ∷ 1 ∷ 6 ∷ 7 ∷ 1 ∷ 5 ∷ 1 ∷ 4 ∷ 5 ∷ []) ≡ untouched-ordered
   is-narrower : found narrower ≡ narrower-found
+  order-of-narrower : ordered (0 ∷ 2 ∷ 3 ∷ 7 ∷ 9 ∷ 10 ∷ 12 ∷ []) (3 ∷ 6 ∷ 4 ∷ 1 ∷ 4 ∷ 5 ∷ 6 ∷ 2 ∷ 3 ∷ 3 ∷ 1 ∷ 3 ∷ []) ≡ narrower-ordered
   is-degrees : found degrees ≡ degrees-found
+  order-of-degrees : ordered (0 ∷ 1 ∷ 3 ∷ 8 ∷ 9 ∷ 11 ∷ 12 ∷ []) (3 ∷ 3 ∷ 5 ∷ 1 ∷ 2 ∷ 4 ∷ 5 ∷ 6 ∷ 3 ∷ 2 ∷ 3 ∷ 3 ∷ []) ≡ degrees-ordered
   is-leftover : found leftover ≡ leftover-found
+  order-of-leftover : ordered (0 ∷ 5 ∷ 7 ∷ 10 ∷ 13 ∷ 15 ∷ 16 ∷ []) (2 ∷ 3 ∷ 4 ∷ 5 ∷ 6 ∷ 1 ∷ 3 ∷ 1 ∷ 2 ∷ 4 ∷ 1 ∷ 3 ∷ 5 ∷ 1 ∷ 4 ∷ 1 ∷ []) ≡ leftover-ordered
   is-lowest : found lowest ≡ lowest-found
+  order-of-lowest : ordered (0 ∷ 3 ∷ 5 ∷ 8 ∷ 12 ∷ 16 ∷ 19 ∷ 23 ∷ 25 ∷ 28 ∷ []) (3 ∷ 6 ∷ 9 ∷ 4 ∷ 7 ∷ 1 ∷ 4 ∷ 8 ∷ 2 ∷ 3 ∷ 5 ∷ 6 ∷ 4 ∷ 6 ∷ 7 ∷ 9 ∷ 1 ∷ 4 ∷ 5 ∷ 2 ∷ 5 ∷ 8 ∷ 9 ∷ 3 ∷ 7 ∷ 1 ∷ 5 ∷ 7 ∷ []) ≡ lowest-ordered
   is-directions : found directions ≡ directions-found
+  order-of-directions : ordered (0 ∷ 2 ∷ 6 ∷ 8 ∷ 8 ∷ 9 ∷ 10 ∷ 12 ∷ []) (2 ∷ 3 ∷ 1 ∷ 3 ∷ 5 ∷ 7 ∷ 1 ∷ 2 ∷ 2 ∷ 7 ∷ 2 ∷ 6 ∷ []) ≡ directions-ordered
   is-profiles : found profiles ≡ profiles-found
+  order-of-profiles : ordered (0 ∷ 2 ∷ 4 ∷ 4 ∷ 6 ∷ []) (2 ∷ 4 ∷ 1 ∷ 4 ∷ 1 ∷ 2 ∷ []) ≡ profiles-ordered
   is-eachPart : found eachPart ≡ eachPart-found
+  order-of-eachPart : ordered (0 ∷ 1 ∷ 3 ∷ 3 ∷ 5 ∷ 7 ∷ 8 ∷ 10 ∷ 12 ∷ 14 ∷ 16 ∷ 18 ∷ 21 ∷ 23 ∷ 24 ∷ 27 ∷ 30 ∷ []) (12 ∷ 8 ∷ 16 ∷ 6 ∷ 12 ∷ 10 ∷ 16 ∷ 4 ∷ 8 ∷ 10 ∷ 2 ∷ 7 ∷ 12 ∷ 14 ∷ 5 ∷ 7 ∷ 13 ∷ 15 ∷ 1 ∷ 4 ∷ 9 ∷ 11 ∷ 15 ∷ 9 ∷ 11 ∷ 13 ∷ 16 ∷ 2 ∷ 5 ∷ 15 ∷ []) ≡ eachPart-ordered
   is-isolated : found isolated ≡ isolated-found
+  order-of-isolated : ordered (0 ∷ 0 ∷ 0 ∷ []) [] ≡ isolated-ordered
   -- an empty start list
-  refusals-1 : refusals [] [] 1 [] 6 ≡ (1 ∷ 1 ∷ 1 ∷ 1 ∷ 1 ∷ 1 ∷ [])
+  refusals-1 : refusals [] [] 1 [] 6 ≡ (1 ∷ 1 ∷ 1 ∷ 1 ∷ 1 ∷ 1 ∷ 1 ∷ [])
   -- one start word
-  refusals-2 : refusals (5 ∷ []) [] 1 [] 6 ≡ (1 ∷ 1 ∷ 1 ∷ 1 ∷ 1 ∷ 1 ∷ [])
+  refusals-2 : refusals (5 ∷ []) [] 1 [] 6 ≡ (1 ∷ 1 ∷ 1 ∷ 1 ∷ 1 ∷ 1 ∷ 1 ∷ [])
   -- starts that fall, and a row that leaves 1..n
-  refusals-3 : refusals (0 ∷ 2 ∷ 1 ∷ 3 ∷ []) (9 ∷ 9 ∷ 9 ∷ []) 1 [] 6 ≡ (2 ∷ 2 ∷ 2 ∷ 2 ∷ 2 ∷ 2 ∷ [])
+  refusals-3 : refusals (0 ∷ 2 ∷ 1 ∷ 3 ∷ []) (9 ∷ 9 ∷ 9 ∷ []) 1 [] 6 ≡ (2 ∷ 2 ∷ 2 ∷ 2 ∷ 2 ∷ 2 ∷ 2 ∷ [])
   -- 3 before 4: row 1 lacks its partner, and row 3 falls
-  refusals-4 : refusals (0 ∷ 1 ∷ 1 ∷ 3 ∷ []) (2 ∷ 2 ∷ 1 ∷ []) 1 [] 6 ≡ (3 ∷ 3 ∷ 3 ∷ 3 ∷ 3 ∷ 3 ∷ [])
+  refusals-4 : refusals (0 ∷ 1 ∷ 1 ∷ 3 ∷ []) (2 ∷ 2 ∷ 1 ∷ []) 1 [] 6 ≡ (3 ∷ 3 ∷ 3 ∷ 3 ∷ 3 ∷ 3 ∷ 3 ∷ [])
   -- equal neighbours side by side
-  refusals-5 : refusals (0 ∷ 2 ∷ 4 ∷ []) (2 ∷ 2 ∷ 1 ∷ 1 ∷ []) 1 [] 6 ≡ (3 ∷ 3 ∷ 3 ∷ 3 ∷ 3 ∷ 3 ∷ [])
+  refusals-5 : refusals (0 ∷ 2 ∷ 4 ∷ []) (2 ∷ 2 ∷ 1 ∷ 1 ∷ []) 1 [] 6 ≡ (3 ∷ 3 ∷ 3 ∷ 3 ∷ 3 ∷ 3 ∷ 3 ∷ [])
   -- 4 before 5: no partner, and nothing lent
-  refusals-6 : refusals (0 ∷ 1 ∷ 1 ∷ []) (2 ∷ []) 1 (1 ∷ 2 ∷ []) 0 ≡ (4 ∷ 4 ∷ 4 ∷ 4 ∷ 4 ∷ 4 ∷ [])
+  refusals-6 : refusals (0 ∷ 1 ∷ 1 ∷ []) (2 ∷ []) 1 (1 ∷ 2 ∷ []) 0 ≡ (4 ∷ 4 ∷ 4 ∷ 4 ∷ 4 ∷ 4 ∷ 4 ∷ [])
   -- 5 before 6 and 7: nothing lent, node 0, and a numbering that is none
-  refusals-7 : refusals (0 ∷ 1 ∷ 2 ∷ []) (2 ∷ 1 ∷ []) 0 (1 ∷ 1 ∷ []) 0 ≡ (0 ∷ 5 ∷ 5 ∷ 5 ∷ 5 ∷ 5 ∷ [])
+  refusals-7 : refusals (0 ∷ 1 ∷ 2 ∷ []) (2 ∷ 1 ∷ []) 0 (1 ∷ 1 ∷ []) 0 ≡ (0 ∷ 5 ∷ 5 ∷ 5 ∷ 5 ∷ 5 ∷ 5 ∷ [])
   -- 6, and a numbering that is too long
-  refusals-8 : refusals (0 ∷ 1 ∷ 2 ∷ []) (2 ∷ 1 ∷ []) 3 (1 ∷ 2 ∷ 1 ∷ []) 6 ≡ (0 ∷ 6 ∷ 6 ∷ 0 ∷ 7 ∷ 7 ∷ [])
+  refusals-8 : refusals (0 ∷ 1 ∷ 2 ∷ []) (2 ∷ 1 ∷ []) 3 (1 ∷ 2 ∷ 1 ∷ []) 6 ≡ (0 ∷ 6 ∷ 6 ∷ 0 ∷ 0 ∷ 7 ∷ 7 ∷ [])
   -- 7 before 8: a numbering that is none, and no mark byte
-  refusals-9 : refusals (0 ∷ 1 ∷ 2 ∷ []) (2 ∷ 1 ∷ []) 1 (0 ∷ 1 ∷ []) 6 ≡ (0 ∷ 0 ∷ 0 ∷ 0 ∷ 7 ∷ 7 ∷ [])
+  refusals-9 : refusals (0 ∷ 1 ∷ 2 ∷ []) (2 ∷ 1 ∷ []) 1 (0 ∷ 1 ∷ []) 6 ≡ (0 ∷ 0 ∷ 0 ∷ 0 ∷ 0 ∷ 7 ∷ 7 ∷ [])
   -- 8: no mark byte; 6n words are enough for the rest
-  refusals-10 : refusals (0 ∷ 1 ∷ 2 ∷ []) (2 ∷ 1 ∷ []) 1 (2 ∷ 1 ∷ []) 6 ≡ (0 ∷ 0 ∷ 0 ∷ 0 ∷ 0 ∷ 8 ∷ [])
+  refusals-10 : refusals (0 ∷ 1 ∷ 2 ∷ []) (2 ∷ 1 ∷ []) 1 (2 ∷ 1 ∷ []) 6 ≡ (0 ∷ 0 ∷ 0 ∷ 0 ∷ 0 ∷ 0 ∷ 8 ∷ [])
   -- 5 where 6n words are asked for, and one less is lent
-  refusals-11 : refusals (0 ∷ 0 ∷ []) [] 1 (1 ∷ []) 5 ≡ (0 ∷ 0 ∷ 5 ∷ 5 ∷ 0 ∷ 0 ∷ [])
+  refusals-11 : refusals (0 ∷ 0 ∷ []) [] 1 (1 ∷ []) 5 ≡ (0 ∷ 0 ∷ 5 ∷ 5 ∷ 5 ∷ 0 ∷ 0 ∷ [])
   -- one node
   sizes-1 : rootedSizes (0 ∷ 0 ∷ []) [] 1 (9 ∷ []) (9 ∷ []) ≡ (1 ∷ [])
   -- an isolated root: zeros after the depth
@@ -414,23 +570,35 @@ record ExampleTable : Type 0 where
   -- a root that is none: the sizes stay
   sizes-10 : rootedSizes (0 ∷ 1 ∷ 2 ∷ 2 ∷ []) (2 ∷ 1 ∷ []) 4 (9 ∷ 9 ∷ 9 ∷ []) (9 ∷ 9 ∷ 9 ∷ []) ≡ (9 ∷ 9 ∷ 9 ∷ [])
   -- two isolated nodes
-  passes-1-refusal : numberOf (runAnswer (0 ∷ 0 ∷ 0 ∷ []) [] (9 ∷ 9 ∷ []) (9 ∷ 9 ∷ []) (9 ∷ 9 ∷ []) (replicate 12 9)) ≡ 0
-  passes-1 : runPasses (0 ∷ 0 ∷ 0 ∷ []) [] (9 ∷ 9 ∷ []) (9 ∷ 9 ∷ []) (9 ∷ 9 ∷ []) (replicate 12 9) ≡ (1 ∷ 1 ∷ [])
+  run-1-refusal : numberOf (runAnswer (0 ∷ 0 ∷ 0 ∷ []) [] (9 ∷ 9 ∷ []) (9 ∷ 9 ∷ []) (9 ∷ 9 ∷ []) (replicate 12 9)) ≡ 0
+  run-1-passes : runPasses (0 ∷ 0 ∷ 0 ∷ []) [] (9 ∷ 9 ∷ []) (9 ∷ 9 ∷ []) (9 ∷ 9 ∷ []) (replicate 12 9) ≡ (1 ∷ 1 ∷ [])
+  cuthill-1-refusal : numberOf (cuthillAnswer (0 ∷ 0 ∷ 0 ∷ []) [] (9 ∷ 9 ∷ []) (9 ∷ 9 ∷ []) (9 ∷ 9 ∷ []) (replicate 12 9)) ≡ 0
+  cuthill-1-passes : cuthillPasses (0 ∷ 0 ∷ 0 ∷ []) [] (9 ∷ 9 ∷ []) (9 ∷ 9 ∷ []) (9 ∷ 9 ∷ []) (replicate 12 9) ≡ (1 ∷ 1 ∷ [])
   -- zeros after the last part; a longer list keeps its excess
-  passes-2-refusal : numberOf (runAnswer (0 ∷ 1 ∷ 1 ∷ 3 ∷ 4 ∷ []) (3 ∷ 1 ∷ 4 ∷ 3 ∷ []) (9 ∷ 9 ∷ 9 ∷ 9 ∷ []) (9 ∷ 9 ∷ 9 ∷ 9 ∷ []) (9 ∷ 9 ∷ 9 ∷ 9 ∷ 9 ∷ 9 ∷ []) (replicate 24 9)) ≡ 0
-  passes-2 : runPasses (0 ∷ 1 ∷ 1 ∷ 3 ∷ 4 ∷ []) (3 ∷ 1 ∷ 4 ∷ 3 ∷ []) (9 ∷ 9 ∷ 9 ∷ 9 ∷ []) (9 ∷ 9 ∷ 9 ∷ 9 ∷ []) (9 ∷ 9 ∷ 9 ∷ 9 ∷ 9 ∷ 9 ∷ []) (replicate 24 9) ≡ (1 ∷ 1 ∷ 0 ∷ 0 ∷ 9 ∷ 9 ∷ [])
+  run-2-refusal : numberOf (runAnswer (0 ∷ 1 ∷ 1 ∷ 3 ∷ 4 ∷ []) (3 ∷ 1 ∷ 4 ∷ 3 ∷ []) (9 ∷ 9 ∷ 9 ∷ 9 ∷ []) (9 ∷ 9 ∷ 9 ∷ 9 ∷ []) (9 ∷ 9 ∷ 9 ∷ 9 ∷ 9 ∷ 9 ∷ []) (replicate 24 9)) ≡ 0
+  run-2-passes : runPasses (0 ∷ 1 ∷ 1 ∷ 3 ∷ 4 ∷ []) (3 ∷ 1 ∷ 4 ∷ 3 ∷ []) (9 ∷ 9 ∷ 9 ∷ 9 ∷ []) (9 ∷ 9 ∷ 9 ∷ 9 ∷ []) (9 ∷ 9 ∷ 9 ∷ 9 ∷ 9 ∷ 9 ∷ []) (replicate 24 9) ≡ (1 ∷ 1 ∷ 0 ∷ 0 ∷ 9 ∷ 9 ∷ [])
+  cuthill-2-refusal : numberOf (cuthillAnswer (0 ∷ 1 ∷ 1 ∷ 3 ∷ 4 ∷ []) (3 ∷ 1 ∷ 4 ∷ 3 ∷ []) (9 ∷ 9 ∷ 9 ∷ 9 ∷ []) (9 ∷ 9 ∷ 9 ∷ 9 ∷ []) (9 ∷ 9 ∷ 9 ∷ 9 ∷ 9 ∷ 9 ∷ []) (replicate 24 9)) ≡ 0
+  cuthill-2-passes : cuthillPasses (0 ∷ 1 ∷ 1 ∷ 3 ∷ 4 ∷ []) (3 ∷ 1 ∷ 4 ∷ 3 ∷ []) (9 ∷ 9 ∷ 9 ∷ 9 ∷ []) (9 ∷ 9 ∷ 9 ∷ 9 ∷ []) (9 ∷ 9 ∷ 9 ∷ 9 ∷ 9 ∷ 9 ∷ []) (replicate 24 9) ≡ (1 ∷ 1 ∷ 0 ∷ 0 ∷ 9 ∷ 9 ∷ [])
   -- a short list of passes: 5, and it stays
-  passes-3-refusal : numberOf (runAnswer (0 ∷ 1 ∷ 1 ∷ 3 ∷ 4 ∷ []) (3 ∷ 1 ∷ 4 ∷ 3 ∷ []) (9 ∷ 9 ∷ 9 ∷ 9 ∷ []) (9 ∷ 9 ∷ 9 ∷ 9 ∷ []) (9 ∷ 9 ∷ 9 ∷ []) (replicate 24 9)) ≡ 5
-  passes-3 : runPasses (0 ∷ 1 ∷ 1 ∷ 3 ∷ 4 ∷ []) (3 ∷ 1 ∷ 4 ∷ 3 ∷ []) (9 ∷ 9 ∷ 9 ∷ 9 ∷ []) (9 ∷ 9 ∷ 9 ∷ 9 ∷ []) (9 ∷ 9 ∷ 9 ∷ []) (replicate 24 9) ≡ (9 ∷ 9 ∷ 9 ∷ [])
+  run-3-refusal : numberOf (runAnswer (0 ∷ 1 ∷ 1 ∷ 3 ∷ 4 ∷ []) (3 ∷ 1 ∷ 4 ∷ 3 ∷ []) (9 ∷ 9 ∷ 9 ∷ 9 ∷ []) (9 ∷ 9 ∷ 9 ∷ 9 ∷ []) (9 ∷ 9 ∷ 9 ∷ []) (replicate 24 9)) ≡ 5
+  run-3-passes : runPasses (0 ∷ 1 ∷ 1 ∷ 3 ∷ 4 ∷ []) (3 ∷ 1 ∷ 4 ∷ 3 ∷ []) (9 ∷ 9 ∷ 9 ∷ 9 ∷ []) (9 ∷ 9 ∷ 9 ∷ 9 ∷ []) (9 ∷ 9 ∷ 9 ∷ []) (replicate 24 9) ≡ (9 ∷ 9 ∷ 9 ∷ [])
+  cuthill-3-refusal : numberOf (cuthillAnswer (0 ∷ 1 ∷ 1 ∷ 3 ∷ 4 ∷ []) (3 ∷ 1 ∷ 4 ∷ 3 ∷ []) (9 ∷ 9 ∷ 9 ∷ 9 ∷ []) (9 ∷ 9 ∷ 9 ∷ 9 ∷ []) (9 ∷ 9 ∷ 9 ∷ []) (replicate 24 9)) ≡ 5
+  cuthill-3-passes : cuthillPasses (0 ∷ 1 ∷ 1 ∷ 3 ∷ 4 ∷ []) (3 ∷ 1 ∷ 4 ∷ 3 ∷ []) (9 ∷ 9 ∷ 9 ∷ 9 ∷ []) (9 ∷ 9 ∷ 9 ∷ 9 ∷ []) (9 ∷ 9 ∷ 9 ∷ []) (replicate 24 9) ≡ (9 ∷ 9 ∷ 9 ∷ [])
   -- no list of passes: 5
-  passes-4-refusal : numberOf (runAnswer (0 ∷ 0 ∷ []) [] (9 ∷ []) (9 ∷ []) [] (9 ∷ 9 ∷ 9 ∷ 9 ∷ 9 ∷ 9 ∷ [])) ≡ 5
-  passes-4 : runPasses (0 ∷ 0 ∷ []) [] (9 ∷ []) (9 ∷ []) [] (9 ∷ 9 ∷ 9 ∷ 9 ∷ 9 ∷ 9 ∷ []) ≡ []
+  run-4-refusal : numberOf (runAnswer (0 ∷ 0 ∷ []) [] (9 ∷ []) (9 ∷ []) [] (9 ∷ 9 ∷ 9 ∷ 9 ∷ 9 ∷ 9 ∷ [])) ≡ 5
+  run-4-passes : runPasses (0 ∷ 0 ∷ []) [] (9 ∷ []) (9 ∷ []) [] (9 ∷ 9 ∷ 9 ∷ 9 ∷ 9 ∷ 9 ∷ []) ≡ []
+  cuthill-4-refusal : numberOf (cuthillAnswer (0 ∷ 0 ∷ []) [] (9 ∷ []) (9 ∷ []) [] (9 ∷ 9 ∷ 9 ∷ 9 ∷ 9 ∷ 9 ∷ [])) ≡ 5
+  cuthill-4-passes : cuthillPasses (0 ∷ 0 ∷ []) [] (9 ∷ []) (9 ∷ []) [] (9 ∷ 9 ∷ 9 ∷ 9 ∷ 9 ∷ 9 ∷ []) ≡ []
   -- a short list of levels: the passes stay
-  passes-5-refusal : numberOf (runAnswer (0 ∷ 1 ∷ 1 ∷ 3 ∷ 4 ∷ []) (3 ∷ 1 ∷ 4 ∷ 3 ∷ []) (9 ∷ 9 ∷ 9 ∷ 9 ∷ []) (9 ∷ 9 ∷ 9 ∷ []) (9 ∷ 9 ∷ 9 ∷ 9 ∷ []) (replicate 24 9)) ≡ 5
-  passes-5 : runPasses (0 ∷ 1 ∷ 1 ∷ 3 ∷ 4 ∷ []) (3 ∷ 1 ∷ 4 ∷ 3 ∷ []) (9 ∷ 9 ∷ 9 ∷ 9 ∷ []) (9 ∷ 9 ∷ 9 ∷ []) (9 ∷ 9 ∷ 9 ∷ 9 ∷ []) (replicate 24 9) ≡ (9 ∷ 9 ∷ 9 ∷ 9 ∷ [])
+  run-5-refusal : numberOf (runAnswer (0 ∷ 1 ∷ 1 ∷ 3 ∷ 4 ∷ []) (3 ∷ 1 ∷ 4 ∷ 3 ∷ []) (9 ∷ 9 ∷ 9 ∷ 9 ∷ []) (9 ∷ 9 ∷ 9 ∷ []) (9 ∷ 9 ∷ 9 ∷ 9 ∷ []) (replicate 24 9)) ≡ 5
+  run-5-passes : runPasses (0 ∷ 1 ∷ 1 ∷ 3 ∷ 4 ∷ []) (3 ∷ 1 ∷ 4 ∷ 3 ∷ []) (9 ∷ 9 ∷ 9 ∷ 9 ∷ []) (9 ∷ 9 ∷ 9 ∷ []) (9 ∷ 9 ∷ 9 ∷ 9 ∷ []) (replicate 24 9) ≡ (9 ∷ 9 ∷ 9 ∷ 9 ∷ [])
+  cuthill-5-refusal : numberOf (cuthillAnswer (0 ∷ 1 ∷ 1 ∷ 3 ∷ 4 ∷ []) (3 ∷ 1 ∷ 4 ∷ 3 ∷ []) (9 ∷ 9 ∷ 9 ∷ 9 ∷ []) (9 ∷ 9 ∷ 9 ∷ []) (9 ∷ 9 ∷ 9 ∷ 9 ∷ []) (replicate 24 9)) ≡ 5
+  cuthill-5-passes : cuthillPasses (0 ∷ 1 ∷ 1 ∷ 3 ∷ 4 ∷ []) (3 ∷ 1 ∷ 4 ∷ 3 ∷ []) (9 ∷ 9 ∷ 9 ∷ 9 ∷ []) (9 ∷ 9 ∷ 9 ∷ []) (9 ∷ 9 ∷ 9 ∷ 9 ∷ []) (replicate 24 9) ≡ (9 ∷ 9 ∷ 9 ∷ 9 ∷ [])
   -- a word of scratch too few: the passes stay
-  passes-6-refusal : numberOf (runAnswer (0 ∷ 1 ∷ 1 ∷ 3 ∷ 4 ∷ []) (3 ∷ 1 ∷ 4 ∷ 3 ∷ []) (9 ∷ 9 ∷ 9 ∷ 9 ∷ []) (9 ∷ 9 ∷ 9 ∷ 9 ∷ []) (9 ∷ 9 ∷ 9 ∷ 9 ∷ []) (replicate 23 9)) ≡ 5
-  passes-6 : runPasses (0 ∷ 1 ∷ 1 ∷ 3 ∷ 4 ∷ []) (3 ∷ 1 ∷ 4 ∷ 3 ∷ []) (9 ∷ 9 ∷ 9 ∷ 9 ∷ []) (9 ∷ 9 ∷ 9 ∷ 9 ∷ []) (9 ∷ 9 ∷ 9 ∷ 9 ∷ []) (replicate 23 9) ≡ (9 ∷ 9 ∷ 9 ∷ 9 ∷ [])
+  run-6-refusal : numberOf (runAnswer (0 ∷ 1 ∷ 1 ∷ 3 ∷ 4 ∷ []) (3 ∷ 1 ∷ 4 ∷ 3 ∷ []) (9 ∷ 9 ∷ 9 ∷ 9 ∷ []) (9 ∷ 9 ∷ 9 ∷ 9 ∷ []) (9 ∷ 9 ∷ 9 ∷ 9 ∷ []) (replicate 23 9)) ≡ 5
+  run-6-passes : runPasses (0 ∷ 1 ∷ 1 ∷ 3 ∷ 4 ∷ []) (3 ∷ 1 ∷ 4 ∷ 3 ∷ []) (9 ∷ 9 ∷ 9 ∷ 9 ∷ []) (9 ∷ 9 ∷ 9 ∷ 9 ∷ []) (9 ∷ 9 ∷ 9 ∷ 9 ∷ []) (replicate 23 9) ≡ (9 ∷ 9 ∷ 9 ∷ 9 ∷ [])
+  cuthill-6-refusal : numberOf (cuthillAnswer (0 ∷ 1 ∷ 1 ∷ 3 ∷ 4 ∷ []) (3 ∷ 1 ∷ 4 ∷ 3 ∷ []) (9 ∷ 9 ∷ 9 ∷ 9 ∷ []) (9 ∷ 9 ∷ 9 ∷ 9 ∷ []) (9 ∷ 9 ∷ 9 ∷ 9 ∷ []) (replicate 23 9)) ≡ 5
+  cuthill-6-passes : cuthillPasses (0 ∷ 1 ∷ 1 ∷ 3 ∷ 4 ∷ []) (3 ∷ 1 ∷ 4 ∷ 3 ∷ []) (9 ∷ 9 ∷ 9 ∷ 9 ∷ []) (9 ∷ 9 ∷ 9 ∷ 9 ∷ []) (9 ∷ 9 ∷ 9 ∷ 9 ∷ []) (replicate 23 9) ≡ (9 ∷ 9 ∷ 9 ∷ 9 ∷ [])
   -- a wrong mark, and no node: 12 before 1
   file-1 : fileRefusal (71 ∷ 82 ∷ 88 ∷ 1 ∷ 0 ∷ 0 ∷ 0 ∷ 0 ∷ 0 ∷ []) ≡ 12
   -- a wrong version, and a node too many
@@ -488,23 +656,38 @@ record ExampleTable : Type 0 where
 
 -- the whole table
 example-table : ExampleTable
-unfolding computes found numberOf refusals names names-found deeper deeper-found passes passes-found inE inE-found equal equal-found larger larger-found untouched untouched-found narrower narrower-found degrees degrees-found leftover leftover-found lowest lowest-found directions directions-found profiles profiles-found eachPart eachPart-found isolated isolated-found
+unfolding computes found ordered numberOf refusals names names-found names-ordered deeper deeper-found deeper-ordered passes passes-found passes-ordered inE inE-found inE-ordered equal equal-found equal-ordered larger larger-found larger-ordered untouched untouched-found untouched-ordered narrower narrower-found narrower-ordered degrees degrees-found degrees-ordered leftover leftover-found leftover-ordered lowest lowest-found lowest-ordered directions directions-found directions-ordered profiles profiles-found profiles-ordered eachPart eachPart-found eachPart-ordered isolated isolated-found isolated-ordered
 example-table = record {
   is-names = refl;
+  order-of-names = refl;
   is-deeper = refl;
+  order-of-deeper = refl;
   is-passes = refl;
+  order-of-passes = refl;
   is-inE = refl;
+  order-of-inE = refl;
   is-equal = refl;
+  order-of-equal = refl;
   is-larger = refl;
+  order-of-larger = refl;
   is-untouched = refl;
+  order-of-untouched = refl;
   is-narrower = refl;
+  order-of-narrower = refl;
   is-degrees = refl;
+  order-of-degrees = refl;
   is-leftover = refl;
+  order-of-leftover = refl;
   is-lowest = refl;
+  order-of-lowest = refl;
   is-directions = refl;
+  order-of-directions = refl;
   is-profiles = refl;
+  order-of-profiles = refl;
   is-eachPart = refl;
+  order-of-eachPart = refl;
   is-isolated = refl;
+  order-of-isolated = refl;
   refusals-1 = refl;
   refusals-2 = refl;
   refusals-3 = refl;
@@ -526,18 +709,30 @@ example-table = record {
   sizes-8 = refl;
   sizes-9 = refl;
   sizes-10 = refl;
-  passes-1-refusal = refl;
-  passes-1 = refl;
-  passes-2-refusal = refl;
-  passes-2 = refl;
-  passes-3-refusal = refl;
-  passes-3 = refl;
-  passes-4-refusal = refl;
-  passes-4 = refl;
-  passes-5-refusal = refl;
-  passes-5 = refl;
-  passes-6-refusal = refl;
-  passes-6 = refl;
+  run-1-refusal = refl;
+  run-1-passes = refl;
+  cuthill-1-refusal = refl;
+  cuthill-1-passes = refl;
+  run-2-refusal = refl;
+  run-2-passes = refl;
+  cuthill-2-refusal = refl;
+  cuthill-2-passes = refl;
+  run-3-refusal = refl;
+  run-3-passes = refl;
+  cuthill-3-refusal = refl;
+  cuthill-3-passes = refl;
+  run-4-refusal = refl;
+  run-4-passes = refl;
+  cuthill-4-refusal = refl;
+  cuthill-4-passes = refl;
+  run-5-refusal = refl;
+  run-5-passes = refl;
+  cuthill-5-refusal = refl;
+  cuthill-5-passes = refl;
+  run-6-refusal = refl;
+  run-6-passes = refl;
+  cuthill-6-refusal = refl;
+  cuthill-6-passes = refl;
   file-1 = refl;
   file-2 = refl;
   file-3 = refl;
