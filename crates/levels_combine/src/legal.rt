@@ -13,7 +13,7 @@ ghost use Rattle.spec.specs.Combined.{combined, widthOf};
 ghost use Rattle.spec.specs.Graph.{graphRefusal};
 ghost use Rattle.spec.specs.Lent.{zeroed};
 ghost use Rattle.laws.specs.Handed.{graphNow, sizeNow, graphWas, sizeWas};
-ghost use Rattle.laws.specs.Scratch.{secondArea, mergedArea, membersArea, tallyArea, areasEnd};
+ghost use Rattle.laws.specs.Scratch.{secondArea, membersArea, tallyArea, areasEnd};
 ghost use Rattle.levels_laws.specs.Areas.{wordsOf, tallyOf, swapped, workOf, heldOf};
 ghost use Rattle.levels_laws.specs.Model.{numberAt};
 ghost use Rattle.levels_laws.specs.Starts.{startsOf, membersOf};
@@ -146,16 +146,17 @@ fn tidy(scratch: &mut [u16], n: usize, from: usize, to: usize, k: usize)
     blank(scratch, AREAS * n - k, k);
 }
 
-// Copies the words of the members from MERGED to TALLY.
-fn copy_levels(scratch: &mut [u16], n: usize, from: usize, to: usize)
+// Copies the members' words, of those from base on, to TALLY.
+pub fn copy_levels(scratch: &mut [u16], n: usize, base: usize, from: usize, to: usize)
     requires { ⌜ areasEnd n ≤ length (now scratch) ⌝ }
+    requires { ⌜ base + n ≤ membersArea n ⌝ }
     requires { ⌜ Members n from to (now scratch) ⌝ }
-    ensures { λ _. ⌜ left scratch ≡ stored (tallyArea n) (numberAt (mergedArea n) (was scratch)) (was scratch) (membersOf n from to (was scratch)) ⌝ }
+    ensures { λ _. ⌜ left scratch ≡ stored (tallyArea n) (numberAt base (was scratch)) (was scratch) (membersOf n from to (was scratch)) ⌝ }
 {
     let mut i = from;
     while i < to {
         let z = wide(scratch[MEMBERS * n + i]);
-        scratch[TALLY * n + z - 1] = scratch[MERGED * n + z - 1];
+        scratch[TALLY * n + z - 1] = scratch[base + z - 1];
         i += 1;
     }
 }
@@ -165,7 +166,7 @@ fn move_levels(scratch: &mut [u16], n: usize, from: usize, to: usize)
     requires { ⌜ Movable n from to (now scratch) ⌝ }
     ensures { λ _. ⌜ left scratch ≡ swapped n (was scratch) ⌝ }
 {
-    copy_levels(scratch, n, from, to);
+    copy_levels(scratch, n, MERGED * n, from, to);
     erase(scratch, n, MERGED * n, from, to);
 }
 

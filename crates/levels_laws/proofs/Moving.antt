@@ -18,15 +18,16 @@ use Rattle.levels_laws.proofs.Storing.{Storing, length-stored, stored-a
 
 -- ---- the loop that copies them
 
-module _ {n from to : ℕ} {X Y : List ℕ} {i : ℕ} (I : Storing (5 * n) (numberAt (3 * n) X) n from to X Y i) (h : i < to) {z : ℕ} (e : z ≡ getD Y (4 * n + i) 0) where
+module _ (base : ℕ) {n from to : ℕ} {X Y : List ℕ} {i : ℕ} (front : base + n ≤ 4 * n) (I : Storing (5 * n) (numberAt base X) n from to X Y i) (h : i < to)
+    {z : ℕ} (e : z ≡ getD Y (4 * n + i) 0) where
   -- what is copied is the old word
-  copy-word : getD Y (3 * n + z - 1) 0 ≡ numberAt (3 * n) X z
+  copy-word : getD Y (base + z - 1) 0 ≡ numberAt base X z
   copy-word =
-      ap (λ (U : List ℕ). getD U (3 * n + z - 1) 0) (I .on)
-      ∙ stored-other (5 * n) n (numberAt (3 * n) X) X (membersOf n from i X) (member-range (I .ask) i (I .most)) (3 * n + z - 1)
+      ap (λ (U : List ℕ). getD U (base + z - 1) 0) (I .on)
+      ∙ stored-other (5 * n) n (numberAt base X) X (membersOf n from i X) (member-range (I .ask) i (I .most)) (base + z - 1)
       (λ y l r q. omega (arith, z-low I h e, z-high I h e))
 
-  pub copy-step : Storing (5 * n) (numberAt (3 * n) X) n from to X (set Y (5 * n + z - 1) (getD Y (3 * n + z - 1) 0)) (i + 1)
+  pub copy-step : Storing (5 * n) (numberAt base X) n from to X (set Y (5 * n + z - 1) (getD Y (base + z - 1) 0)) (i + 1)
   copy-step = store-step I h e copy-word
 
 -- ---- copied, then cleared

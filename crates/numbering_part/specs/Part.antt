@@ -8,7 +8,7 @@ use Rattle.basis.specs.Lists.{memb, upFrom, position}
 use Rattle.basis.specs.Perm.{Once}
 use Rattle.spec.specs.Graph.{Graph, nodes, ofNode}
 use Rattle.spec.specs.Levels.{part}
-use Rattle.spec.specs.Numbering.{PartReport, partResult}
+use Rattle.spec.specs.Numbering.{PartReport, PartResult}
 use Rattle.levels_laws.specs.Areas.{wordsOf}
 use Rattle.levels_laws.specs.Given.{firstOf}
 use Rattle.numbering_part.specs.declared.shape.PartFigures.{PartFigures}
@@ -33,13 +33,13 @@ renewed g z f L = map (λ q. cond (memb q (part g z)) (f q) (ofNode L q)) (nodes
 abbrev pub lowestIn : ℕ → ℕ → List ℕ → ℕ
 lowestIn n from W = firstOf n from (wordsOf n W)
 
--- the numbers X, by old number, after the nodes of z's part got the numbers after a
-abbrev pub newNumbers : Graph → ℕ → ℕ → List ℕ → List ℕ
-newNumbers g z a X = renewed g z (numberFrom a (partResult g z .order)) X
+-- the numbers X, by old number, after the nodes of z's part got the numbers after a, in the order that was found of it
+abbrev pub newNumbers : Graph → ℕ → PartResult → ℕ → List ℕ → List ℕ
+newNumbers g z found a X = renewed g z (numberFrom a (found .order)) X
 
 -- the levels L, by old number, after they got their levels
-abbrev pub newLevels : Graph → ℕ → List ℕ → List ℕ
-newLevels g z L = renewed g z (ofNode (partResult g z .levels)) L
+abbrev pub newLevels : Graph → ℕ → PartResult → List ℕ → List ℕ
+newLevels g z found L = renewed g z (ofNode (found .levels)) L
 
 -- what the run sums up of a part's report
 abbrev pub partFiguresOf : PartReport → PartFigures

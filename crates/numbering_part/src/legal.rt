@@ -24,7 +24,7 @@ use levels::legal::combine_part;
 use numbering_sequence::legal::sequence;
 
 // "take the next free numbers": those after a, in the part's order, whose words it clears.
-fn give_numbers(scratch: &mut [u16], numbers: &mut [u16], n: usize, m: usize, a: usize)
+pub fn give_numbers(scratch: &mut [u16], numbers: &mut [u16], n: usize, m: usize, a: usize)
     requires { ⌜ Numberable n m a (now scratch) (now numbers) ⌝ }
     ensures { λ _. ⌜ left scratch ≡ sets (was scratch) n (replicate m 0) ⌝ }
     ensures { λ _. ⌜ left numbers ≡ numbered a (orderAt n m (was scratch)) (was numbers) ⌝ }
@@ -40,7 +40,7 @@ fn give_numbers(scratch: &mut [u16], numbers: &mut [u16], n: usize, m: usize, a:
 }
 
 // Hands the members' levels over, and clears their area.
-fn give_levels(scratch: &mut [u16], levels: &mut [u16], n: usize, from: usize, to: usize)
+pub fn give_levels(scratch: &mut [u16], levels: &mut [u16], n: usize, from: usize, to: usize)
     requires { ⌜ Members n from to (now scratch) ⌝ }
     requires { ⌜ areasEnd n ≤ length (now scratch) ⌝ }
     requires { ⌜ length (now levels) ≡ n ⌝ }
@@ -85,8 +85,8 @@ pub fn number_part(
     requires { ⌜ (length (now numbers) ≡ sizeNow starts) × (length (now levels) ≡ sizeNow starts) ⌝ }
     ensures { λ r. ⌜ r ≡ partFiguresOf (partResult (graphWas starts neighbours) (lowestIn (sizeWas starts) from (was scratch)) .report) ⌝ }
     ensures { λ _. ⌜ left scratch ≡ was scratch ⌝ }
-    ensures { λ _. ⌜ left numbers ≡ newNumbers (graphWas starts neighbours) (lowestIn (sizeWas starts) from (was scratch)) from (was numbers) ⌝ }
-    ensures { λ _. ⌜ left levels ≡ newLevels (graphWas starts neighbours) (lowestIn (sizeWas starts) from (was scratch)) (was levels) ⌝ }
+    ensures { λ _. ⌜ left numbers ≡ newNumbers (graphWas starts neighbours) (lowestIn (sizeWas starts) from (was scratch)) (partResult (graphWas starts neighbours) (lowestIn (sizeWas starts) from (was scratch))) from (was numbers) ⌝ }
+    ensures { λ _. ⌜ left levels ≡ newLevels (graphWas starts neighbours) (lowestIn (sizeWas starts) from (was scratch)) (partResult (graphWas starts neighbours) (lowestIn (sizeWas starts) from (was scratch))) (was levels) ⌝ }
 {
     let n = starts.len() - 1;
     let m = to - from;

@@ -140,7 +140,7 @@ fn profiles(starts: &[u16], neighbours: &[u16], work: &mut [u16], n: usize, m: u
 }
 
 // The words in the reverse order.
-fn reverse(words: &mut [u16])
+pub fn reverse(words: &mut [u16])
     ensures { λ _. ⌜ left words ≡ reverse (was words) ⌝ }
 {
     let mut i = 0;

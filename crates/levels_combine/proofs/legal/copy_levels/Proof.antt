@@ -1,6 +1,6 @@
 -- `levels_combine::legal::copy_levels` meets its contract. Assumes nothing.
 use mathlib.Core.List.{List}
-use Prim.Native.Nat.{ℕ, _-_, _*_, _≤_}
+use Prim.Native.Nat.{ℕ, _+_, _-_, _*_, _≤_}
 use native.Mathlib.Omega.{arith}
 use lib.ListN.{length}
 use borrow.Author.Needs.{needs}
@@ -11,25 +11,27 @@ use Rattle.levels_combine.proofs.legal.copy_levels.Statement.{statement
 use Rattle.levels_combine.proofs.legal.copy_levels.Tie as tie
 
 abbrev Inv-loop : tie.InvT-loop
-Inv-loop scratch₀ n from to i₀ scratch i = Storing (5 * n) (numberAt (3 * n) scratch₀) n from to scratch₀ scratch i
+Inv-loop scratch₀ n base from to i₀ scratch i = Storing (5 * n) (numberAt base scratch₀) n from to scratch₀ scratch i
 
 abbrev μ-loop : tie.MeasureT-loop
-μ-loop scratch₀ n from to i₀ scratch i = to - i
+μ-loop scratch₀ n base from to i₀ scratch i = to - i
 
 -- what is known of the member that is read
-record Read (n : ℕ) (U : List ℕ) (z : ℕ) : Type 0 where
+record Read (n base : ℕ) (U : List ℕ) (z : ℕ) : Type 0 where
   few : n ≤ 4096
   words : 6 * n ≤ length U
+  front : base + n ≤ 4 * n
   low : 1 ≤ z
   high : z ≤ n
 
-read : (c : tie.After-wide Inv-loop μ-loop) → Read (c .before .before .before .before .before .args .n) (c .before .before .before .loop .scratch) (c .wide .result)
+read : (c : tie.After-wide Inv-loop μ-loop) → Read (c .before .before .before .before .before .args .n) (c .before .before .before .before .before .args .base) (c .before .before .before .loop .scratch) (c .wide .result)
 read c =
     let I = c .before .before .before .loop .inv in
     let h = c .before .before .loop-test .taken in
     record {
       few = I .ask .few;
       words = omega (arith, I .held, store-size I);
+      front = c .before .before .before .before .before .pre .1 .0;
       low = z-low I h (c .wide .ensures);
       high = z-high I h (c .wide .ensures);
     }
@@ -37,7 +39,7 @@ read c =
 loop-holds : tie.Need-loop-holds Inv-loop μ-loop
 loop-holds c =
     let s = c .before in
-    store-behind (5 * s .args .n) (numberAt (3 * s .args .n) (s .args .scratch .now)) (s .pre .1) (omega arith) (omega (arith, s .pre .0))
+    store-behind (5 * s .args .n) (numberAt (s .args .base) (s .args .scratch .now)) (s .pre .1 .1) (omega arith) (omega (arith, s .pre .0))
 
 mul-wide : tie.Need-mul-wide Inv-loop μ-loop
 mul-wide c = let I = c .before .loop .inv in omega (arith, I .ask .few)
@@ -54,23 +56,20 @@ slice-read-wide c = let I = c .before .before .loop .inv in let h = c .before .l
 wide-requires : tie.Need-wide-requires Inv-loop μ-loop
 wide-requires c κs = search needs
 
-mul-scratch : tie.Need-mul-scratch Inv-loop μ-loop
-mul-scratch c = let R = read c in omega arith
-
 add-scratch : tie.Need-add-scratch Inv-loop μ-loop
 add-scratch c = let R = read c in omega arith
 
 sub-scratch : tie.Need-sub-scratch Inv-loop μ-loop
 sub-scratch c = let R = read c in omega arith
 
-mul-scratch-2 : tie.Need-mul-scratch-2 Inv-loop μ-loop
-mul-scratch-2 c = let R = read c in omega arith
+mul-scratch : tie.Need-mul-scratch Inv-loop μ-loop
+mul-scratch c = let R = read c in omega arith
 
 slice-read-scratch : tie.Need-slice-read-scratch Inv-loop μ-loop
 slice-read-scratch c = let R = read (c .before) in omega arith
 
-mul-scratch-3 : tie.Need-mul-scratch-3 Inv-loop μ-loop
-mul-scratch-3 c = let R = read (c .before) in omega arith
+mul-scratch-2 : tie.Need-mul-scratch-2 Inv-loop μ-loop
+mul-scratch-2 c = let R = read (c .before) in omega arith
 
 add-scratch-2 : tie.Need-add-scratch-2 Inv-loop μ-loop
 add-scratch-2 c = let R = read (c .before) in omega arith
@@ -78,8 +77,8 @@ add-scratch-2 c = let R = read (c .before) in omega arith
 sub-scratch-2 : tie.Need-sub-scratch-2 Inv-loop μ-loop
 sub-scratch-2 c = let R = read (c .before) in omega arith
 
-mul-scratch-4 : tie.Need-mul-scratch-4 Inv-loop μ-loop
-mul-scratch-4 c = let R = read (c .before) in omega arith
+mul-scratch-3 : tie.Need-mul-scratch-3 Inv-loop μ-loop
+mul-scratch-3 c = let R = read (c .before) in omega arith
 
 slice-write-scratch : tie.Need-slice-write-scratch Inv-loop μ-loop
 slice-write-scratch c = let R = read (c .before) in omega arith
@@ -91,7 +90,7 @@ loop-less : tie.Need-loop-less Inv-loop μ-loop
 loop-less c = omega arith
 
 loop-again : tie.Need-loop-again Inv-loop μ-loop
-loop-again c = let a = c .before in copy-step (a .before .before .before .loop .inv) (a .before .before .loop-test .taken) (a .wide .ensures)
+loop-again c = let a = c .before in copy-step (a .before .before .before .before .before .args .base) (read a .front) (a .before .before .before .loop .inv) (a .before .before .loop-test .taken) (a .wide .ensures)
 
 same-length : tie.Need-same-length Inv-loop μ-loop
 same-length c = store-size (c .before .loop .inv)
@@ -111,15 +110,14 @@ copy-levels-spec =
     mul-wide-2
     slice-read-wide
     wide-requires
-    mul-scratch
     add-scratch
     sub-scratch
-    mul-scratch-2
+    mul-scratch
     slice-read-scratch
-    mul-scratch-3
+    mul-scratch-2
     add-scratch-2
     sub-scratch-2
-    mul-scratch-4
+    mul-scratch-3
     slice-write-scratch
     add-i
     loop-less

@@ -5,8 +5,11 @@ use Rattle.levels_laws.proofs.Moving.{erase-in, moved}
 use Rattle.levels_combine.proofs.legal.move_levels.Statement.{statement}
 use Rattle.levels_combine.proofs.legal.move_levels.Tie as tie
 
+mul-copy-levels : tie.Need-mul-copy-levels
+mul-copy-levels c = omega (arith, c .before .before .pre .members .few)
+
 copy-levels-requires : tie.Need-copy-levels-requires
-copy-levels-requires c κs = let s = c .before .before in (s .pre .room, s .pre .members)
+copy-levels-requires c κs = let s = c .before .before in (s .pre .room, (omega arith, s .pre .members))
 
 mul-erase : tie.Need-mul-erase
 mul-erase c = omega (arith, c .before .before .before .before .before .before .pre .members .few)
@@ -21,4 +24,4 @@ returns : tie.Need-returns
 returns c = moved (c .before .before .before .before .before .before .before .before .before .pre) (c .before .before .before .before .before .before .copy-levels .ensures) (c .before .before .erase .ensures)
 
 pub move-levels-spec : {M : Type 1} → statement M
-move-levels-spec = tie.close (tie.spec copy-levels-requires mul-erase erase-requires same-length returns)
+move-levels-spec = tie.close (tie.spec mul-copy-levels copy-levels-requires mul-erase erase-requires same-length returns)

@@ -1,0 +1,133 @@
+// One part of a legal graph, for a caller that has its members, in the same areas as `numbering_part`: four to work in, the second of them for
+// the part's order, the members of the parts, and in TALLY the part's levels by old number. Linear in the part's nodes and entries, but for
+// the sorts: nothing here is n.
+ghost use mathlib.Core.Path.{_≡_};
+ghost use Prim.Native.Nat.{_+_, _≤_};
+ghost use lib.ListN.{length};
+ghost use lib.Seq.{sets, slice};
+ghost use Rattle.basis.specs.Moments.{was, left};
+ghost use Rattle.spec.specs.Cuthill.{cuthillResult};
+ghost use Rattle.spec.specs.Graph.{graphRefusal};
+ghost use Rattle.spec.specs.Lent.{zeroed};
+ghost use Rattle.laws.specs.Handed.{graphNow, graphWas, sizeNow, sizeWas};
+ghost use Rattle.laws.specs.Scratch.{secondArea, membersArea, tallyArea, areasEnd};
+ghost use Rattle.levels_laws.specs.Areas.{wordsOf, tallyOf};
+ghost use Rattle.levels_search.specs.Queue.{Queued};
+ghost use Rattle.levels.specs.Part.{PartGiven};
+ghost use Rattle.numbering_part.specs.Part.{lowestIn, newNumbers, newLevels, partFiguresOf};
+ghost use Rattle.numbering_cuthill.specs.Part.{partRootOf, resultIn, Orderable};
+use crate::shape::PartRoot;
+use graph_words::areas::MEMBERS;
+use graph_words::areas::SECOND;
+use graph_words::areas::TALLY;
+use graph_words::wide;
+use levels_combine::legal::copy_levels;
+use levels_ends::legal::ends_from;
+use levels_ends::legal::first_in_e;
+use levels_search::legal::wipe;
+use levels_sizes::legal::width_of;
+use numbering_order::legal::forward;
+use numbering_part::legal::give_levels;
+use numbering_part::legal::give_numbers;
+use numbering_part::shape::PartFigures;
+use numbering_reverse::legal::reverse;
+
+// Sets the words of the searches from both ends, of `count` nodes each, to 0 again.
+fn wipe_both(scratch: &mut [u16], n: usize, count: usize)
+    requires { ⌜ (n ≤ 4096) × (membersArea n ≤ length (now scratch)) ⌝ }
+    requires { ⌜ Queued n count (slice 0 (secondArea n) (now scratch)) ⌝ }
+    requires { ⌜ Queued n count (slice (secondArea n) (membersArea n) (now scratch)) ⌝ }
+    ensures { λ _. ⌜ left scratch ≡ zeroed (membersArea n) (was scratch) ⌝ }
+{
+    wipe(&mut scratch[0..SECOND * n], n, count);
+    wipe(&mut scratch[SECOND * n..MEMBERS * n], n, count);
+}
+
+// The end v of the part whose members stand from..to, and the levels rooted at it: in TALLY, n words by old number. All else is as before.
+fn root_part(
+    starts: &[u16],
+    neighbours: &[u16],
+    scratch: &mut [u16],
+    from: usize,
+    to: usize,
+) -> PartRoot
+    requires { ⌜ graphRefusal (now starts) (now neighbours) ≡ 0 ⌝ }
+    requires { ⌜ PartGiven (graphNow starts neighbours) from to (wordsOf (sizeNow starts) (now scratch)) (tallyOf (sizeNow starts) (now scratch)) ⌝ }
+    ensures { λ r. ⌜ r ≡ partRootOf (cuthillResult (graphWas starts neighbours) (lowestIn (sizeWas starts) from (was scratch)) .report) ⌝ }
+    ensures { λ _. ⌜ left scratch ≡ sets (was scratch) (tallyArea (sizeWas starts)) (cuthillResult (graphWas starts neighbours) (lowestIn (sizeWas starts) from (was scratch)) .levels) ⌝ }
+{
+    let n = starts.len() - 1;
+    let first = first_in_e(starts, &scratch[MEMBERS * n + from..MEMBERS * n + to]);
+    let f = ends_from(starts, neighbours, first, &mut scratch[0..MEMBERS * n]);
+    let count = wide(f.reached);
+    let width = width_of(scratch, n, 0, count, wide(f.k));
+    copy_levels(scratch, n, 0, from, to);
+    wipe_both(scratch, n, count);
+    PartRoot {
+        v: f.v,
+        k: f.k,
+        width,
+        passes: f.passes,
+    }
+}
+
+// The part's order from v, "turned end for end": "Every part is turned".
+fn order_part(
+    starts: &[u16],
+    neighbours: &[u16],
+    scratch: &mut [u16],
+    at: usize,
+    from: usize,
+    m: usize,
+    k: u16,
+    v: u16,
+)
+    requires { ⌜ graphRefusal (now starts) (now neighbours) ≡ 0 ⌝ }
+    requires { ⌜ Orderable (graphNow starts neighbours) at from m k v (now scratch) ⌝ }
+    ensures { λ _. ⌜ left scratch ≡ sets (was scratch) (sizeWas starts) (resultIn (graphWas starts neighbours) from (was scratch) .order) ⌝ }
+{
+    let n = starts.len() - 1;
+    forward(starts, neighbours, scratch, at, from, m, k, v);
+    reverse(&mut scratch[n..n + m]);
+}
+
+// The part whose members stand from..to: its nodes get the numbers after `from` in `numbers`, in the reverse order of Cuthill and McKee, and
+// their levels in `levels`, n words each by old number. The scratch is as before.
+pub fn cuthill_part(
+    starts: &[u16],
+    neighbours: &[u16],
+    scratch: &mut [u16],
+    numbers: &mut [u16],
+    levels: &mut [u16],
+    from: usize,
+    to: usize,
+) -> PartFigures
+    requires { ⌜ graphRefusal (now starts) (now neighbours) ≡ 0 ⌝ }
+    requires { ⌜ PartGiven (graphNow starts neighbours) from to (wordsOf (sizeNow starts) (now scratch)) (slice (tallyArea (sizeNow starts)) (areasEnd (sizeNow starts)) (now scratch)) ⌝ }
+    requires { ⌜ (length (now numbers) ≡ sizeNow starts) × (length (now levels) ≡ sizeNow starts) ⌝ }
+    ensures { λ r. ⌜ r ≡ partFiguresOf (cuthillResult (graphWas starts neighbours) (lowestIn (sizeWas starts) from (was scratch)) .report) ⌝ }
+    ensures { λ _. ⌜ left scratch ≡ was scratch ⌝ }
+    ensures { λ _. ⌜ left numbers ≡ newNumbers (graphWas starts neighbours) (lowestIn (sizeWas starts) from (was scratch)) (cuthillResult (graphWas starts neighbours) (lowestIn (sizeWas starts) from (was scratch))) from (was numbers) ⌝ }
+    ensures { λ _. ⌜ left levels ≡ newLevels (graphWas starts neighbours) (lowestIn (sizeWas starts) from (was scratch)) (cuthillResult (graphWas starts neighbours) (lowestIn (sizeWas starts) from (was scratch))) (was levels) ⌝ }
+{
+    let n = starts.len() - 1;
+    let m = to - from;
+    let f = root_part(starts, neighbours, scratch, from, to);
+    order_part(
+        starts,
+        neighbours,
+        scratch,
+        TALLY * n,
+        MEMBERS * n + from,
+        m,
+        f.k,
+        f.v,
+    );
+    give_numbers(scratch, numbers, n, m, from);
+    give_levels(scratch, levels, n, from, to);
+    PartFigures {
+        k: f.k,
+        width: f.width,
+        passes: f.passes,
+    }
+}
