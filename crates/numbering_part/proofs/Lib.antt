@@ -1,4 +1,7 @@
 pub mod Numbers
 pub mod Levels
+pub mod Result
+pub mod Given
+pub mod Handover
 pub mod Steps
 pub mod Single

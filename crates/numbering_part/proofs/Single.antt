@@ -1,4 +1,4 @@
--- A part of one node: its figures, its number and its one level, from the laws of every part. Assumes nothing.
+-- A part of one node: its figures, its number and its one level, from the laws of every part and of whatever is found of it. Assumes nothing.
 use mathlib.Core.Path.{_≡_, sym, ap, _∙_}
 use mathlib.Core.Bool.{true, false, cond}
 use mathlib.Core.List.{List, [], _∷_}
@@ -12,21 +12,18 @@ use Rattle.basis.proofs.Index.{times-only}
 use Rattle.basis.proofs.Lists.{memb-one}
 use Rattle.basis.proofs.Logic.{by-test, eqb-self}
 use Rattle.basis.proofs.Perm.{perm-length, perm-memb}
-use Rattle.spec.specs.Combined.{countAt, widthOf}
-use Rattle.spec.specs.Ends.{ends}
+use Rattle.spec.specs.Combined.{countAt}
 use Rattle.spec.specs.Graph.{Graph, nodes, ofNode}
 use Rattle.spec.specs.Levels.{part}
-use Rattle.spec.specs.Numbering.{startNode, finishNode, partLevels, partResultBy, partResult}
+use Rattle.spec.specs.Numbering.{PartResult}
 use Rattle.laws.specs.Legal.{Node, LegalGraph}
 use Rattle.laws.specs.Structure.{LevelStructure}
 use Rattle.laws.proofs.Combined.{width-met}
-use Rattle.laws.proofs.Ends.{ends-of}
 use Rattle.laws.proofs.Legal.{length-nodes, ofNode-map, by-node}
 use Rattle.laws.proofs.Levels.{part-self}
-use Rattle.laws.proofs.Named.{part-levels, start-part, finish-part}
-use Rattle.laws.proofs.Whole.{part-perm}
 use Rattle.levels_search.proofs.Tallies.{ofNode-set}
-use Rattle.numbering_part.specs.Part.{numberFrom, renewed, partFiguresOf}
+use Rattle.numbering_part.specs.Part.{numberFrom, renewed, newNumbers, newLevels, partFiguresOf}
+use Rattle.numbering_part.proofs.Result.{ResultOf}
 
 -- a list of one that holds z
 alone : (z : ℕ) (l : List ℕ) → length l ≡ 1 → memb z l ≡ true → l ≡ z ∷ []
@@ -34,7 +31,7 @@ alone z [] e m = absurd (omega arith)
 alone z (x ∷ []) e m = ap (λ (y : ℕ). y ∷ []) (sym (eqb-true z x (sym (memb-one z x) ∙ m)))
 alone z (x ∷ y ∷ l) e m = absurd (omega arith)
 
-module _ {g : Graph} (G : LegalGraph g) {z : ℕ} (Z : Node g z) (one : length (part g z) ≡ 1) where
+module _ {g : Graph} (G : LegalGraph g) {z : ℕ} (Z : Node g z) {found : PartResult} (R : ResultOf g z found) (one : length (part g z) ≡ 1) where
   part-is : part g z ≡ z ∷ []
   part-is = alone z (part g z) one (part-self G Z)
 
@@ -44,16 +41,16 @@ module _ {g : Graph} (G : LegalGraph g) {z : ℕ} (Z : Node g z) (one : length (
   -- ---- its levels: the first is the last
 
   abbrev ls : List ℕ
-  ls = partLevels g (ends g z)
+  ls = found .levels
 
-  S : LevelStructure g z (ends g z .k) (startNode g (ends g z)) (finishNode g (ends g z)) ls
-  S = part-levels G Z
+  abbrev S : LevelStructure g z (found .report .k) (found .report .v) (found .report .u) (found .levels)
+  S = R .structure
 
   level-one : ofNode ls z ≡ 1
-  level-one = ap (ofNode ls) (sym (only _ (start-part G Z))) ∙ S .v-first
+  level-one = ap (ofNode ls) (sym (only _ (R .v-part))) ∙ S .v-first
 
-  k-one : ends g z .k ≡ 1
-  k-one = sym (S .u-last) ∙ ap (ofNode ls) (only _ (finish-part G Z)) ∙ level-one
+  k-one : found .report .k ≡ 1
+  k-one = sym (S .u-last) ∙ ap (ofNode ls) (only _ (R .u-part)) ∙ level-one
 
   -- and has no other node
   count-one : countAt ls 1 ≡ 1
@@ -70,17 +67,16 @@ module _ {g : Graph} (G : LegalGraph g) {z : ℕ} (Z : Node g z) (one : length (
           (λ t. omega (arith, only (suc j) t))
           (λ t. let o : ofNode ls (suc j) ≡ 0 = S .outside (suc j) N t in absurd (omega (arith, o)))
 
-  width-one : widthOf (ends g z .k) ls ≡ 1
+  width-one : found .report .width ≡ 1
   width-one =
-      let m = width-met (ends g z .k) ls (omega (arith, k-one)) in
+      let m = width-met (found .report .k) ls (omega (arith, k-one)) in
       let i : m .0 ≡ 1 = omega (arith, m .1, m .2, k-one) in
-      sym (m .3) ∙ ap (countAt ls) i ∙ count-one
+      R .width ∙ sym (m .3) ∙ ap (countAt ls) i ∙ count-one
 
-  passes-one : ends g z .passes ≡ 1
-  passes-one = let E = ends-of G Z in omega (arith, E .some-pass, E .most-passes, k-one)
+  passes-one : found .report .passes ≡ 1
+  passes-one = omega (arith, R .some-pass, R .most-passes, k-one)
 
-  pub figures-one : record { k = 1; width = 1; passes = 1 } ≡ partFiguresOf (partResult g z .report)
-  unfolding partResult partResultBy
+  pub figures-one : record { k = 1; width = 1; passes = 1 } ≡ partFiguresOf (found .report)
   figures-one = λ i. record { k = sym k-one i; width = sym width-one i; passes = sym passes-one i }
 
   -- ---- the two lists
@@ -108,13 +104,11 @@ module _ {g : Graph} (G : LegalGraph g) {z : ℕ} (Z : Node g z) (one : length (
       miss : (q : ℕ) → eqb q z ≡ false → cond (memb q (part g z)) (f q) (ofNode L q) ≡ ofNode L q
       miss q t = rw (member q, t)
 
-  order-is : partResult g z .order ≡ z ∷ []
-  order-is = let p = part-perm G Z in alone z (partResult g z .order) (perm-length p ∙ one) (perm-memb p z ∙ part-self G Z)
+  order-is : found .order ≡ z ∷ []
+  order-is = alone z (found .order) (perm-length (R .order) ∙ one) (perm-memb (R .order) z ∙ part-self G Z)
 
-  pub numbers-one : (a : ℕ) (X : List ℕ) → length X ≡ g .size → set X (z - 1) (a + 1) ≡ renewed g z (numberFrom a (partResult g z .order)) X
-  numbers-one a X l =
-      put-one (numberFrom a (partResult g z .order)) X (a + 1) l (ap (λ (o : List ℕ). numberFrom a o z) order-is ∙ rw (eqb-self z))
+  pub numbers-one : (a : ℕ) (X : List ℕ) → length X ≡ g .size → set X (z - 1) (a + 1) ≡ newNumbers g z found a X
+  numbers-one a X l = put-one (numberFrom a (found .order)) X (a + 1) l (ap (λ (o : List ℕ). numberFrom a o z) order-is ∙ rw (eqb-self z))
 
-  pub levels-one : (L : List ℕ) → length L ≡ g .size → set L (z - 1) 1 ≡ renewed g z (ofNode (partResult g z .levels)) L
-  unfolding partResult partResultBy
-  levels-one L l = put-one (ofNode (partLevels g (ends g z))) L 1 l level-one
+  pub levels-one : (L : List ℕ) → length L ≡ g .size → set L (z - 1) 1 ≡ newLevels g z found L
+  levels-one L l = put-one (ofNode (found .levels)) L 1 l level-one

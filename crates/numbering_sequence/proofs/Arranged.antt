@@ -1,34 +1,33 @@
 -- A part's order and its turn in the working words, from the levels as now named. Assumes nothing.
 use mathlib.Core.Path.{_≡_, refl, sym, ap, ap₂, _∙_}
 use mathlib.Core.Bool.{Bool, true, cond}
-use mathlib.Core.List.{List, _++_, reverse, append-assoc}
-use Prim.Native.Nat.{ℕ, _+_, _-_, _≤_}
+use mathlib.Core.List.{List, _++_, reverse}
+use Prim.Native.Nat.{ℕ, _+_, _≤_}
 use native.Mathlib.Omega.{arith}
-use lib.ListN.{length, take, drop, getD, replicate, length-replicate, length-reverse}
-use lib.Seq.{sets, sets-eq, slice, getD-drop, drop-drop, drop-at}
+use lib.ListN.{length, drop, getD, replicate, length-replicate, length-reverse}
+use lib.Seq.{sets, drop-drop, drop-at}
 use Rattle.basis.specs.Lists.{memb, overwrite}
 use Rattle.basis.proofs.Logic.{by-test}
 use Rattle.basis.proofs.Perm.{perm-memb}
 use Rattle.spec.specs.Ends.{Ends, ends}
-use Rattle.spec.specs.Graph.{Graph, graphOf, graphRefusal, sizeOf, ofNode}
+use Rattle.spec.specs.Graph.{Graph, graphOf, graphRefusal, sizeOf}
 use Rattle.spec.specs.Levels.{part}
 use Rattle.spec.specs.Numbering.{startNode, finishNode, partLevels, forwardOrder, turns, partResultBy, partResult}
 use Rattle.laws.specs.Legal.{Node, LegalGraph}
 use Rattle.laws.specs.Structure.{LevelStructure}
-use Rattle.laws.proofs.Legal.{ofNode-at}
 use Rattle.laws.proofs.Levels.{part-node, part-on}
 use Rattle.laws.proofs.Named.{part-levels, start-part}
 use Rattle.laws.proofs.PartOrder.{forward-perm}
-use Rattle.laws.proofs.Parts.{part-once}
+use Rattle.laws.proofs.Parts.{part-most, part-once}
 use Rattle.laws.proofs.Refused.{passed, starts-of, not-refused}
 use Rattle.numbering_stacks.specs.Part.{membersIn, Behind}
 use Rattle.numbering_order.specs.Model.{levelsIn, Starting}
-use Rattle.numbering_order.proofs.Callers.{levels-are, behind-make, starting-make, order-length}
+use Rattle.numbering_order.proofs.Callers.{order-length}
 use Rattle.numbering_reverse.specs.Places.{segment, Part, Clean}
 use Rattle.numbering_reverse.proofs.Laid.{laid, laid-order, laid-ready}
 use Rattle.numbering_sequence.specs.Answer.{forwardBy, Named}
-use Rattle.numbering_sequence.proofs.Members.{lowest-node, part-size, front-zeros}
-use Rattle.numbering_sequence.proofs.Stored.{slice-at}
+use Rattle.numbering_sequence.proofs.Members.{lowest-node, part-size}
+use Rattle.numbering_sequence.proofs.Structured.{laid-stored, structured-behind, structured-starting, structured-size, structured-words}
 
 -- the order of a part, after any turn
 turned-order : (g : Graph) (z : ℕ) → partResult g z .order ≡ cond (turns g (forwardBy g (ends g z))) (reverse (forwardBy g (ends g z))) (forwardBy g (ends g z))
@@ -61,46 +60,34 @@ module _ (S N : List ℕ) (legal : graphRefusal S N ≡ 0) {at from m k v : ℕ}
   Z : Node (graphOf S N) (getD W from 0)
   Z = lowest-node (A .part) (A .areas .from-held)
 
-  L : LevelStructure (graphOf S N) (getD W from 0) (e .k) (startNode g e) (finishNode g e) (partLevels g e)
-  L = part-levels G Z
+  L : LevelStructure (graphOf S N) (getD W from 0) k v (finishNode g e) (partLevels g e)
+  L = rw (A .k-is, A .v-is) (part-levels G Z)
 
-  I : memb (startNode g e) (part g z) ≡ true
-  I = start-part G Z
-
-  same : (q : ℕ) → memb q (part g z) ≡ true → ofNode (drop at W) q ≡ ofNode (partLevels g e) q
-  same q i =
-      let X = part-node G Z q i in
-      ofNode-at (drop at W) q (X .low) ∙ getD-drop at W (q - 1) 0
-      ∙ sym (slice-at at (at + sizeOf S) W (q - 1) (omega (arith, X .low, X .high)))
-      ∙ sym (ofNode-at (slice at (at + sizeOf S) W) q (X .low))
-      ∙ ap (λ (l : List ℕ). ofNode l q) (A .levels)
+  I : memb v (part g z) ≡ true
+  I = rw (A .v-is) (start-part G Z)
 
   -- what `forward` asks
   pub named-behind : Behind (graphOf S N) (sizeOf S) at from m W
-  named-behind =
-      behind-make G Z L from m W (drop at W) (A .part .members) same refl refl
-      (A .areas .at-low) (A .areas .at-held) (A .areas .from-low) (A .areas .from-held)
+  named-behind = structured-behind S N legal (A .areas) (A .part) L I (A .levels)
 
   pub named-starting : Starting (levelsIn (graphOf S N) at from m W) (membersIn from m W) k v
-  named-starting = rw (A .k-is, A .v-is) (starting-make G Z L from m W (drop at W) (A .part .members) same I)
+  named-starting = structured-starting S N legal (A .areas) (A .part) L I (A .levels)
+
+  its : forwardOrder g (partLevels g e) k v ≡ forwardBy g e
+  its = rw (A .k-is, A .v-is)
 
   order-size : length (forwardBy g e) ≡ m
-  order-size = forward-size G Z ∙ part-size (A .part) (A .areas .from-held)
+  order-size = ap length (sym its) ∙ structured-size S N legal (A .areas) (A .part) L I (A .levels)
 
   -- the words that it leaves
   module _ {W₁ : List ℕ} (f : W₁ ≡ replicate (sizeOf S) 0 ++ overwrite (forwardOrder (graphOf S N) (levelsIn (graphOf S N) at from m W) k v) (drop (sizeOf S) W)) where
-    its : forwardOrder (graphOf S N) (levelsIn (graphOf S N) at from m W) k v ≡ forwardBy g e
-    its = rw (A .k-is, A .v-is, levels-are G Z L from m W (drop at W) (A .part .members) same)
-
     stands : W₁ ≡ laid (sizeOf S) (forwardBy g e) (drop (sizeOf S + m) W)
     stands =
-        f ∙ ap (λ (o : List ℕ). replicate (sizeOf S) 0 ++ overwrite o (drop (sizeOf S) W)) its
-        ∙ ap (λ (r : List ℕ). replicate (sizeOf S) 0 ++ (forwardBy g e ++ r))
-        (drop-drop (length (forwardBy g e)) (sizeOf S) W ∙ ap (λ (x : ℕ). drop (sizeOf S + x) W) order-size)
+        structured-words S N legal (A .areas) (A .part) L I (A .levels) f ∙ ap (λ (o : List ℕ). laid (sizeOf S) o (drop (sizeOf S + m) W)) its
 
     is-part : Part S N (forwardBy g e)
     is-part =
-        let p = forward-perm G Z L I in record {
+        let p = forward-perm G Z (part-levels G Z) (start-part G Z) in record {
           starts = starts-of (passed S N legal);
           graph = G;
           once = λ x. omega (arith, p .alike x, part-once g z x);
@@ -131,10 +118,7 @@ module _ (S N : List ℕ) (legal : graphRefusal S N ≡ 0) {at from m k v : ℕ}
           → W₂ ≡ sets W (sizeOf S) (partResult (graphOf S N) (getD W from 0) .order)
       arranged-words {W₂} d =
           d ∙ ap₂ (λ (o x : List ℕ). replicate (sizeOf S) 0 ++ (o ++ x)) turned rest-is
-          ∙ sym
-          (sets-eq (partResult g z .order) W (sizeOf S) (omega (arith, size, A .areas .at-low, A .areas .at-held))
-          ∙ append-assoc (take (sizeOf S) W) (partResult g z .order) (drop (sizeOf S + length (partResult g z .order)) W)
-          ∙ ap₂ (λ (x : List ℕ) (y : ℕ). x ++ (partResult g z .order ++ drop (sizeOf S + y) W)) (front-zeros (A .areas)) size)
+          ∙ laid-stored (A .areas) (partResult g z .order) size (omega (arith, part-most g z, part-size (A .part) (A .areas .from-held)))
         where
           size : length (partResult g z .order) ≡ m
           size = result-size G Z ∙ part-size (A .part) (A .areas .from-held)

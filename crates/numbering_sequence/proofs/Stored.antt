@@ -56,3 +56,10 @@ pub stored-swap : (ws l : List ℕ) (i : ℕ) (vs : List ℕ) (j : ℕ) → i + 
 stored-swap [] l i vs j h = refl
 stored-swap (a ∷ ws) l i vs j h =
     stored-swap ws (set l j a) i vs (suc j) (omega arith) ∙ ap (λ (x : List ℕ). sets x (suc j) ws) (set-stored vs l i j a h)
+
+-- stored again in the same place
+pub stored-again : (l : List ℕ) (i : ℕ) (vs ws : List ℕ) → length vs ≡ length ws → i + length ws ≤ length l → sets (sets l i vs) i ws ≡ sets l i ws
+stored-again l i vs ws e h =
+    stored-by l i ws (sets (sets l i vs) i ws) h (length-sets (sets l i vs) i ws ∙ length-sets l i vs)
+    (λ j b. sets-at (sets l i vs) i ws j (omega (arith, length-sets l i vs)) b)
+    (λ j b. stored-other (sets l i vs) i ws j b ∙ stored-other l i vs j (subst (λ (x : ℕ). (j < i) ⊎ (i + x ≤ j)) (sym e) b))

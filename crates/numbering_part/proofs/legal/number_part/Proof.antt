@@ -10,7 +10,10 @@ use Rattle.laws.specs.Legal.{LegalGraph}
 use Rattle.laws.proofs.Refused.{passed, starts-of, not-refused}
 use Rattle.levels_laws.specs.Areas.{wordsOf}
 use Rattle.levels.specs.Part.{PartGiven}
-use Rattle.numbering_part.proofs.Steps.{sequence-ok, number-ok, numbers-done, give-ok, scratch-done, levels-done, figures-done}
+use Rattle.numbering_part.proofs.Given.{z-node}
+use Rattle.numbering_part.proofs.Handover.{number-ok, numbers-done, give-ok, scratch-done, levels-done}
+use Rattle.numbering_part.proofs.Result.{part-result}
+use Rattle.numbering_part.proofs.Steps.{sequence-ok, sequence-done, figures-done}
 use Rattle.numbering_part.proofs.legal.number_part.Statement.{statement}
 use Rattle.numbering_part.proofs.legal.number_part.Tie as tie
 
@@ -48,15 +51,37 @@ sequence-requires c κs =
     let f = c .before .before .before .combine-part .ensures in
     (s .pre .0, sequence-ok (graph s) (few s) (now (s .args .scratch)) (given s) (f .1) (ap (λ r. r .k) (f .0)) (ap (λ r. r .v) (f .0)) (ap (λ r. r .u) (f .0)))
 
+-- the places: the levels are combined, and before that the start; the order is had; the numbers are given
+abbrev lent : tie.After-combine-part → tie.After-slice-known
+lent c = c .before .before .before .before
+
+abbrev start : tie.After-combine-part → tie.Start
+start c = lent c .before .before .before
+
+abbrev levelled : tie.After-sequence → tie.After-combine-part
+levelled c = c .before .before .before .before
+
+abbrev ordered : tie.After-give-numbers → tie.After-sequence
+ordered c = c .before .before .before .before .before
+
 give-numbers-requires : tie.Need-give-numbers-requires
 give-numbers-requires c κs =
-    let s = c .before .before .before .before .before .before .before .before .before .before .before .before .before .before .before in
-    number-ok (graph s) (few s) (now (s .args .scratch)) (given s) (c .before .before .before .before .before .before .before .before .combine-part .ensures .1) (c .before .before .before .before .sequence .ensures .1) (s .pre .1 .1 .0)
+    let o = c .before .before .before .before in
+    let f = levelled o in
+    let s = start f in
+    let X = now (s .args .scratch) in
+    let w = sequence-done (graph s) (few s) X (given s) (f .combine-part .ensures .1) (o .sequence .ensures .1) in
+    number-ok (graph s) (few s) X (given s) (part-result (graph s) (z-node (graph s) (few s) X (given s))) w (s .pre .1 .1 .0)
 
 give-levels-requires : tie.Need-give-levels-requires
 give-levels-requires c κs =
-    let s = c .before .before .before .before .before .before .before .before .before .before .before .before .before .before .before .before .before .before .before .before .before .before in
-    let k = give-ok (graph s) (few s) (now (s .args .scratch)) (given s) (c .before .before .before .before .before .before .before .before .before .before .before .before .before .before .before .combine-part .ensures .1) (c .before .before .before .before .before .before .before .before .before .before .before .sequence .ensures .1) (c .before .before .before .before .before .before .give-numbers .ensures .0) in
+    let p = c .before .before .before .before .before .before in
+    let o = ordered p in
+    let f = levelled o in
+    let s = start f in
+    let X = now (s .args .scratch) in
+    let w = sequence-done (graph s) (few s) X (given s) (f .combine-part .ensures .1) (o .sequence .ensures .1) in
+    let k = give-ok (graph s) (few s) X (given s) (part-result (graph s) (z-node (graph s) (few s) X (given s))) w (p .give-numbers .ensures .0) in
     (k .0, (k .1, s .pre .1 .1 .1))
 
 same-length : tie.Need-same-length
@@ -70,17 +95,22 @@ same-length-3 c = search needs
 
 returns : tie.Need-returns
 returns c =
-    let s = c .before .before .before .before .before .before .before .before .before .before .before .before .before .before .before .before .before .before .before .before .before .before .before .before .before .before .before in
-    let f = c .before .before .before .before .before .before .before .before .before .before .before .before .before .before .before .before .before .before .before .before .combine-part .ensures in
-    let o = c .before .before .before .before .before .before .before .before .before .before .before .before .before .before .before .before .sequence .ensures .1 in
-    let p = c .before .before .before .before .before .before .before .before .before .before .before .give-numbers .ensures in
-    let q = c .before .before .before .before .give-levels .ensures in (
-      figures-done (graph s) (few s) (now (s .args .scratch)) (given s) (f .0),
+    let q = c .before .before .before .before in
+    let p = q .before .before .before .before .before .before .before in
+    let o = ordered p in
+    let f = levelled o in
+    let s = start f in
+    let X = now (s .args .scratch) in
+    let R = part-result (graph s) (z-node (graph s) (few s) X (given s)) in
+    let w = sequence-done (graph s) (few s) X (given s) (f .combine-part .ensures .1) (o .sequence .ensures .1) in
+    let a = p .give-numbers .ensures in
+    let b = q .give-levels .ensures in (
+      figures-done (graph s) (few s) X (given s) (f .combine-part .ensures .0),
       (
-        scratch-done (graph s) (few s) (now (s .args .scratch)) (given s) (f .1) o (p .0) (q .0),
+        scratch-done (graph s) (few s) X (given s) R w (a .0) (b .0),
         (
-          numbers-done (graph s) (few s) (now (s .args .scratch)) (given s) (f .1) o (now (s .args .numbers)) (s .pre .1 .1 .0) (p .1),
-          levels-done (graph s) (few s) (now (s .args .scratch)) (given s) (f .1) o (p .0) (now (s .args .levels)) (s .pre .1 .1 .1) (q .1),
+          numbers-done (graph s) (few s) X (given s) R w (now (s .args .numbers)) (s .pre .1 .1 .0) (a .1),
+          levels-done (graph s) (few s) X (given s) R w (a .0) (now (s .args .levels)) (s .pre .1 .1 .1) (b .1),
         ),
       ),
     )
