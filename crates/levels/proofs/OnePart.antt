@@ -143,20 +143,21 @@ module _ (S N : List ℕ) (ok : graphRefusal S N ≡ 0) {from to : ℕ} (X : Lis
       same : ends g v ≡ e
       same = same-ends S N ok z-node v-first
 
-      E : Ended S N e Y
-      E = subst (λ (x : Ends). Ended S N x Y) same ended
+      -- the searches from v and from u
+      pub both-ended : Ended S N e Y
+      both-ended = subst (λ (x : Ends). Ended S N x Y) same ended
 
-      is : X₁ ≡ Y ++ drop (4 * n) X
-      is = front-back (4 * n) X Y
+      pub comes-back : X₁ ≡ Y ++ drop (4 * n) X
+      comes-back = front-back (4 * n) X Y
 
       Y-size : length Y ≡ 4 * n
-      Y-size = E .full ∙ omega arith
+      Y-size = both-ended .full ∙ omega arith
 
       in-front : (i : ℕ) → i < 4 * n → getD W₁ i 0 ≡ getD Y i 0
       in-front i h = getD-take (5 * n) X₁ i 0 (omega arith) ∙ List·getD-append Y (postOf 0 (4 * n - 0) X) 0 i (omega (arith, Y-size))
 
       behind : drop (4 * n) X₁ ≡ drop (4 * n) X
-      behind = ap (drop (4 * n)) is ∙ behind-front (4 * n) (4 * n) Y X Y-size (omega arith)
+      behind = ap (drop (4 * n)) comes-back ∙ behind-front (4 * n) (4 * n) Y X Y-size (omega arith)
 
       -- the members' words, and the levels behind them
       member-same : (i : ℕ) → i < n → getD W₁ (4 * n + i) 0 ≡ getD W (4 * n + i) 0
@@ -165,10 +166,10 @@ module _ (S N : List ℕ) (ok : graphRefusal S N ≡ 0) {from to : ℕ} (X : Lis
           ∙ getD-drop (4 * n) X i 0 ∙ sym (same-word (4 * n + i) (omega arith))
 
       further : (m : ℕ) → 4 * n ≤ m → drop m X₁ ≡ drop m X
-      further m h = ap (drop m) is ∙ behind-front (4 * n) m Y X Y-size h
+      further m h = ap (drop m) comes-back ∙ behind-front (4 * n) m Y X Y-size h
 
-      size-same : length X₁ ≡ length X
-      size-same = ap length is ∙ length-append Y (drop (4 * n) X) ∙ omega (arith, Y-size, length-drop (4 * n) X, room)
+      pub size-same : length X₁ ≡ length X
+      size-same = ap length comes-back ∙ length-append Y (drop (4 * n) X) ∙ omega (arith, Y-size, length-drop (4 * n) X, room)
 
       levels-same : slice (5 * n) (6 * n) X₁ ≡ L
       levels-same =
@@ -186,7 +187,7 @@ module _ (S N : List ℕ) (ok : graphRefusal S N ≡ 0) {from to : ℕ} (X : Lis
       ends-same : endsOf g from W₁ ≡ e
       ends-same = ap (ends g) z-same
 
-      found-is : f ≡ foundOf g e
+      pub found-is : f ≡ foundOf g e
       found-is = found ∙ ap (foundOf g) same
 
       tally-clean : slice (5 * n) (6 * n) X₁ ≡ replicate n 0
@@ -198,10 +199,10 @@ module _ (S N : List ℕ) (ok : graphRefusal S N ≡ 0) {from to : ℕ} (X : Lis
       -- ---- the widths
 
       pub widths-asked : Listable n 0 (f .reached) (f .k) X₁ × Listable n (2 * n) (f .reached) (f .k) X₁
-      widths-asked = widths-ask S N ok z-node found-is (drop (4 * n) X) E is room-same tally-clean
+      widths-asked = widths-ask S N ok z-node found-is (drop (4 * n) X) both-ended comes-back room-same tally-clean
 
       -- a search from a node of the part reaches as many nodes
-      reaches : (x : ℕ) → memb x (part g z) ≡ true → reached (levels g x) ≡ to - from
+      pub reaches : (x : ℕ) → memb x (part g z) ≡ true → reached (levels g x) ≡ to - from
       reaches x m = reached-part G (part-node G z-node x m) ∙ ap length (part-same G x z-node m) ∙ part-size
 
       O : EndsOf g z e
@@ -221,20 +222,20 @@ module _ (S N : List ℕ) (ok : graphRefusal S N ≡ 0) {from to : ℕ} (X : Lis
         width-u = at-u ∙ ap (λ (x : Ends). x .widthU) (sym ends-same);
         firsts =
             take-take n (5 * n) X₁ (omega arith) ∙ take-append-le n Y (postOf 0 (4 * n - 0) X) (omega (arith, Y-size))
-            ∙ sym (take-take n (half S) Y (omega arith)) ∙ E .first .listed ∙ ap (λ (x : Ends). levelList g (levels g (x .v))) (sym ends-same);
+            ∙ sym (take-take n (half S) Y (omega arith)) ∙ both-ended .first .listed ∙ ap (λ (x : Ends). levelList g (levels g (x .v))) (sym ends-same);
         seconds =
             let a : 2 * n ≡ half S + 0 = omega arith in
             let b : 3 * n ≡ half S + n = omega arith in
             ap (drop (2 * n)) (take-take (3 * n) (5 * n) X₁ (omega arith))
             ∙ slice-front (2 * n) (3 * n) Y (postOf 0 (4 * n - 0) X) (omega (arith, Y-size)) ∙ (λ i. slice (a i) (b i) Y)
-            ∙ slice-shift (half S) 0 n Y ∙ E .second .listed ∙ ap (λ (x : Ends). levelList g (levels g (x .u))) (sym ends-same);
+            ∙ slice-shift (half S) 0 n Y ∙ both-ended .second .listed ∙ ap (λ (x : Ends). levelList g (levels g (x .u))) (sym ends-same);
         queue-v = λ i l h.
             in-front i (omega arith) ∙ sym (getD-take (half S) Y i 0 (omega arith))
-            ∙ past-queue (E .first .holds) i (omega (arith, reaches (e .v) (O .v-part)));
+            ∙ past-queue (both-ended .first .holds) i (omega (arith, reaches (e .v) (O .v-part)));
         queue-u = λ i l h.
             let q : half S + (i - half S) ≡ i = omega arith in
             in-front i (omega arith) ∙ ap (λ (j : ℕ). getD Y j 0) (sym q) ∙ sym (getD-drop (half S) Y (i - half S) 0)
-            ∙ past-queue (E .second .holds) (i - half S) (omega (arith, reaches (e .u) (O .u-part)));
+            ∙ past-queue (both-ended .second .holds) (i - half S) (omega (arith, reaches (e .u) (O .u-part)));
         clean = tally-clean;
       }
 
@@ -242,8 +243,8 @@ module _ (S N : List ℕ) (ok : graphRefusal S N ≡ 0) {from to : ℕ} (X : Lis
       pub combine-ask : {a b : ℕ} {X₂ : List ℕ} → a ≡ widthOf (f .k) (levelsAt n 0 X₁) → b ≡ widthOf (f .k) (levelsAt n (2 * n) X₁) → X₂ ≡ X₁
           → (graphRefusal S N ≡ 0) × Given g from to (f .k) a b (wordsOf n X₂) (slice (5 * n) (6 * n) X₂)
       combine-ask {a} {b} at-v at-u kept =
-          let v = at-v ∙ width-v S N ok z-node found-is (drop (4 * n) X) E is room-same tally-clean in
-          let u = at-u ∙ width-u S N ok z-node found-is (drop (4 * n) X) E is room-same tally-clean in
+          let v = at-v ∙ width-v S N ok z-node found-is (drop (4 * n) X) both-ended comes-back room-same tally-clean in
+          let u = at-u ∙ width-u S N ok z-node found-is (drop (4 * n) X) both-ended comes-back room-same tally-clean in
           (ok, subst (λ (x : List ℕ). Given g from to (f .k) a b (wordsOf n x) (slice (5 * n) (6 * n) x)) (sym kept) (given v u))
 
       -- ---- what is returned and left

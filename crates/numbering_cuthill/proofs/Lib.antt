@@ -1,0 +1,5 @@
+pub mod Result
+pub mod Wiping
+pub mod Ordering
+pub mod Rooting
+pub mod Steps

@@ -3,14 +3,13 @@
 // the sorts: nothing here is n.
 ghost use mathlib.Core.Path.{_≡_};
 ghost use Prim.Native.Nat.{_+_, _≤_};
-ghost use lib.ListN.{length};
+ghost use lib.ListN.{length, take, drop, replicate};
 ghost use lib.Seq.{sets, slice};
 ghost use Rattle.basis.specs.Moments.{was, left};
 ghost use Rattle.spec.specs.Cuthill.{cuthillResult};
 ghost use Rattle.spec.specs.Graph.{graphRefusal};
-ghost use Rattle.spec.specs.Lent.{zeroed};
 ghost use Rattle.laws.specs.Handed.{graphNow, graphWas, sizeNow, sizeWas};
-ghost use Rattle.laws.specs.Scratch.{secondArea, membersArea, tallyArea, areasEnd};
+ghost use Rattle.laws.specs.Scratch.{tallyArea, areasEnd};
 ghost use Rattle.levels_laws.specs.Areas.{wordsOf, tallyOf};
 ghost use Rattle.levels_search.specs.Queue.{Queued};
 ghost use Rattle.levels.specs.Part.{PartGiven};
@@ -18,7 +17,6 @@ ghost use Rattle.numbering_part.specs.Part.{lowestIn, newNumbers, newLevels, pa
 ghost use Rattle.numbering_cuthill.specs.Part.{partRootOf, resultIn, Orderable};
 use crate::shape::PartRoot;
 use graph_words::areas::MEMBERS;
-use graph_words::areas::SECOND;
 use graph_words::areas::TALLY;
 use graph_words::wide;
 use levels_combine::legal::copy_levels;
@@ -33,14 +31,14 @@ use numbering_part::shape::PartFigures;
 use numbering_reverse::legal::reverse;
 
 // Sets the words of the searches from both ends, of `count` nodes each, to 0 again.
-fn wipe_both(scratch: &mut [u16], n: usize, count: usize)
-    requires { ⌜ (n ≤ 4096) × (membersArea n ≤ length (now scratch)) ⌝ }
-    requires { ⌜ Queued n count (slice 0 (secondArea n) (now scratch)) ⌝ }
-    requires { ⌜ Queued n count (slice (secondArea n) (membersArea n) (now scratch)) ⌝ }
-    ensures { λ _. ⌜ left scratch ≡ zeroed (membersArea n) (was scratch) ⌝ }
+fn wipe_both(work: &mut [u16], n: usize, count: usize)
+    requires { ⌜ n ≤ 4096 ⌝ }
+    requires { ⌜ Queued n count (take (n + n) (now work)) ⌝ }
+    requires { ⌜ Queued n count (drop (n + n) (now work)) ⌝ }
+    ensures { λ _. ⌜ left work ≡ replicate (n + n + (n + n)) 0 ⌝ }
 {
-    wipe(&mut scratch[0..SECOND * n], n, count);
-    wipe(&mut scratch[SECOND * n..MEMBERS * n], n, count);
+    wipe(&mut work[0..n + n], n, count);
+    wipe(&mut work[n + n..], n, count);
 }
 
 // The end v of the part whose members stand from..to, and the levels rooted at it: in TALLY, n words by old number. All else is as before.
@@ -62,7 +60,7 @@ fn root_part(
     let count = wide(f.reached);
     let width = width_of(scratch, n, 0, count, wide(f.k));
     copy_levels(scratch, n, 0, from, to);
-    wipe_both(scratch, n, count);
+    wipe_both(&mut scratch[0..MEMBERS * n], n, count);
     PartRoot {
         v: f.v,
         k: f.k,
