@@ -1,15 +1,15 @@
 -- The order of Cuthill and McKee in the working words: the numbering level by level of the levels rooted at v, turned end for end.
 -- Assumes nothing.
-use mathlib.Core.Path.{_≡_, refl, sym, ap, _∙_}
+use mathlib.Core.Path.{_≡_, sym, ap, _∙_}
 use mathlib.Core.Bool.{true}
 use mathlib.Core.List.{List, _++_, reverse}
 use Prim.Native.Nat.{ℕ, _+_, _-_, _≤_}
 use native.Mathlib.Omega.{arith}
 use borrow.Rule.Slice.PartMut.{midOf, putMid}
 use lib.ListN.{length, drop, getD, replicate, length-reverse}
-use lib.Seq.{sets, slice}
+use lib.Seq.{sets}
 use Rattle.basis.specs.Lists.{memb, overwrite}
-use Rattle.spec.specs.Cuthill.{cuthillMcKee, cuthillResultBy, cuthillResult}
+use Rattle.spec.specs.Cuthill.{cuthillResultBy, cuthillResult}
 use Rattle.spec.specs.Ends.{Ends, ends}
 use Rattle.spec.specs.Graph.{Graph, graphOf, graphRefusal, sizeOf}
 use Rattle.spec.specs.Levels.{levels, levelList, part}
@@ -23,7 +23,7 @@ use Rattle.laws.proofs.Parts.{part-most}
 use Rattle.laws.proofs.Refused.{not-refused}
 use Rattle.numbering_stacks.specs.Part.{membersIn, Behind}
 use Rattle.numbering_order.specs.Model.{levelsIn, Starting}
-use Rattle.numbering_reverse.proofs.Laid.{laid, laid-turned}
+use Rattle.numbering_reverse.proofs.Laid.{laid-turned}
 use Rattle.numbering_sequence.proofs.Members.{lowest-node, part-size}
 use Rattle.numbering_sequence.proofs.Structured.{laid-stored, structured-behind, structured-starting, structured-size, structured-words}
 use Rattle.numbering_part.proofs.Result.{ResultOf}

@@ -146,8 +146,8 @@ module _ (S N : List ℕ) (ok : graphRefusal S N ≡ 0) {from to : ℕ} (X : Lis
     kept-behind : (i : ℕ) → 4 * n ≤ i → getD U i 0 ≡ getD X i 0
     kept-behind i h = ap (λ (l : List ℕ). getD l i 0) kept ∙ one-behind i h
 
-    pub copy-asked : (6 * n ≤ length U) × ((0 + n ≤ 4 * n) × Members n from to U)
-    copy-asked = (omega (arith, kept-size, fits), (omega arith, members-at G few X A U kept-size (λ i l h. kept-behind i l)))
+    pub copy-asked : (6 * n ≤ length U) × Members n from to U
+    copy-asked = (omega (arith, kept-size, fits), members-at G few X A U kept-size (λ i l h. kept-behind i l))
 
     abbrev ms : List ℕ
     ms = membersOf n from to U
@@ -163,9 +163,6 @@ module _ (S N : List ℕ) (ok : graphRefusal S N ≡ 0) {from to : ℕ} (X : Lis
     module _ {T : List ℕ} (copied : T ≡ stored (5 * n) (numberAt 0 U) U ms) where
       two-size : length T ≡ length X
       two-size = ap length copied ∙ length-stored (5 * n) (numberAt 0 U) U ms ∙ kept-size
-
-      pub words-held : 6 * n ≤ length T
-      words-held = omega (arith, two-size, fits)
 
       two-other : (i : ℕ) → (i < 5 * n) ⊎ (6 * n ≤ i) → getD T i 0 ≡ getD U i 0
       two-other i h =

@@ -12,7 +12,7 @@ use Rattle.basis.proofs.Perm.{perm-memb}
 use Rattle.spec.specs.Ends.{Ends, ends}
 use Rattle.spec.specs.Graph.{Graph, graphOf, graphRefusal, sizeOf}
 use Rattle.spec.specs.Levels.{part}
-use Rattle.spec.specs.Numbering.{startNode, finishNode, partLevels, forwardOrder, turns, partResultBy, partResult}
+use Rattle.spec.specs.Numbering.{finishNode, partLevels, forwardOrder, turns, partResultBy, partResult}
 use Rattle.laws.specs.Legal.{Node, LegalGraph}
 use Rattle.laws.specs.Structure.{LevelStructure}
 use Rattle.laws.proofs.Levels.{part-node, part-on}

@@ -6,7 +6,7 @@ use lib.ListN.{length}
 use Rattle.spec.specs.Graph.{sizeOf}
 use Rattle.laws.proofs.Refused.{passed, starts-of}
 use Rattle.levels.proofs.OnePart.{room, first-ask, ends-ask}
-use Rattle.numbering_cuthill.proofs.Rooting.{width-asked, copy-asked, wipe-asked, words-held, rooted-words, rooted-figures}
+use Rattle.numbering_cuthill.proofs.Rooting.{width-asked, copy-asked, wipe-asked, rooted-words, rooted-figures}
 use Rattle.numbering_cuthill.proofs.legal.root_part.Statement.{statement}
 use Rattle.numbering_cuthill.proofs.legal.root_part.Tie as tie
 
@@ -110,7 +110,8 @@ copy-levels-requires c κs =
     let N = s .args .neighbours .now in
     let X = s .args .scratch .now in
     let w = at .ends-from .ensures in
-    copy-asked S N (s .pre .0) X (s .pre .1) (first at .first-in-e .ensures) (w .0) (w .1) (x .width-of .ensures .1)
+    let k = copy-asked S N (s .pre .0) X (s .pre .1) (first at .first-in-e .ensures) (w .0) (w .1) (x .width-of .ensures .1) in
+    (k .0, (omega arith, k .1))
 
 mul-wipe-both : tie.Need-mul-wipe-both
 mul-wipe-both c = search needs
@@ -131,7 +132,7 @@ part-wipe-both-end c =
     let N = s .args .neighbours .now in
     let X = s .args .scratch .now in
     let w = at .ends-from .ensures in
-    omega (arith, words-held S N (s .pre .0) X (s .pre .1) (first at .first-in-e .ensures) (w .0) (w .1) (x .width-of .ensures .1) (y .copy-levels .ensures))
+    omega (arith, copy-asked S N (s .pre .0) X (s .pre .1) (first at .first-in-e .ensures) (w .0) (w .1) (x .width-of .ensures .1) .0, y .copy-levels .kept .0)
 
 wipe-both-requires : tie.Need-wipe-both-requires
 wipe-both-requires c κs =
