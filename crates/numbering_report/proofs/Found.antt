@@ -25,7 +25,8 @@ use Rattle.levels.proofs.Scratch.{behind-sets, zeroed-again}
 use Rattle.numbering_sequence.specs.Answer.{sequenceOf, Sequenceable}
 use Rattle.numbering_sequence.specs.declared.shape.Sequence.{Sequence}
 use Rattle.numbering_sequence.proofs.Arranged.{result-size}
-use Rattle.numbering_part.proofs.Steps.{z-node, sequence-ok}
+use Rattle.numbering_part.proofs.Given.{z-node}
+use Rattle.numbering_part.proofs.Steps.{sequence-ok}
 use Rattle.numbering_report.specs.Answers.{reported}
 use Rattle.numbering_report.proofs.Reported.{report-is}
 
