@@ -17,7 +17,7 @@ from calls import scratch_words
 from combined import number_pairs
 from ends import ends_of_part
 from examples import GRAPHS
-from graph import from_edges, lists_of, part_of, pieces_of, rows_of, small_graphs
+from graph import degree, from_edges, lists_of, part_of, parts_of, pieces_of, rows_of, small_graphs
 from measures import profile
 from vectors import answer_text, byte_pattern, changed, number, of_words, pattern, shown
 
@@ -437,9 +437,9 @@ def pass_counts(draw, count):
 
 def changes_names(lists):
     """Whether the run changes the names of v and u in some part, so that it starts at another node than reverse Cuthill-McKee."""
-    n = len(lists[0]) - 1
-    return any(calls.ends(*lists, p, pattern(scratch_words(n)))[1][0] != calls.part_report(*lists, p, pattern(scratch_words(n)))[1][0]
-               for p in range(1, n + 1))
+    rows = rows_of(*lists)
+    ends = [ends_of_part(rows, part) for part in parts_of(rows)]
+    return any(degree(rows, found.u) < degree(rows, found.v) for found in ends)
 
 
 def with_names_changed(draw, count):
