@@ -27,17 +27,20 @@ given : (s : tie.Start) → let n = sizeOf (now (s .args .starts)) in
 given s = s .pre .1 .0
 
 -- the places: the levels are there, and before that the start; the order is had; the numbers are given
-abbrev lent : tie.After-root-part → tie.After-slice-known
-lent c = c .before .before .before .before
+abbrev lent : tie.After-slice-known → tie.Start
+lent c = c .before .before .before
 
 abbrev start : tie.After-root-part → tie.Start
-start c = lent c .before .before .before
+start c = lent (c .before .before .before .before)
 
 abbrev levelled : tie.After-order-part → tie.After-root-part
 levelled c = c .before .before .before .before
 
 abbrev ordered : tie.After-give-numbers → tie.After-order-part
 ordered c = c .before .before .before .before .before
+
+abbrev numbered : tie.After-slice-known7 → tie.After-give-numbers
+numbered c = c .before .before .before .before
 
 sub-n : tie.Need-sub-n
 sub-n c = search needs
@@ -46,7 +49,7 @@ sub-m : tie.Need-sub-m
 sub-m c = search needs
 
 root-part-requires : tie.Need-root-part-requires
-root-part-requires c κs = let s = c .before .before .before .before .before .before in (s .pre .0, given s)
+root-part-requires c κs = let s = lent (c .before .before .before) in (s .pre .0, given s)
 
 mul-order-part : tie.Need-mul-order-part
 mul-order-part c = omega (arith, few (start (c .before .before .before)))
@@ -77,7 +80,7 @@ give-numbers-requires c κs =
 
 give-levels-requires : tie.Need-give-levels-requires
 give-levels-requires c κs =
-    let p = c .before .before .before .before .before .before in
+    let p = numbered (c .before .before) in
     let o = ordered p in
     let f = levelled o in
     let s = start f in
@@ -100,7 +103,7 @@ same-length-3 c = search needs
 returns : tie.Need-returns
 returns c =
     let q = c .before .before .before .before in
-    let p = q .before .before .before .before .before .before .before in
+    let p = numbered (q .before .before .before) in
     let o = ordered p in
     let f = levelled o in
     let s = start f in

@@ -27,6 +27,22 @@ given : (s : tie.Start) → let n = sizeOf (now (s .args .starts)) in
     PartGiven (graphOf (now (s .args .starts)) (now (s .args .neighbours))) (s .args .from) (s .args .to) (wordsOf n (now (s .args .scratch))) (slice (5 * n) (6 * n) (now (s .args .scratch)))
 given s = s .pre .1 .0
 
+-- the places: the levels are combined, and before that the start; the order is had; the numbers are given
+abbrev lent : tie.After-slice-known → tie.Start
+lent c = c .before .before .before
+
+abbrev start : tie.After-combine-part → tie.Start
+start c = lent (c .before .before .before .before)
+
+abbrev levelled : tie.After-sequence → tie.After-combine-part
+levelled c = c .before .before .before .before
+
+abbrev ordered : tie.After-give-numbers → tie.After-sequence
+ordered c = c .before .before .before .before .before
+
+abbrev numbered : tie.After-slice-known7 → tie.After-give-numbers
+numbered c = c .before .before .before .before
+
 sub-n : tie.Need-sub-n
 sub-n c = search needs
 
@@ -34,35 +50,22 @@ sub-m : tie.Need-sub-m
 sub-m c = search needs
 
 combine-part-requires : tie.Need-combine-part-requires
-combine-part-requires c κs = let s = c .before .before .before .before .before .before in (s .pre .0, given s)
+combine-part-requires c κs = let s = lent (c .before .before .before) in (s .pre .0, given s)
 
 mul-sequence : tie.Need-mul-sequence
-mul-sequence c = let s = c .before .before .before .before .before .before .before .before .before .before in omega (arith, few s)
+mul-sequence c = let s = start (c .before .before .before) in omega (arith, few s)
 
 mul-sequence-2 : tie.Need-mul-sequence-2
-mul-sequence-2 c = let s = c .before .before .before .before .before .before .before .before .before .before in omega (arith, few s)
+mul-sequence-2 c = let s = start (c .before .before .before) in omega (arith, few s)
 
 add-sequence : tie.Need-add-sequence
-add-sequence c = let s = c .before .before .before .before .before .before .before .before .before .before in omega (arith, few s, given s .most, given s .order)
+add-sequence c = let s = start (c .before .before .before) in omega (arith, few s, given s .most, given s .order)
 
 sequence-requires : tie.Need-sequence-requires
 sequence-requires c κs =
-    let s = c .before .before .before .before .before .before .before .before .before .before in
+    let s = start (c .before .before .before) in
     let f = c .before .before .before .combine-part .ensures in
     (s .pre .0, sequence-ok (graph s) (few s) (now (s .args .scratch)) (given s) (f .1) (ap (λ r. r .k) (f .0)) (ap (λ r. r .v) (f .0)) (ap (λ r. r .u) (f .0)))
-
--- the places: the levels are combined, and before that the start; the order is had; the numbers are given
-abbrev lent : tie.After-combine-part → tie.After-slice-known
-lent c = c .before .before .before .before
-
-abbrev start : tie.After-combine-part → tie.Start
-start c = lent c .before .before .before
-
-abbrev levelled : tie.After-sequence → tie.After-combine-part
-levelled c = c .before .before .before .before
-
-abbrev ordered : tie.After-give-numbers → tie.After-sequence
-ordered c = c .before .before .before .before .before
 
 give-numbers-requires : tie.Need-give-numbers-requires
 give-numbers-requires c κs =
@@ -75,7 +78,7 @@ give-numbers-requires c κs =
 
 give-levels-requires : tie.Need-give-levels-requires
 give-levels-requires c κs =
-    let p = c .before .before .before .before .before .before in
+    let p = numbered (c .before .before) in
     let o = ordered p in
     let f = levelled o in
     let s = start f in
@@ -96,7 +99,7 @@ same-length-3 c = search needs
 returns : tie.Need-returns
 returns c =
     let q = c .before .before .before .before in
-    let p = q .before .before .before .before .before .before .before in
+    let p = numbered (q .before .before .before) in
     let o = ordered p in
     let f = levelled o in
     let s = start f in
