@@ -42,13 +42,13 @@ cuthill-sound {g} G = record {
   sound = λ z Z. record {
     perm = turned-perm G Z (ends-of G Z);
     span = turned-span G Z (ends-of G Z);
-    first = ends g z .v;
-    last = ends g z .u;
-    first-part = ends-of G Z .v-part;
+    v-part = ends-of G Z .v-part;
+    u-part = ends-of G Z .u-part;
     structure = rooted-structure G Z (ends-of G Z);
-    depth = refl;
     width = refl;
-    passes = refl;
+    depth = refl;
+    some-pass = ends-of G Z .some-pass;
+    most-passes = ends-of G Z .most-passes;
   };
 }
 

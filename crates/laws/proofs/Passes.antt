@@ -13,10 +13,8 @@ use Rattle.spec.specs.File.{figuresLine, nodeLine, listing, output, fileRefusal
 use Rattle.spec.specs.Graph.{Graph, nodes}
 use Rattle.spec.specs.Levels.{leads, leaders}
 use Rattle.spec.specs.Numbering.{PartResult, partResults, partPasses, runOf, run}
-use Rattle.laws.specs.Legal.{LegalGraph}
 use Rattle.laws.specs.Results.{AllSound, wholeOf}
 use Rattle.laws.specs.Passes.{oneCount, outputBefore, programBefore}
-use Rattle.laws.proofs.Ends.{ends-of}
 use Rattle.laws.proofs.Legal.{length-nodes}
 use Rattle.laws.proofs.Parts.{leaders-in}
 
@@ -62,13 +60,11 @@ module _ (g : Graph) (R : ℕ → PartResult) where
       ∙ zeros-at (g .size - length rs) (j - length (map (λ r. r .report .passes) rs))
 
 -- "For every graph each count is at least 1 and at most its own part's depth", of sound results: of the run and of A.3's call
-pub passes-within : {g : Graph} (G : LegalGraph g) (R : ℕ → PartResult) → AllSound g R → (j : ℕ) → j < length (leaders g)
+pub passes-within : {g : Graph} (R : ℕ → PartResult) → AllSound g R → (j : ℕ) → j < length (leaders g)
     → (1 ≤ getD (wholeOf g R .passes) j 0) × (getD (wholeOf g R .passes) j 0 ≤ R (getD (leaders g) j 0) .report .k)
-passes-within {g} G R ok j h =
-    let Z = leaders-in g (getD (leaders g) j 0) (memb-getD (leaders g) j h) .0 in
-    let E = ends-of G Z in
-    let r = ok .sound (getD (leaders g) j 0) Z in
-    (omega (arith, one-pass g R j h, r .passes, E .some-pass), omega (arith, one-pass g R j h, r .passes, r .depth, E .most-passes))
+passes-within {g} R ok j h =
+    let r = ok .sound (getD (leaders g) j 0) (leaders-in g (getD (leaders g) j 0) (memb-getD (leaders g) j h) .0) in
+    (omega (arith, one-pass g R j h, r .some-pass), omega (arith, one-pass g R j h, r .most-passes))
 
 -- ---- the sum
 

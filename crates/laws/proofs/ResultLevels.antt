@@ -23,7 +23,6 @@ use Rattle.spec.specs.Numbering.{PartResult, partResultBy, partResult, wholeLev
 use Rattle.laws.specs.Legal.{Node, LegalGraph}
 use Rattle.laws.specs.Results.{Sound, AllSound, wholeOf}
 use Rattle.laws.proofs.Combined.{width-most, width-met}
-use Rattle.laws.proofs.Ends.{ends-of}
 use Rattle.laws.proofs.Legal.{length-nodes, edge-node, ofNode-map}
 use Rattle.laws.proofs.Levels.{part-node, part-on}
 use Rattle.laws.proofs.PartOrder.{level-count, levels-perm, forward-is}
@@ -69,25 +68,29 @@ module _ {g : Graph} (G : LegalGraph g) (R : ℕ → PartResult) (ok : AllSound 
     abbrev S : Sound g z (R z)
     S = ok .sound z Z
 
+    -- as deep as the run has the part
+    deep-as : R z .report .k ≡ depthOf g z
+    deep-as = S .depth ∙ sym (depth-of g z)
+
     -- every node of the part stands in one of its k levels
     all-range : (x : ℕ) → memb x (part g z) ≡ true → (1 ≤ ofNode all x) × (ofNode all x ≤ depthOf g z)
     all-range x i =
-        (omega (arith, all-level z x m i, S .structure .some x i), omega (arith, all-level z x m i, S .structure .most x i, depth-of g z))
+        (omega (arith, all-level z x m i, S .structure .some x i), omega (arith, all-level z x m i, S .structure .most x i, deep-as))
 
     -- every level holds a node
     pub all-occupied : (i : ℕ) → IsLevel g z i → (x : ℕ) × StandsIn g (wholeOf g R .levels) z i x
     all-occupied i l =
-        let w = S .structure .occupied i (l .low) (omega (arith, l .high, depth-of g z)) in
+        let w = S .structure .occupied i (l .low) (omega (arith, l .high, deep-as)) in
         (w .0, record { level = l; inside = w .1; at = all-level z (w .0) m (w .1) ∙ w .2 })
 
     -- each part has a level
-    all-deep : 1 ≤ ends g z .k
-    all-deep = let E = ends-of G Z in omega (arith, E .some-pass, E .most-passes)
+    all-deep : 1 ≤ R z .report .k
+    all-deep = omega (arith, S .some-pass, S .most-passes)
 
     -- the count of a level, from the list of the part's own levels
-    same-count : (i : ℕ) → 1 ≤ i → i ≤ ends g z .k → countIn g all z i ≡ countAt (R z .levels) i
+    same-count : (i : ℕ) → 1 ≤ i → i ≤ R z .report .k → countIn g all z i ≡ countAt (R z .levels) i
     same-count i a b =
-        let r = forward-is G Z (S .structure) (S .first-part) in
+        let r = forward-is G Z (S .structure) (S .v-part) in
         count-cong (λ x. eqb (ofNode all x) i) (λ x. eqb (ofNode (R z .levels) x) i) (part g z) (λ x j. ap (λ (y : ℕ). eqb y i) (all-level z x m j))
         ∙ sym (perm-count (λ x. eqb (ofNode (R z .levels) x) i) (levels-perm G Z (S .structure) r))
         ∙ level-count g (R z .levels) (S .structure .size) r i a b
@@ -101,8 +104,8 @@ module _ {g : Graph} (G : LegalGraph g) (R : ℕ → PartResult) (ok : AllSound 
   all-width-most z i l =
       omega (
         arith,
-        same-count z (l .leads) i (l .low) (omega (arith, l .high, depth-of g z)),
-        width-most (ends g z .k) (R z .levels) i (l .low) (omega (arith, l .high, depth-of g z)),
+        same-count z (l .leads) i (l .low) (omega (arith, l .high, deep-as z (l .leads))),
+        width-most (R z .report .k) (R z .levels) i (l .low) (omega (arith, l .high, deep-as z (l .leads))),
         S z (l .leads) .width,
         greatest-memb (λ y. R y .report .width) (leaders g) z (l .leads),
         width-is,
@@ -113,10 +116,10 @@ module _ {g : Graph} (G : LegalGraph g) (R : ℕ → PartResult) (ok : AllSound 
   all-width-met some =
       let N : Node g 1 = record { low = omega arith; high = some } in
       let z = greatest-met (λ y. R y .report .width) (leaders g) (leader g 1) (leader-leads G N) in
-      let i = width-met (ends g (z .0) .k) (R (z .0) .levels) (all-deep (z .0) (z .1)) in (
+      let i = width-met (R (z .0) .report .k) (R (z .0) .levels) (all-deep (z .0) (z .1)) in (
         z .0,
         i .0,
-        record { leads = z .1; low = i .1; high = omega (arith, i .2, depth-of g (z .0)) },
+        record { leads = z .1; low = i .1; high = omega (arith, i .2, deep-as (z .0) (z .1)) },
         same-count (z .0) (z .1) (i .0) (i .1) (i .2) ∙ i .3 ∙ sym (S (z .0) (z .1) .width) ∙ z .2 ∙ width-is,
       )
 

@@ -2,7 +2,7 @@
 use mathlib.Core.Path.{_≡_}
 use mathlib.Core.Bool.{true}
 use mathlib.Core.List.{List, map}
-use Prim.Native.Nat.{ℕ, _*_}
+use Prim.Native.Nat.{ℕ, _*_, _≤_}
 use Rattle.basis.specs.Lists.{memb}
 use Rattle.basis.specs.Perm.{Perm}
 use Rattle.spec.specs.Combined.{widthOf}
@@ -15,17 +15,17 @@ use Rattle.laws.specs.Order.{Spans}
 use Rattle.laws.specs.Structure.{LevelStructure}
 
 -- its order is a permutation of the part in which no edge reaches twice its width; its levels are a level structure, as deep as the end search
--- found the part; its passes are those of that search
+-- found the part, with the part's ends in the first and the last
 pub record Sound (g : Graph) (z : ℕ) (r : PartResult) : Type 0 where
   pub perm : Perm (r .order) (part g z)
   pub span : Spans g (r .order) (2 * r .report .width)
-  pub first : ℕ
-  pub last : ℕ
-  pub first-part : memb first (part g z) ≡ true
-  pub structure : LevelStructure g z (ends g z .k) first last (r .levels)
+  pub v-part : memb (r .report .v) (part g z) ≡ true
+  pub u-part : memb (r .report .u) (part g z) ≡ true
+  pub structure : LevelStructure g z (r .report .k) (r .report .v) (r .report .u) (r .levels)
+  pub width : r .report .width ≡ widthOf (r .report .k) (r .levels)
   pub depth : r .report .k ≡ ends g z .k
-  pub width : r .report .width ≡ widthOf (ends g z .k) (r .levels)
-  pub passes : r .report .passes ≡ ends g z .passes
+  pub some-pass : 1 ≤ r .report .passes
+  pub most-passes : r .report .passes ≤ r .report .k
 
 -- the results of all parts are sound
 pub record AllSound (g : Graph) (R : ℕ → PartResult) : Type 0 where

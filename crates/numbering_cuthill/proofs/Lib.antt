@@ -1,4 +1,3 @@
-pub mod Result
 pub mod Wiping
 pub mod Ordering
 pub mod Rooting

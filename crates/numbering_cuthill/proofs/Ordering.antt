@@ -14,6 +14,7 @@ use Rattle.spec.specs.Ends.{Ends, ends}
 use Rattle.spec.specs.Graph.{Graph, graphOf, graphRefusal, sizeOf}
 use Rattle.spec.specs.Levels.{levels, levelList, part}
 use Rattle.spec.specs.Numbering.{forwardOrder}
+use Rattle.laws.specs.Results.{Sound}
 use Rattle.laws.specs.Legal.{Node, LegalGraph}
 use Rattle.laws.specs.Structure.{EndsOf, LevelStructure}
 use Rattle.laws.proofs.Cuthill.{cuthill-forward}
@@ -26,9 +27,8 @@ use Rattle.numbering_order.specs.Model.{levelsIn, Starting}
 use Rattle.numbering_reverse.proofs.Laid.{laid-turned}
 use Rattle.numbering_sequence.proofs.Members.{lowest-node, part-size}
 use Rattle.numbering_sequence.proofs.Structured.{laid-stored, structured-behind, structured-starting, structured-size, structured-words}
-use Rattle.numbering_part.proofs.Result.{ResultOf}
 use Rattle.numbering_cuthill.specs.Part.{Orderable}
-use Rattle.numbering_cuthill.proofs.Result.{cuthill-result}
+use Rattle.laws.proofs.CuthillRun.{cuthill-sound}
 
 -- the order that is turned is had level by level
 module _ {g : Graph} (G : LegalGraph g) {z : ℕ} (Z : Node g z) where
@@ -56,8 +56,8 @@ module _ (S N : List ℕ) (legal : graphRefusal S N ≡ 0) {at from m k v : ℕ}
   Z : Node (graphOf S N) (getD W from 0)
   Z = lowest-node (A .part) (A .areas .from-held)
 
-  R : ResultOf (graphOf S N) (getD W from 0) (cuthillResult (graphOf S N) (getD W from 0))
-  R = cuthill-result G Z
+  R : Sound (graphOf S N) (getD W from 0) (cuthillResult (graphOf S N) (getD W from 0))
+  R = cuthill-sound G .sound _ Z
 
   L : LevelStructure (graphOf S N) (getD W from 0) k v (cuthillResult g z .report .u) ls
   L = rw (A .k-is, A .v-is) (R .structure)

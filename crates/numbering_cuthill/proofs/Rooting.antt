@@ -17,6 +17,7 @@ use Rattle.spec.specs.Cuthill.{cuthillResultBy, cuthillResult}
 use Rattle.spec.specs.Ends.{Ends, ends}
 use Rattle.spec.specs.Graph.{Graph, graphOf, sizeOf, graphRefusal, firstInE, ofNode}
 use Rattle.spec.specs.Levels.{levels, reached, levelList, part}
+use Rattle.laws.specs.Results.{Sound}
 use Rattle.laws.specs.Legal.{Node, LegalGraph, Starts}
 use Rattle.laws.specs.Structure.{EndsOf}
 use Rattle.laws.proofs.Ends.{ends-of}
@@ -37,10 +38,9 @@ use Rattle.levels.specs.Part.{PartGiven}
 use Rattle.levels.proofs.OnePart.{widths-asked, found-is, both-ended, comes-back, size-same, reaches}
 use Rattle.numbering_sequence.proofs.Stored.{stored-by}
 use Rattle.numbering_part.proofs.Given.{room, z-node, m-part, m-range, same-members, members-at, front, sixth}
-use Rattle.numbering_part.proofs.Result.{ResultOf}
 use Rattle.numbering_cuthill.specs.Part.{partRootOf}
 use Rattle.numbering_cuthill.specs.declared.shape.PartRoot.{PartRoot}
-use Rattle.numbering_cuthill.proofs.Result.{cuthill-result}
+use Rattle.laws.proofs.CuthillRun.{cuthill-sound}
 
 levels-of : (g : Graph) (z : ℕ) → levelList g (levels g (ends g z .v)) ≡ cuthillResult g z .levels
 unfolding cuthillResult cuthillResultBy
@@ -97,8 +97,8 @@ module _ (S N : List ℕ) (ok : graphRefusal S N ≡ 0) {from to : ℕ} (X : Lis
   O : EndsOf g z e
   O = ends-of G Z
 
-  R : ResultOf g z (cuthillResult g z)
-  R = cuthill-result G Z
+  R : Sound g z (cuthillResult g z)
+  R = cuthill-sound G .sound _ Z
 
   found-e : f ≡ foundOf g e
   found-e = found-is S N ok X A learnt found ended

@@ -9,15 +9,15 @@ use lib.Seq.{sets, slice}
 use Rattle.basis.proofs.Perm.{perm-length}
 use Rattle.spec.specs.Cuthill.{cuthillResult}
 use Rattle.spec.specs.Graph.{Graph}
+use Rattle.laws.specs.Results.{Sound}
 use Rattle.laws.specs.Legal.{LegalGraph}
 use Rattle.levels_laws.specs.Areas.{wordsOf}
 use Rattle.levels_laws.specs.Given.{firstOf}
 use Rattle.levels.specs.Part.{PartGiven}
 use Rattle.numbering_sequence.proofs.Stored.{stored-swap}
 use Rattle.numbering_part.proofs.Given.{z-node, part-size, stored-first, stored-areas, stored-part, stored-levels}
-use Rattle.numbering_part.proofs.Result.{ResultOf}
 use Rattle.numbering_cuthill.specs.Part.{Orderable}
-use Rattle.numbering_cuthill.proofs.Result.{cuthill-result}
+use Rattle.laws.proofs.CuthillRun.{cuthill-sound}
 
 module _ {g : Graph} (G : LegalGraph g) (few : g .size ≤ 4096) {from to : ℕ} (X : List ℕ)
     (P : PartGiven g from to (wordsOf (g .size) X) (slice (5 * g .size) (6 * g .size) X))
@@ -34,8 +34,8 @@ module _ {g : Graph} (G : LegalGraph g) (few : g .size ≤ 4096) {from to : ℕ}
   abbrev lv : List ℕ
   lv = cuthillResult g z .levels
 
-  pub result : ResultOf g (firstOf (g .size) from (wordsOf (g .size) X)) (cuthillResult g (firstOf (g .size) from (wordsOf (g .size) X)))
-  result = cuthill-result G (z-node G few X P)
+  pub result : Sound g (firstOf (g .size) from (wordsOf (g .size) X)) (cuthillResult g (firstOf (g .size) from (wordsOf (g .size) X)))
+  result = cuthill-sound G .sound _ (z-node G few X P)
 
   first-is : getD W₁ (4 * n + from) 0 ≡ z
   first-is = stored-first G few X P lv (result .structure .size) w₁
@@ -54,5 +54,5 @@ module _ {g : Graph} (G : LegalGraph g) (few : g .size ≤ 4096) {from to : ℕ}
   pub order-there : {W₂ : List ℕ} → W₂ ≡ sets W₁ n (cuthillResult g (getD W₁ (4 * n + from) 0) .order) → W₂ ≡ sets (sets X n (cuthillResult g z .order)) (5 * n) lv
   order-there w₂ =
       let o : List ℕ = cuthillResult g z .order in
-      let s : length o ≡ m = perm-length (result .order) ∙ part-size G few X P in
+      let s : length o ≡ m = perm-length (result .perm) ∙ part-size G few X P in
       w₂ ∙ ap₂ (λ (l : List ℕ) (x : ℕ). sets l n (cuthillResult g x .order)) w₁ first-is ∙ stored-swap lv X n o (5 * n) (omega (arith, P .most))

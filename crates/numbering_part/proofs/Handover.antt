@@ -17,6 +17,7 @@ use Rattle.basis.proofs.Next.{sets-before, sets-behind, sets-at}
 use Rattle.spec.specs.Graph.{Graph, nodes, ofNode}
 use Rattle.spec.specs.Levels.{part}
 use Rattle.spec.specs.Numbering.{PartResult}
+use Rattle.laws.specs.Results.{Sound}
 use Rattle.laws.specs.Legal.{Node, LegalGraph}
 use Rattle.laws.proofs.Legal.{length-nodes, ofNode-at, ofNode-map, by-node}
 use Rattle.laws.proofs.Levels.{part-node}
@@ -31,7 +32,6 @@ use Rattle.levels_laws.proofs.Storing.{length-stored, stored-at, stored-other}
 use Rattle.levels_laws.proofs.Stores.{length-written, written-at}
 use Rattle.levels.specs.Part.{PartGiven}
 use Rattle.numbering_part.specs.Part.{orderAt, numberFrom, numbered, renewed, Numberable}
-use Rattle.numbering_part.proofs.Result.{ResultOf}
 use Rattle.numbering_part.proofs.Given.{room, z-node, m-part, m-range, part-size, same-members, members-at, front, sixth}
 
 -- a word of a list by node is its entry one place before the number
@@ -49,7 +49,7 @@ window a k U X r l h =
 
 module _ {g : Graph} (G : LegalGraph g) (few : g .size ≤ 4096) {from to : ℕ} (X : List ℕ)
     (P : PartGiven g from to (wordsOf (g .size) X) (slice (5 * g .size) (6 * g .size) X))
-    {found : PartResult} (R : ResultOf g (firstOf (g .size) from (wordsOf (g .size) X)) found)
+    {found : PartResult} (R : Sound g (firstOf (g .size) from (wordsOf (g .size) X)) found)
     {W₂ : List ℕ} (w₂ : W₂ ≡ sets (sets X (g .size) (found .order)) (5 * g .size) (found .levels)) where
   abbrev n : ℕ
   n = g .size
@@ -79,10 +79,10 @@ module _ {g : Graph} (G : LegalGraph g) (few : g .size ≤ 4096) {from to : ℕ}
   lv-size = R .structure .size
 
   o-size : length o ≡ m
-  o-size = perm-length (R .order) ∙ part-size G few X P
+  o-size = perm-length (R .perm) ∙ part-size G few X P
 
   o-part : (q : ℕ) → memb q o ≡ memb q (part g z)
-  o-part q = perm-memb (R .order) q
+  o-part q = perm-memb (R .perm) q
 
   two-order : orderAt n m W₂ ≡ o
   two-order =
@@ -119,7 +119,7 @@ module _ {g : Graph} (G : LegalGraph g) (few : g .size ≤ 4096) {from to : ℕ}
     words = omega (arith, two-size, fits, m-most);
     room = r;
     free = omega (arith, P .most, P .order);
-    once = subst Once (sym two-order) (λ x. omega (arith, R .order .alike x, part-once g z x));
+    once = subst Once (sym two-order) (λ x. omega (arith, R .perm .alike x, part-once g z x));
     inside = λ q i. let N = part-node G (z-node G few X P) q (sym (o-part q) ∙ sym (ap (memb q) two-order) ∙ i) in (N .low, N .high);
   }
 

@@ -1,6 +1,5 @@
 pub mod Numbers
 pub mod Levels
-pub mod Result
 pub mod Given
 pub mod Handover
 pub mod Steps

@@ -16,6 +16,7 @@ use Rattle.spec.specs.Combined.{countAt}
 use Rattle.spec.specs.Graph.{Graph, nodes, ofNode}
 use Rattle.spec.specs.Levels.{part}
 use Rattle.spec.specs.Numbering.{PartResult}
+use Rattle.laws.specs.Results.{Sound}
 use Rattle.laws.specs.Legal.{Node, LegalGraph}
 use Rattle.laws.specs.Structure.{LevelStructure}
 use Rattle.laws.proofs.Combined.{width-met}
@@ -23,7 +24,6 @@ use Rattle.laws.proofs.Legal.{length-nodes, ofNode-map, by-node}
 use Rattle.laws.proofs.Levels.{part-self}
 use Rattle.levels_search.proofs.Tallies.{ofNode-set}
 use Rattle.numbering_part.specs.Part.{numberFrom, renewed, newNumbers, newLevels, partFiguresOf}
-use Rattle.numbering_part.proofs.Result.{ResultOf}
 
 -- a list of one that holds z
 alone : (z : ℕ) (l : List ℕ) → length l ≡ 1 → memb z l ≡ true → l ≡ z ∷ []
@@ -31,7 +31,7 @@ alone z [] e m = absurd (omega arith)
 alone z (x ∷ []) e m = ap (λ (y : ℕ). y ∷ []) (sym (eqb-true z x (sym (memb-one z x) ∙ m)))
 alone z (x ∷ y ∷ l) e m = absurd (omega arith)
 
-module _ {g : Graph} (G : LegalGraph g) {z : ℕ} (Z : Node g z) {found : PartResult} (R : ResultOf g z found) (one : length (part g z) ≡ 1) where
+module _ {g : Graph} (G : LegalGraph g) {z : ℕ} (Z : Node g z) {found : PartResult} (R : Sound g z found) (one : length (part g z) ≡ 1) where
   part-is : part g z ≡ z ∷ []
   part-is = alone z (part g z) one (part-self G Z)
 
@@ -105,7 +105,7 @@ module _ {g : Graph} (G : LegalGraph g) {z : ℕ} (Z : Node g z) {found : PartRe
       miss q t = rw (member q, t)
 
   order-is : found .order ≡ z ∷ []
-  order-is = alone z (found .order) (perm-length (R .order) ∙ one) (perm-memb (R .order) z ∙ part-self G Z)
+  order-is = alone z (found .order) (perm-length (R .perm) ∙ one) (perm-memb (R .perm) z ∙ part-self G Z)
 
   pub numbers-one : (a : ℕ) (X : List ℕ) → length X ≡ g .size → set X (z - 1) (a + 1) ≡ newNumbers g z found a X
   numbers-one a X l = put-one (numberFrom a (found .order)) X (a + 1) l (ap (λ (o : List ℕ). numberFrom a o z) order-is ∙ rw (eqb-self z))

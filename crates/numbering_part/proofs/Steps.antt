@@ -12,6 +12,7 @@ use Rattle.spec.specs.Ends.{Ends, ends}
 use Rattle.spec.specs.Graph.{Graph}
 use Rattle.spec.specs.Levels.{part}
 use Rattle.spec.specs.Numbering.{partResultBy, partResult}
+use Rattle.laws.specs.Results.{Sound}
 use Rattle.laws.specs.Legal.{Node, LegalGraph}
 use Rattle.laws.proofs.Combined.{combined-levels}
 use Rattle.laws.proofs.Ends.{ends-of}
@@ -25,7 +26,7 @@ use Rattle.levels.specs.declared.shape.PartLevels.{PartLevels}
 use Rattle.numbering_sequence.specs.Answer.{Sequenceable}
 use Rattle.numbering_part.specs.Part.{partFiguresOf}
 use Rattle.numbering_sequence.proofs.Stored.{stored-swap, stored-again}
-use Rattle.numbering_part.proofs.Result.{ResultOf, part-result}
+use Rattle.laws.proofs.Whole.{part-sound}
 use Rattle.numbering_part.proofs.Given.{room, z-node, part-size, stored-first, stored-areas, stored-part, stored-levels}
 
 module _ {g : Graph} (G : LegalGraph g) (few : g .size ≤ 4096) {from to : ℕ} (X : List ℕ)
@@ -85,10 +86,10 @@ module _ {g : Graph} (G : LegalGraph g) (few : g .size ≤ 4096) {from to : ℕ}
     pub sequence-done : {W₂ : List ℕ} → W₂ ≡ sets (sets W₁ n (partResult g (getD W₁ (4 * n + from) 0) .order)) (5 * n) (partResult g (getD W₁ (4 * n + from) 0) .levels)
         → W₂ ≡ sets (sets X n (partResult g z .order)) (5 * n) (partResult g z .levels)
     sequence-done w₂ =
-        let R : ResultOf g z (partResult g z) = part-result G Z in
+        let R : Sound g z (partResult g z) = part-sound G .sound z Z in
         let o : List ℕ = partResult g z .order in
         let lv : List ℕ = partResult g z .levels in
-        let s : length o ≡ m = perm-length (R .order) ∙ part-size G few X P in
+        let s : length o ≡ m = perm-length (R .perm) ∙ part-size G few X P in
         w₂ ∙ ap₂ (λ (l : List ℕ) (x : ℕ). sets (sets l n (partResult g x .order)) (5 * n) (partResult g x .levels)) one-is first-is
         ∙ ap (λ (l : List ℕ). sets l (5 * n) lv) (stored-swap C X n o (5 * n) (omega (arith, P .most)))
         ∙ stored-again (sets X n o) (5 * n) C lv (C-size ∙ sym (R .structure .size)) (omega (arith, R .structure .size, length-sets X n o, room G few X P))

@@ -12,7 +12,7 @@ use Rattle.levels_laws.specs.Areas.{wordsOf}
 use Rattle.levels.specs.Part.{PartGiven}
 use Rattle.numbering_part.proofs.Given.{z-node}
 use Rattle.numbering_part.proofs.Handover.{number-ok, numbers-done, give-ok, scratch-done, levels-done}
-use Rattle.numbering_part.proofs.Result.{part-result}
+use Rattle.laws.proofs.Whole.{part-sound}
 use Rattle.numbering_part.proofs.Steps.{sequence-ok, sequence-done, figures-done}
 use Rattle.numbering_part.proofs.legal.number_part.Statement.{statement}
 use Rattle.numbering_part.proofs.legal.number_part.Tie as tie
@@ -74,7 +74,7 @@ give-numbers-requires c κs =
     let s = start f in
     let X = now (s .args .scratch) in
     let w = sequence-done (graph s) (few s) X (given s) (f .combine-part .ensures .1) (o .sequence .ensures .1) in
-    number-ok (graph s) (few s) X (given s) (part-result (graph s) (z-node (graph s) (few s) X (given s))) w (s .pre .1 .1 .0)
+    number-ok (graph s) (few s) X (given s) (part-sound (graph s) .sound _ (z-node (graph s) (few s) X (given s))) w (s .pre .1 .1 .0)
 
 give-levels-requires : tie.Need-give-levels-requires
 give-levels-requires c κs =
@@ -84,7 +84,7 @@ give-levels-requires c κs =
     let s = start f in
     let X = now (s .args .scratch) in
     let w = sequence-done (graph s) (few s) X (given s) (f .combine-part .ensures .1) (o .sequence .ensures .1) in
-    let k = give-ok (graph s) (few s) X (given s) (part-result (graph s) (z-node (graph s) (few s) X (given s))) w (p .give-numbers .ensures .0) in
+    let k = give-ok (graph s) (few s) X (given s) (part-sound (graph s) .sound _ (z-node (graph s) (few s) X (given s))) w (p .give-numbers .ensures .0) in
     (k .0, (k .1, s .pre .1 .1 .1))
 
 same-length : tie.Need-same-length
@@ -104,7 +104,7 @@ returns c =
     let f = levelled o in
     let s = start f in
     let X = now (s .args .scratch) in
-    let R = part-result (graph s) (z-node (graph s) (few s) X (given s)) in
+    let R = part-sound (graph s) .sound _ (z-node (graph s) (few s) X (given s)) in
     let w = sequence-done (graph s) (few s) X (given s) (f .combine-part .ensures .1) (o .sequence .ensures .1) in
     let a = p .give-numbers .ensures in
     let b = q .give-levels .ensures in (
