@@ -1,4 +1,4 @@
--- The tests of the whole run in turn, and what a refused and an accepted run answers and leaves. Assumes nothing.
+-- The tests of a numbering call in turn, and what one that refuses and one that accepts answers and leaves, in either order. Assumes nothing.
 use mathlib.Core.Path.{_≡_, sym, ap, _∙_}
 use mathlib.Core.Bool.{Bool, true, false, _||_}
 use mathlib.Core.List.{List, _++_}
@@ -9,20 +9,23 @@ use lib.Seq.{take-at}
 use lib.Dec.{ltb}
 use borrow.Author.Tests.{lt-ltb, le-ltb, ltb-false}
 use Rattle.basis.proofs.Logic.{or-none}
-use Rattle.spec.specs.CallsNumbering.{runRefusal, runAnswer, runNumbers, runLevels, runPasses, runScratch}
-use Rattle.spec.specs.Claim.{Numbered}
+use Rattle.spec.specs.CallsNumbering.{runRefusal, runScratch}
 use Rattle.spec.specs.Graph.{graphOf, sizeOf}
-use Rattle.spec.specs.Lent.{Outcome, accepted, refused, zeroed, wordsPerNode}
-use Rattle.spec.specs.Numbering.{Figures, run}
+use Rattle.spec.specs.Lent.{Outcome, accepted, refused, filled, zeroed, wordsPerNode}
+use Rattle.spec.specs.Numbering.{Run, Figures}
 use Rattle.spec.specs.Refusal.{refuse}
-use Rattle.laws.proofs.Claim.{run-numbered}
+use Rattle.laws.specs.Results.{AllSound}
+use Rattle.laws.proofs.Claim.{sound-numbered}
 use Rattle.laws.proofs.Lent.{answer-refused, filled-refused, answer-accepted, filled-accepted, scratch-refused, scratch-accepted}
 use Rattle.laws.proofs.Numberings.{numbering-length}
 use Rattle.laws.proofs.Passes.{passes-length}
-use Rattle.laws.proofs.RunLevels.{levels-length}
-use Rattle.laws.proofs.Whole.{run-numbering}
+use Rattle.laws.proofs.ResultLevels.{all-length}
+use Rattle.laws.proofs.Results.{all-numbering}
 use Rattle.graph.specs.Facts.{LegalLists, RefusedLists}
 use Rattle.graph.proofs.Answers.{refused-first, legal-next}
+use Rattle.numbering.specs.Orders.{resultOf, wholeIn, answerIn, numbersIn, levelsIn, passesIn, NumberedIn}
+use Rattle.numbering.specs.declared.order.Order.{Order}
+use Rattle.numbering.proofs.Orders.{sound-in}
 
 -- ---- a short buffer
 
@@ -47,19 +50,22 @@ module _ (n a b c d : ℕ) where
       let w = or-none (ltb a n) (ltb b n) (v .0) in
       (ltb-false a n (w .0), ltb-false b n (w .1), ltb-false c n (v .1), ltb-false d (wordsPerNode * n) (u .1))
 
-module _ (S N X L P W : List ℕ) where
+module _ (order : Order) (S N X L P W : List ℕ) where
+  abbrev whole : Run
+  whole = wholeIn order (graphOf S N)
+
   -- ---- refused: everything lent is untouched
 
   pub record RunRefused (c : ℕ) : Type 0 where
-    pub answer : refused c ≡ runAnswer S N X L P W
-    pub numbers : X ≡ runNumbers S N X L P W
-    pub levels : L ≡ runLevels S N X L P W
-    pub passes : P ≡ runPasses S N X L P W
+    pub answer : refused c ≡ answerIn order S N X L P W
+    pub numbers : X ≡ numbersIn order S N X L P W
+    pub levels : L ≡ levelsIn order S N X L P W
+    pub passes : P ≡ passesIn order S N X L P W
     pub scratch : W ≡ runScratch S N X L P W
-    pub none : (F : Figures) → _≡_ {A = Outcome Figures} (refused c) (accepted F) → Numbered S N F (take (sizeOf S) X) (take (sizeOf S) L)
+    pub none : (F : Figures) → _≡_ {A = Outcome Figures} (refused c) (accepted F) → NumberedIn order S N F (take (sizeOf S) X) (take (sizeOf S) L)
 
   refusal : (c : ℕ) → runRefusal S N X L P W ≡ c → 1 ≤ c → RunRefused c
-  unfolding runAnswer runNumbers runLevels runPasses runScratch
+  unfolding runScratch
   refusal c e l =
       let r : ℕ = runRefusal S N X L P W in
       record {
@@ -87,50 +93,50 @@ module _ (S N X L P W : List ℕ) where
 
     -- ---- accepted
 
+    sound : AllSound (graphOf S N) (resultOf order (graphOf S N))
+    sound = sound-in order (G .graph)
+
+    numbers-size : length (wholeIn order (graphOf S N) .numbers) ≡ sizeOf S
+    numbers-size = numbering-length (sizeOf S) (whole .numbers) (all-numbering (G .graph) (resultOf order (graphOf S N)) sound)
+
+    levels-size : length (wholeIn order (graphOf S N) .levels) ≡ sizeOf S
+    levels-size = all-length (G .graph) (resultOf order (graphOf S N)) sound
+
     module _ (long : ltb (length X) (sizeOf S) || ltb (length L) (sizeOf S) || ltb (length P) (sizeOf S) || ltb (length W) (wordsPerNode * sizeOf S) ≡ false) where
       none : runRefusal S N X L P W ≡ 0
       none = tests long
 
-      pub run-answer : accepted (run (graphOf S N) .figures) ≡ runAnswer S N X L P W
-      unfolding runAnswer
-      run-answer = answer-accepted (runRefusal S N X L P W) _ none
+      pub answered : accepted (wholeIn order (graphOf S N) .figures) ≡ answerIn order S N X L P W
+      answered = answer-accepted (runRefusal S N X L P W) _ none
 
-      pub numbers-back : {Y : List ℕ} → Y ≡ run (graphOf S N) .numbers → Y ++ drop (sizeOf S) X ≡ runNumbers S N X L P W
-      unfolding runNumbers
-      numbers-back y =
-          ap (λ (l : List ℕ). l ++ drop (sizeOf S) X) y
-          ∙ filled-accepted (runRefusal S N X L P W) (sizeOf S) (run (graphOf S N) .numbers) X none (numbering-length (sizeOf S) (run (graphOf S N) .numbers) (run-numbering (G .graph)))
+      -- a list comes back with its new front
+      back : (new old : List ℕ) {Y : List ℕ} → Y ≡ new → length new ≡ sizeOf S → Y ++ drop (sizeOf S) old ≡ filled (runRefusal S N X L P W) new old
+      back new old y l = ap (λ (f : List ℕ). f ++ drop (sizeOf S) old) y ∙ filled-accepted (runRefusal S N X L P W) (sizeOf S) new old none l
 
-      pub levels-back : {Y : List ℕ} → Y ≡ run (graphOf S N) .levels → Y ++ drop (sizeOf S) L ≡ runLevels S N X L P W
-      unfolding runLevels
-      levels-back y =
-          ap (λ (l : List ℕ). l ++ drop (sizeOf S) L) y
-          ∙ filled-accepted (runRefusal S N X L P W) (sizeOf S) (run (graphOf S N) .levels) L none (levels-length (G .graph))
+      pub numbers-back : {Y : List ℕ} → Y ≡ wholeIn order (graphOf S N) .numbers → Y ++ drop (sizeOf S) X ≡ numbersIn order S N X L P W
+      numbers-back y = back (whole .numbers) X y numbers-size
 
-      pub passes-back : {Y : List ℕ} → Y ≡ run (graphOf S N) .passes → Y ++ drop (sizeOf S) P ≡ runPasses S N X L P W
-      unfolding runPasses
-      passes-back y =
-          ap (λ (l : List ℕ). l ++ drop (sizeOf S) P) y
-          ∙ filled-accepted (runRefusal S N X L P W) (sizeOf S) (run (graphOf S N) .passes) P none (passes-length (graphOf S N))
+      pub levels-back : {Y : List ℕ} → Y ≡ wholeIn order (graphOf S N) .levels → Y ++ drop (sizeOf S) L ≡ levelsIn order S N X L P W
+      levels-back y = back (whole .levels) L y levels-size
+
+      pub passes-back : {Y : List ℕ} → Y ≡ wholeIn order (graphOf S N) .passes → Y ++ drop (sizeOf S) P ≡ passesIn order S N X L P W
+      passes-back y = back (whole .passes) P y (passes-length (graphOf S N) (resultOf order (graphOf S N)))
 
       pub scratch-back : {Z : List ℕ} → Z ≡ zeroed (wordsPerNode * sizeOf S) W → Z ≡ runScratch S N X L P W
       unfolding runScratch
       scratch-back z = z ∙ scratch-accepted (runRefusal S N X L P W) S W none
 
--- ---- what a library above rests on
+    -- ---- what a library above rests on
 
--- the first n words of the two lists that it leaves are as the run's own numbers and levels
-pub left-numbered : {S N Y M : List ℕ} (X L : List ℕ) → LegalLists S N → Y ≡ run (graphOf S N) .numbers → M ≡ run (graphOf S N) .levels
-    → (F F′ : Figures) → F′ ≡ run (graphOf S N) .figures → _≡_ {A = Outcome Figures} (accepted F′) (accepted F)
-    → Numbered S N F (take (sizeOf S) (Y ++ drop (sizeOf S) X)) (take (sizeOf S) (M ++ drop (sizeOf S) L))
-left-numbered {S} {N} {Y} {M} X L A y l F F′ f e =
-    let G = A .graph in
-    let f′ : F ≡ run (graphOf S N) .figures = sym (taken F′ F e) ∙ f in
-    let y′ : take (sizeOf S) (Y ++ drop (sizeOf S) X) ≡ run (graphOf S N) .numbers =
-    take-at Y (drop (sizeOf S) X) (sizeOf S) (ap length y ∙ numbering-length (sizeOf S) (run (graphOf S N) .numbers) (run-numbering G)) ∙ y in
-    let l′ : take (sizeOf S) (M ++ drop (sizeOf S) L) ≡ run (graphOf S N) .levels =
-    take-at M (drop (sizeOf S) L) (sizeOf S) (ap length l ∙ levels-length G) ∙ l in
-    rw (f′, y′, l′) (run-numbered S N (A .refusal))
-  where
-    taken : (a b : Figures) → _≡_ {A = Outcome Figures} (accepted a) (accepted b) → a ≡ b
-    taken a b e = cc
+    -- the first n words of the two lists that it leaves are as the numbering's own numbers and levels
+    pub left-numbered : {Y M : List ℕ} → Y ≡ wholeIn order (graphOf S N) .numbers → M ≡ wholeIn order (graphOf S N) .levels
+        → (F F′ : Figures) → F′ ≡ wholeIn order (graphOf S N) .figures → _≡_ {A = Outcome Figures} (accepted F′) (accepted F)
+        → NumberedIn order S N F (take (sizeOf S) (Y ++ drop (sizeOf S) X)) (take (sizeOf S) (M ++ drop (sizeOf S) L))
+    left-numbered {Y} {M} y l F F′ f e =
+        let f′ : F ≡ whole .figures = sym (taken F′ F e) ∙ f in
+        let y′ : take (sizeOf S) (Y ++ drop (sizeOf S) X) ≡ whole .numbers = take-at Y (drop (sizeOf S) X) (sizeOf S) (ap length y ∙ numbers-size) ∙ y in
+        let l′ : take (sizeOf S) (M ++ drop (sizeOf S) L) ≡ whole .levels = take-at M (drop (sizeOf S) L) (sizeOf S) (ap length l ∙ levels-size) ∙ l in
+        rw (f′, y′, l′) (sound-numbered S N (G .refusal) (resultOf order (graphOf S N)) sound)
+      where
+        taken : (a b : Figures) → _≡_ {A = Outcome Figures} (accepted a) (accepted b) → a ≡ b
+        taken a b e = cc

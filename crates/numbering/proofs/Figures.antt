@@ -1,4 +1,4 @@
--- The scratch of the whole run from its clearing to its clearing, and the seven figures. Assumes nothing.
+-- The scratch of a numbering from its clearing to its clearing, and the seven figures. Assumes nothing.
 use mathlib.Core.Path.{_≡_, sym, ap, _∙_}
 use mathlib.Core.Bool.{true}
 use mathlib.Core.List.{List, _++_}
@@ -14,15 +14,20 @@ use Rattle.spec.specs.Graph.{graphOf, sizeOf, graphRefusal}
 use Rattle.spec.specs.Lent.{zeroed, wordsPerNode}
 use Rattle.spec.specs.Levels.{parts}
 use Rattle.spec.specs.Measures.{isNumbering, renumbered, bandwidth, profile, front}
-use Rattle.spec.specs.Numbering.{Figures, run}
+use Rattle.spec.specs.Numbering.{PartResult, Figures}
+use Rattle.laws.specs.Legal.{LegalGraph}
+use Rattle.laws.specs.Results.{AllSound}
 use Rattle.laws.proofs.Lent.{zeroed-behind}
-use Rattle.laws.proofs.Whole.{run-numbering, run-measured-bandwidth, run-measured-profile, run-measured-front}
+use Rattle.laws.proofs.Results.{all-numbering, all-bandwidth-is, all-profile-is, all-front-is}
 use Rattle.graph.specs.Facts.{LegalLists}
 use Rattle.levels.proofs.Scratch.{zero-front, behind-front, zeroed-again}
 use Rattle.levels_laws.proofs.Clearing.{zeroed-length}
 use Rattle.numbering_measures.specs.Answer.{three}
 use Rattle.numbering_measures.specs.declared.answer.Measures.{Measures}
+use Rattle.numbering.specs.Orders.{resultOf, wholeIn}
 use Rattle.numbering.specs.Ran.{Summed}
+use Rattle.numbering.specs.declared.order.Order.{Order}
+use Rattle.numbering.proofs.Orders.{sound-in}
 use Rattle.numbering.proofs.Ran.{graph, starts, areas, areas-size, areas-front}
 
 -- ---- the scratch after the last part: n words are lent to the measures, come back as zeros, and all is cleared
@@ -35,7 +40,7 @@ module _ (n : ℕ) {C : List ℕ} (c : C ≡ replicate n 0) (W : List ℕ) (room
   last-scratch =
       zeroed-again (wordsPerNode * n) (C ++ drop n W) W (behind-front n (wordsPerNode * n) C W (ap length c ∙ length-replicate n 0) (omega arith))
 
--- so the run leaves its scratch
+-- so the scratch is left
 pub cleared-last : (n : ℕ) (W₀ : List ℕ) {W₁ W₂ W₃ : List ℕ} → W₃ ≡ zeroed (wordsPerNode * n) W₂ → W₂ ≡ W₁
     → drop (wordsPerNode * n) W₁ ≡ drop (wordsPerNode * n) W₀ → W₃ ≡ zeroed (wordsPerNode * n) W₀
 cleared-last n W₀ {W₁} {W₂} w₃ w₂ w₁ = w₃ ∙ zeroed-again (wordsPerNode * n) W₂ W₀ (ap (drop (wordsPerNode * n)) w₂ ∙ w₁)
@@ -92,26 +97,35 @@ module _ (S N : List ℕ) (legal : graphRefusal S N ≡ 0) where
 
   -- ---- the figures
 
-  pub numbers-numbering : {X : List ℕ} → X ≡ run (graphOf S N) .numbers → isNumbering (sizeOf S) X ≡ true
-  numbers-numbering x = ap (isNumbering (sizeOf S)) x ∙ run-numbering (graph S N legal)
+  module _ (order : Order) where
+    abbrev results : ℕ → PartResult
+    results = resultOf order (graphOf S N)
 
-  pub seven-are : {X : List ℕ} {m : Measures} {parts nodes levels width : ℕ} → X ≡ run (graphOf S N) .numbers
-      → three m ≡ measureFigures (renumbered (graphOf S N) X) → Summed (run (graphOf S N) .figures) parts nodes levels width
-      → _≡_ {A = Figures} (record { nodes = nodes; parts = parts; bandwidth = m .bandwidth; profile = m .profile; front = m .front; levels = levels; width = width })
-      (run (graphOf S N) .figures)
-  unfolding measureFigures
-  seven-are {X} {m} x e T =
-      let G = graph S N legal in
-      let h = ap (renumbered (graphOf S N)) x in
-      let b = ap (λ (f : MeasureFigures). f .bandwidth) e ∙ ap bandwidth h ∙ sym (run-measured-bandwidth G) in
-      let p = ap (λ (f : MeasureFigures). f .profile) e ∙ ap profile h ∙ sym (run-measured-profile G) in
-      let f = ap (λ (f : MeasureFigures). f .front) e ∙ ap front h ∙ sym (run-measured-front G) in
-      λ i. record {
-        nodes = T .nodes-are i;
-        parts = T .parts-are i;
-        bandwidth = b i;
-        profile = p i;
-        front = f i;
-        levels = T .levels-are i;
-        width = T .width-is i;
-      }
+    G : LegalGraph (graphOf S N)
+    G = graph S N legal
+
+    sound : AllSound (graphOf S N) (resultOf order (graphOf S N))
+    sound = sound-in order G
+
+    pub numbers-numbering : {X : List ℕ} → X ≡ wholeIn order (graphOf S N) .numbers → isNumbering (sizeOf S) X ≡ true
+    numbers-numbering x = ap (isNumbering (sizeOf S)) x ∙ all-numbering G results sound
+
+    pub seven-are : {X : List ℕ} {m : Measures} {parts nodes levels width : ℕ} → X ≡ wholeIn order (graphOf S N) .numbers
+        → three m ≡ measureFigures (renumbered (graphOf S N) X) → Summed (wholeIn order (graphOf S N) .figures) parts nodes levels width
+        → _≡_ {A = Figures} (record { nodes = nodes; parts = parts; bandwidth = m .bandwidth; profile = m .profile; front = m .front; levels = levels; width = width })
+        (wholeIn order (graphOf S N) .figures)
+    unfolding measureFigures
+    seven-are {X} {m} x e T =
+        let h = ap (renumbered (graphOf S N)) x in
+        let b = ap (λ (f : MeasureFigures). f .bandwidth) e ∙ ap bandwidth h ∙ sym (all-bandwidth-is G results sound) in
+        let p = ap (λ (f : MeasureFigures). f .profile) e ∙ ap profile h ∙ sym (all-profile-is G results sound) in
+        let f = ap (λ (f : MeasureFigures). f .front) e ∙ ap front h ∙ sym (all-front-is G results sound) in
+        λ i. record {
+          nodes = T .nodes-are i;
+          parts = T .parts-are i;
+          bandwidth = b i;
+          profile = p i;
+          front = f i;
+          levels = T .levels-are i;
+          width = T .width-is i;
+        }

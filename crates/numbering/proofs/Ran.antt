@@ -1,4 +1,4 @@
--- The run part by part: what holds before the first part, what the next part asks and leaves, and what holds after the last. Assumes nothing.
+-- A numbering part by part, in either order: what holds before the first part, what the next part asks and leaves, and what holds after the last. Assumes nothing.
 use mathlib.Core.Path.{_≡_, refl, sym, ap, _∙_, subst}
 use mathlib.Core.Bool.{Bool, true, false, cond}
 use mathlib.Core.List.{List, _∷_, _++_, map, append-assoc}
@@ -16,14 +16,15 @@ use Rattle.basis.proofs.Sort.{chain-drop}
 use Rattle.spec.specs.Graph.{Graph, graphOf, sizeOf, graphRefusal, nodes, ofNode}
 use Rattle.spec.specs.Levels.{part, leads, leaders, parts}
 use Rattle.spec.specs.Measures.{numbersOf}
-use Rattle.spec.specs.Numbering.{PartResult, partResult, partResults, wholeOrder, wholeLevels, partPasses, figuresOf, runOf, run}
+use Rattle.spec.specs.Numbering.{PartResult, wholeOrder, wholeLevels, partPasses, figuresOf, runOf}
 use Rattle.laws.specs.Legal.{Node, LegalGraph, Starts}
+use Rattle.laws.specs.Results.{AllSound}
 use Rattle.laws.proofs.Legal.{ofNode-at, ofNode-zeros, ofNode-map, by-node, length-nodes}
 use Rattle.laws.proofs.Levels.{part-self}
 use Rattle.laws.proofs.Parts.{leaders-in, leaders-rise, parts-apart}
 use Rattle.laws.proofs.Numberings.{number-of, numbers-length, order-memb}
 use Rattle.laws.proofs.Refused.{passed, starts-of, not-refused}
-use Rattle.laws.proofs.Whole.{whole-perm}
+use Rattle.laws.proofs.Results.{all-perm}
 use Rattle.levels_laws.specs.Areas.{wordsOf}
 use Rattle.levels_laws.specs.Given.{firstOf}
 use Rattle.levels_laws.specs.Starts.{membersOf}
@@ -33,11 +34,15 @@ use Rattle.numbering_parts.specs.Found.{Sized}
 use Rattle.numbering_parts.specs.Walked.{Walked, leaderAt}
 use Rattle.numbering_parts.proofs.Leads.{parts-length}
 use Rattle.numbering_parts.proofs.Walk.{walk-begin, walk-end, walk-next, next-leads, next-node, next-some, next-fits, scratch-first, scratch-part}
-use Rattle.numbering_part.specs.Part.{numberFrom, renewed, partFiguresOf}
+use Rattle.numbering_part.specs.Part.{numberFrom, renewed, lowestIn, newNumbers, newLevels, partFiguresOf}
 use Rattle.numbering_part.specs.declared.shape.PartFigures.{PartFigures}
+use Rattle.numbering_part.proofs.Result.{ResultOf}
 use Rattle.numbering_part.proofs.Single.{figures-one, numbers-one, levels-one}
-use Rattle.numbering.specs.Ran.{foundTo, added, Ran, Summed}
+use Rattle.numbering.specs.Orders.{resultOf, wholeIn}
+use Rattle.numbering.specs.Ran.{soFar, added, Ran, Summed}
 use Rattle.numbering.specs.declared.legal.Tally.{Tally}
+use Rattle.numbering.specs.declared.order.Order.{Order}
+use Rattle.numbering.proofs.Orders.{sound-in, result-in}
 use Rattle.numbering.proofs.Found.{parts-most, sum-next, greatest-next, depth-few, passes-size, passes-next, numbers-next, levels-next, found-all, found-count}
 
 module _ (S N : List ℕ) (legal : graphRefusal S N ≡ 0) where
@@ -65,11 +70,11 @@ module _ (S N : List ℕ) (legal : graphRefusal S N ≡ 0) where
 
 -- ---- before the first part
 
-pub ran-begin : {S N X L P W : List ℕ} (E : List ℕ) → graphRefusal S N ≡ 0 → Sized (graphOf S N) (sizeOf S) X → L ≡ replicate (sizeOf S) 0 → P ≡ replicate (sizeOf S) 0
+pub ran-begin : {order : Order} {S N X L P W : List ℕ} (E : List ℕ) → graphRefusal S N ≡ 0 → Sized (graphOf S N) (sizeOf S) X → L ≡ replicate (sizeOf S) 0 → P ≡ replicate (sizeOf S) 0
     → W ≡ replicate (4 * sizeOf S) 0 ++ (joinAll (parts (graphOf S N)) ++ E) → 6 * sizeOf S ≤ length W
-    → slice (5 * sizeOf S) (6 * sizeOf S) W ≡ replicate (sizeOf S) 0 → Ran S N 0 0 0 0 X L P W
+    → slice (5 * sizeOf S) (6 * sizeOf S) W ≡ replicate (sizeOf S) 0 → Ran order S N 0 0 0 0 X L P W
 unfolding wholeOrder wholeLevels partPasses leaders
-ran-begin {S} {N} {X} {L} {P} {W} E legal x l p w full blank =
+ran-begin {order} {S} {N} {X} {L} {P} {W} E legal x l p w full blank =
     let g : Graph = graphOf S N in
     record {
       legal = legal;
@@ -92,32 +97,39 @@ ran-begin {S} {N} {X} {L} {P} {W} E legal x l p w full blank =
     }
 
 -- a level for each node
-pub levels-size : {S N : List ℕ} {j a k w : ℕ} {X L P W : List ℕ} → Ran S N j a k w X L P W → length L ≡ sizeOf S
+pub levels-size : {order : Order} {S N : List ℕ} {j a k w : ℕ} {X L P W : List ℕ} → Ran order S N j a k w X L P W → length L ≡ sizeOf S
 unfolding wholeLevels
-levels-size {S} {N} {j} R =
-    ap length (R .levels) ∙ length-map (nodes (graphOf S N)) (λ z. greatest (map (λ r. ofNode (r .levels) z) (foundTo (graphOf S N) j)))
+levels-size {order} {S} {N} {j} R =
+    ap length (R .levels) ∙ length-map (nodes (graphOf S N)) (λ z. greatest (map (λ r. ofNode (r .levels) z) (soFar order S N j)))
     ∙ length-nodes (graphOf S N)
 
 -- a word for each part that there may be
-pub passes-words : {S N : List ℕ} {j a k w : ℕ} {X L P W : List ℕ} → Ran S N j a k w X L P W → length P ≡ sizeOf S
-passes-words {S} {N} {j} R = ap length (R .passes) ∙ passes-size (graphOf S N) j (R .walked .some)
+pub passes-words : {order : Order} {S N : List ℕ} {j a k w : ℕ} {X L P W : List ℕ} → Ran order S N j a k w X L P W → length P ≡ sizeOf S
+passes-words {order} {S} {N} {j} R = ap length (R .passes) ∙ passes-size (graphOf S N) (resultOf order (graphOf S N)) j (R .walked .some)
 
 -- ---- the next part
 
 -- the same, where the count of nodes is given in another way
-pub ran-at : {S N : List ℕ} {j a b k w : ℕ} {X L P W : List ℕ} → b ≡ a → Ran S N j a k w X L P W → Ran S N j b k w X L P W
-ran-at {S} {N} {j} {a} {b} {k} {w} {X} {L} {P} {W} e R = subst (λ (x : ℕ). Ran S N j x k w X L P W) (sym e) R
+pub ran-at : {order : Order} {S N : List ℕ} {j a b k w : ℕ} {X L P W : List ℕ} → b ≡ a → Ran order S N j a k w X L P W → Ran order S N j b k w X L P W
+ran-at {order} {S} {N} {j} {a} {b} {k} {w} {X} {L} {P} {W} e R = subst (λ (x : ℕ). Ran order S N j x k w X L P W) (sym e) R
 
 -- and the same words
-pub ran-words : {S N : List ℕ} {j a k w : ℕ} {X L P U W : List ℕ} → U ≡ W → Ran S N j a k w X L P W → Ran S N j a k w X L P U
-ran-words {S} {N} {j} {a} {k} {w} {X} {L} {P} e R = subst (Ran S N j a k w X L P) (sym e) R
+pub ran-words : {order : Order} {S N : List ℕ} {j a k w : ℕ} {X L P U W : List ℕ} → U ≡ W → Ran order S N j a k w X L P W → Ran order S N j a k w X L P U
+ran-words {order} {S} {N} {j} {a} {k} {w} {X} {L} {P} e R = subst (Ran order S N j a k w X L P) (sym e) R
 
-module _ {S N : List ℕ} {j a k w : ℕ} {X L P W : List ℕ} (R : Ran S N j a k w X L P W) (h : j < length (parts (graphOf S N))) where
+module _ {order : Order} {S N : List ℕ} {j a k w : ℕ} {X L P W : List ℕ} (R : Ran order S N j a k w X L P W) (h : j < length (parts (graphOf S N))) where
   abbrev n : ℕ
   n = sizeOf S
 
   abbrev z : ℕ
   z = leaderAt (graphOf S N) j
+
+  abbrev g : Graph
+  g = graphOf S N
+
+  -- what is found of a part
+  abbrev results : ℕ → PartResult
+  results = resultOf order (graphOf S N)
 
   abbrev zeros : List ℕ
   zeros = replicate (4 * sizeOf S) 0
@@ -127,6 +139,9 @@ module _ {S N : List ℕ} {j a k w : ℕ} {X L P W : List ℕ} (R : Ran S N j a 
 
   G : LegalGraph (graphOf S N)
   G = graph S N (R .legal)
+
+  sound : AllSound (graphOf S N) (resultOf order (graphOf S N))
+  sound = sound-in order G
 
   Z : Node (graphOf S N) z
   Z = next-node G (R .walked) h
@@ -236,35 +251,34 @@ module _ {S N : List ℕ} {j a k w : ℕ} {X L P W : List ℕ} (R : Ran S N j a 
       ((omega (arith, l, parts-most (graphOf S N), h), omega (arith, l, few), omega (arith, fits, few)), omega (arith, R .few-levels, parts-few))
 
   -- with the figures, numbers and levels that the definition gives it
-  module _ {f : PartFigures} (f-is : f ≡ partFiguresOf (partResult (graphOf S N) z .report)) where
-    k-is : f .k ≡ partResult (graphOf S N) z .report .k
+  module _ {f : PartFigures} (f-is : f ≡ partFiguresOf (resultOf order (graphOf S N) z .report)) where
+    k-is : f .k ≡ results z .report .k
     k-is = ap (λ (x : PartFigures). x .k) f-is
 
     pub k-few : f .k ≤ 4096
-    k-few = omega (arith, k-is, depth-few G (R .walked) h, few)
+    k-few = omega (arith, k-is, depth-few G results sound (R .walked) h, few)
 
-    pub ran-next : {t : ℕ} {X′ L′ P′ : List ℕ} → t ≡ m → X′ ≡ renewed (graphOf S N) z (numberFrom a (partResult (graphOf S N) z .order)) X
-        → L′ ≡ renewed (graphOf S N) z (ofNode (partResult (graphOf S N) z .levels)) L → P′ ≡ set P j (f .passes)
-        → Ran S N (j + 1) (a + t) (k + f .k) (max w (f .width)) X′ L′ P′ W
+    pub ran-next : {t : ℕ} {X′ L′ P′ : List ℕ} → t ≡ m → X′ ≡ newNumbers (graphOf S N) z (resultOf order (graphOf S N) z) a X
+        → L′ ≡ newLevels (graphOf S N) z (resultOf order (graphOf S N) z) L → P′ ≡ set P j (f .passes)
+        → Ran order S N (j + 1) (a + t) (k + f .k) (max w (f .width)) X′ L′ P′ W
     unfolding renewed
     ran-next {t} t-is x l p =
         record {
           legal = R .legal;
-          walked = subst (λ (y : ℕ). Walked (graphOf S N) (j + 1) (a + y)) (sym t-is) (walk-next G (R .walked) h);
-          room = ap length x ∙ length-map (nodes (graphOf S N)) (λ q. cond (memb q (part (graphOf S N) z)) (numberFrom a (partResult (graphOf S N) z .order) q) (ofNode X q)) ∙ length-nodes (graphOf S N);
-          numbers = λ q A i. ap (λ (y : List ℕ). ofNode y q) x ∙ numbers-next G (R .walked) h X (R .numbers) q A i;
+          walked = subst (λ (y : ℕ). Walked g (j + 1) (a + y)) (sym t-is) (walk-next G (R .walked) h);
+          room = ap length x ∙ length-map (nodes g) (λ q. cond (memb q (part g z)) (numberFrom a (results z .order) q) (ofNode X q)) ∙ length-nodes g;
+          numbers = λ q A i. ap (λ (y : List ℕ). ofNode y q) x ∙ numbers-next G results sound (R .walked) h X (R .numbers) q A i;
           sizes = λ y i.
               ap (λ (l : List ℕ). ofNode l y) x
-              ∙ ofNode-map (graphOf S N) (λ q. cond (memb q (part (graphOf S N) z)) (numberFrom a (partResult (graphOf S N) z .order) q) (ofNode X q)) y
-              (leaders-in (graphOf S N) y (memb-drop y (j + 1) (leaders (graphOf S N)) i) .0)
-              ∙ ap (λ (b : Bool). cond b (numberFrom a (partResult (graphOf S N) z .order) y) (ofNode X y)) (apart y i)
+              ∙ ofNode-map g (λ q. cond (memb q (part g z)) (numberFrom a (results z .order) q) (ofNode X q)) y
+              (leaders-in g y (memb-drop y (j + 1) (leaders g) i) .0)
+              ∙ ap (λ (b : Bool). cond b (numberFrom a (results z .order) y) (ofNode X y)) (apart y i)
               ∙ R .sizes y (ap (memb y) left ∙ or-right (eqb y z) i);
-          levels = l ∙ ap (renewed (graphOf S N) z (ofNode (partResult (graphOf S N) z .levels))) (R .levels) ∙ levels-next G (R .walked) h;
-          depths = omega (arith, R .depths, k-is, sum-next G (R .walked) h (λ r. r .report .k));
-          widest = omega (arith, R .widest, ap (λ (x : PartFigures). x .width) f-is, greatest-next G (R .walked) h (λ r. r .report .width));
-          passes = p ∙ ap (λ (x : PartFigures). set P j (x .passes)) f-is
-              ∙ ap (λ (l : List ℕ). set l j (partResult (graphOf S N) z .report .passes)) (R .passes)
-              ∙ passes-next G (R .walked) h;
+          levels = l ∙ ap (newLevels g z (results z)) (R .levels) ∙ levels-next G results sound (R .walked) h;
+          depths = omega (arith, R .depths, k-is, sum-next G results sound (R .walked) h (λ r. r .report .k));
+          widest = omega (arith, R .widest, ap (λ (x : PartFigures). x .width) f-is, greatest-next G results sound (R .walked) h (λ r. r .report .width));
+          passes = p ∙ ap (λ (x : PartFigures). set P j (x .passes)) f-is ∙ ap (λ (l : List ℕ). set l j (results z .report .passes)) (R .passes)
+              ∙ passes-next G results sound (R .walked) h;
           few-levels = omega (arith, R .few-levels, k-few);
           words = R .words;
           full = R .full;
@@ -273,40 +287,40 @@ module _ {S N : List ℕ} {j a k w : ℕ} {X L P W : List ℕ} (R : Ran S N j a 
 
   -- a part of one node
   module _ (one : 1 ≡ m) where
-    lone-figures : record { k = 1; width = 1; passes = 1 } ≡ partFiguresOf (partResult (graphOf S N) z .report)
-    lone-figures = figures-one G Z (sym one)
+    lone : ResultOf (graphOf S N) z (resultOf order (graphOf S N) z)
+    lone = result-in order G Z
 
     pub ran-lone : {q : ℕ} {X′ L′ P′ : List ℕ} → q ≡ getD W (4 * n + a) 0 → X′ ≡ set X (q - 1) (a + 1) → L′ ≡ set L (q - 1) 1 → P′ ≡ set P j 1
-        → Ran S N (j + 1) (a + 1) (k + 1) (max w 1) X′ L′ P′ W
+        → Ran order S N (j + 1) (a + 1) (k + 1) (max w 1) X′ L′ P′ W
     ran-lone e x l p =
         let s = e ∙ lowest-is in
-        ran-next lone-figures one
-        (x ∙ ap (λ (y : ℕ). set X (y - 1) (a + 1)) s ∙ numbers-one G Z (sym one) a X (R .room))
-        (l ∙ ap (λ (y : ℕ). set L (y - 1) 1) s ∙ levels-one G Z (sym one) L (levels-size R))
+        ran-next (figures-one G Z lone (sym one)) one
+        (x ∙ ap (λ (y : ℕ). set X (y - 1) (a + 1)) s ∙ numbers-one G Z lone (sym one) a X (R .room))
+        (l ∙ ap (λ (y : ℕ). set L (y - 1) 1) s ∙ levels-one G Z lone (sym one) L (levels-size R))
         p
 
   -- any part, named by its first word
-  module _ {f : PartFigures} (f-is : f ≡ partFiguresOf (partResult (graphOf S N) (firstOf (sizeOf S) a (wordsOf (sizeOf S) W)) .report)) where
-    pub part-figures : f ≡ partFiguresOf (partResult (graphOf S N) z .report)
-    part-figures = f-is ∙ ap (λ (x : ℕ). partFiguresOf (partResult (graphOf S N) x .report)) first-word
+  module _ {f : PartFigures} (f-is : f ≡ partFiguresOf (resultOf order (graphOf S N) (lowestIn (sizeOf S) a W) .report)) where
+    pub part-figures : f ≡ partFiguresOf (resultOf order (graphOf S N) z .report)
+    part-figures = f-is ∙ ap (λ (x : ℕ). partFiguresOf (results x .report)) first-word
 
     pub ran-part : {t : ℕ} {X′ L′ P′ : List ℕ} → t ≡ m
-        → X′ ≡ renewed (graphOf S N) (firstOf (sizeOf S) a (wordsOf (sizeOf S) W)) (numberFrom a (partResult (graphOf S N) (firstOf (sizeOf S) a (wordsOf (sizeOf S) W)) .order)) X
-        → L′ ≡ renewed (graphOf S N) (firstOf (sizeOf S) a (wordsOf (sizeOf S) W)) (ofNode (partResult (graphOf S N) (firstOf (sizeOf S) a (wordsOf (sizeOf S) W)) .levels)) L → P′ ≡ set P j (f .passes)
-        → Ran S N (j + 1) (a + t) (k + f .k) (max w (f .width)) X′ L′ P′ W
+        → X′ ≡ newNumbers (graphOf S N) (lowestIn (sizeOf S) a W) (resultOf order (graphOf S N) (lowestIn (sizeOf S) a W)) a X
+        → L′ ≡ newLevels (graphOf S N) (lowestIn (sizeOf S) a W) (resultOf order (graphOf S N) (lowestIn (sizeOf S) a W)) L → P′ ≡ set P j (f .passes)
+        → Ran order S N (j + 1) (a + t) (k + f .k) (max w (f .width)) X′ L′ P′ W
     ran-part t-is x l p =
-        ran-next part-figures t-is (x ∙ ap (λ (y : ℕ). renewed (graphOf S N) y (numberFrom a (partResult (graphOf S N) y .order)) X) first-word)
-        (l ∙ ap (λ (y : ℕ). renewed (graphOf S N) y (ofNode (partResult (graphOf S N) y .levels)) L) first-word)
+        ran-next part-figures t-is (x ∙ ap (λ (y : ℕ). newNumbers g y (results y) a X) first-word)
+        (l ∙ ap (λ (y : ℕ). newLevels g y (results y) L) first-word)
         p
 
 -- and as it is summed up
-pub ran-added : {S N : List ℕ} {a : ℕ} {X L P W : List ℕ} (t : Tally) (m : ℕ) (f : PartFigures) {r : Tally} → a ≡ t .nodes → r ≡ added t m f
-    → Ran S N (t .parts + 1) (a + m) (t .levels + f .k) (max (t .width) (f .width)) X L P W
-    → (r .parts ≡ t .parts + 1) × Ran S N (r .parts) (r .nodes) (r .levels) (r .width) X L P W
-ran-added {S} {N} {a} {X} {L} {P} {W} t m f e s R =
-    let R′ : Ran S N (t .parts + 1) (t .nodes + m) (t .levels + f .k) (max (t .width) (f .width)) X L P W =
+pub ran-added : {order : Order} {S N : List ℕ} {a : ℕ} {X L P W : List ℕ} (t : Tally) (m : ℕ) (f : PartFigures) {r : Tally} → a ≡ t .nodes → r ≡ added t m f
+    → Ran order S N (t .parts + 1) (a + m) (t .levels + f .k) (max (t .width) (f .width)) X L P W
+    → (r .parts ≡ t .parts + 1) × Ran order S N (r .parts) (r .nodes) (r .levels) (r .width) X L P W
+ran-added {order} {S} {N} {a} {X} {L} {P} {W} t m f e s R =
+    let R′ : Ran order S N (t .parts + 1) (t .nodes + m) (t .levels + f .k) (max (t .width) (f .width)) X L P W =
     ran-at (ap (λ (x : ℕ). x + m) (sym e)) R in
-    (ap (λ (y : Tally). y .parts) s, subst (λ (y : Tally). Ran S N (y .parts) (y .nodes) (y .levels) (y .width) X L P W) (sym s) R′)
+    (ap (λ (y : Tally). y .parts) s, subst (λ (y : Tally). Ran order S N (y .parts) (y .nodes) (y .levels) (y .width) X L P W) (sym s) R′)
 
 -- ---- after the last part
 
@@ -314,36 +328,38 @@ ran-added {S} {N} {a} {X} {L} {P} {W} t m f e s R =
 pub passed-all : {count all j : ℕ} → count ≡ all → count ≤ j → all ≤ j
 passed-all e h = omega arith
 
-module _ {S N : List ℕ} {j a k w : ℕ} {X L P W : List ℕ} (R : Ran S N j a k w X L P W) (end : length (parts (graphOf S N)) ≤ j) where
-  all : foundTo (graphOf S N) j ≡ partResults (graphOf S N)
-  all = found-all (graphOf S N) j end
+module _ {order : Order} {S N : List ℕ} {j a k w : ℕ} {X L P W : List ℕ} (R : Ran order S N j a k w X L P W) (end : length (parts (graphOf S N)) ≤ j) where
+  abbrev found : List PartResult
+  found = map (resultOf order (graphOf S N)) (leaders (graphOf S N))
+
+  all : soFar order S N j ≡ map (resultOf order (graphOf S N)) (leaders (graphOf S N))
+  all = found-all (graphOf S N) (resultOf order (graphOf S N)) j end
 
   legal-graph : LegalGraph (graphOf S N)
   legal-graph = graph S N (R .legal)
 
-  pub run-numbers : X ≡ run (graphOf S N) .numbers
-  unfolding run runOf
-  run-numbers =
-      let o : List ℕ = wholeOrder (partResults (graphOf S N)) in
-      let O = whole-perm legal-graph in
-      by-node (graphOf S N) X (numbersOf (sizeOf S) (wholeOrder (partResults (graphOf S N)))) (R .room) (numbers-length (sizeOf S) O)
+  pub all-numbers : X ≡ wholeIn order (graphOf S N) .numbers
+  unfolding runOf
+  all-numbers =
+      let O = all-perm legal-graph (resultOf order (graphOf S N)) (sound-in order legal-graph) in
+      by-node (graphOf S N) X (numbersOf (sizeOf S) (wholeOrder found)) (R .room) (numbers-length (sizeOf S) O)
       (λ q A.
       R .numbers q A (ap (λ (l : List PartResult). memb q (wholeOrder l)) all ∙ order-memb (sizeOf S) O q (A .low) (A .high))
       ∙ ap (λ (l : List PartResult). suc (position q (wholeOrder l))) all
       ∙ sym (number-of (sizeOf S) O q (A .low) (A .high)))
 
-  pub run-levels : L ≡ run (graphOf S N) .levels
-  unfolding run runOf
-  run-levels = R .levels ∙ ap (wholeLevels (graphOf S N)) all
+  pub all-levels : L ≡ wholeIn order (graphOf S N) .levels
+  unfolding runOf
+  all-levels = R .levels ∙ ap (wholeLevels (graphOf S N)) all
 
-  pub run-passes : P ≡ run (graphOf S N) .passes
-  unfolding run runOf
-  run-passes = R .passes ∙ ap (partPasses (graphOf S N)) all
+  pub all-passes : P ≡ wholeIn order (graphOf S N) .passes
+  unfolding runOf
+  all-passes = R .passes ∙ ap (partPasses (graphOf S N)) all
 
-  pub summed : Summed (run (graphOf S N) .figures) j a k w
-  unfolding run runOf figuresOf
+  pub summed : Summed (wholeIn order (graphOf S N) .figures) j a k w
+  unfolding runOf figuresOf
   summed = record {
-    parts-are = omega (arith, R .walked .some, found-count (graphOf S N));
+    parts-are = omega (arith, R .walked .some, found-count (graphOf S N) (resultOf order (graphOf S N)));
     nodes-are = walk-end legal-graph (R .walked) end;
     levels-are = R .depths ∙ ap (λ (l : List PartResult). sum (map (λ r. r .report .k) l)) all;
     width-is = R .widest ∙ ap (λ (l : List PartResult). greatest (map (λ r. r .report .width) l)) all;

@@ -1,25 +1,34 @@
-// The whole run over a legal graph: the parts in order of lowest old number, each with the next free numbers.
+// A whole legal graph in either order: the parts in order of lowest old number, each with the next free numbers. Which order it is, one function
+// looks at: `number_one`.
 ghost use mathlib.Core.Path.{_≡_};
 ghost use mathlib.Core.Bool.{true};
 ghost use Prim.Native.Nat.{_+_, _*_, _≤_, _<_, max};
 ghost use lib.ListN.{length, set, drop};
+ghost use lib.Seq.{slice};
 ghost use Rattle.basis.specs.Moments.{was, left};
 ghost use Rattle.spec.specs.CallsNumbering.{measureFigures};
 ghost use Rattle.spec.specs.Graph.{graphRefusal};
 ghost use Rattle.spec.specs.Lent.{zeroed, wordsPerNode};
 ghost use Rattle.spec.specs.Levels.{parts};
 ghost use Rattle.spec.specs.Measures.{isNumbering, renumbered};
-ghost use Rattle.spec.specs.Numbering.{run};
 ghost use Rattle.laws.specs.Handed.{graphNow, graphWas, sizeNow, sizeWas};
+ghost use Rattle.laws.specs.Scratch.{tallyArea, areasEnd};
+ghost use Rattle.levels_laws.specs.Areas.{wordsOf};
+ghost use Rattle.levels.specs.Part.{PartGiven};
 ghost use Rattle.graph.specs.Facts.{LegalLists};
 ghost use Rattle.numbering_measures.specs.Answer.{three};
+ghost use Rattle.numbering_part.specs.Part.{lowestIn, newNumbers, newLevels, partFiguresOf};
 ghost use Rattle.numbering.specs.Answer.{seven};
+ghost use Rattle.numbering.specs.Orders.{resultOf, wholeIn};
+ghost use Rattle.numbering.specs.declared.order.Order.{Order};
 ghost use Rattle.numbering.specs.Ran.{added, Ran, Summed};
 use crate::answer::RunFigures;
+use crate::order::Order;
 use graph_words::areas::MEMBERS;
 use graph_words::legal::clear;
 use graph_words::wide;
 use levels::legal::WORDS_PER_NODE;
+use numbering_cuthill::legal::cuthill_part;
 use numbering_measures::Measures;
 use numbering_measures::legal::figures;
 use numbering_part::legal::number_lone;
@@ -58,8 +67,50 @@ fn add_part(t: Tally, m: u16, f: PartFigures, passes: &mut [u16]) -> Tally
     }
 }
 
+// One part in this order: its members stand from..to, and get the numbers after `from`. The scratch is as before.
+fn number_one(
+    order: Order,
+    starts: &[u16],
+    neighbours: &[u16],
+    scratch: &mut [u16],
+    numbers: &mut [u16],
+    levels: &mut [u16],
+    from: usize,
+    to: usize,
+) -> PartFigures
+    requires { ⌜ graphRefusal (now starts) (now neighbours) ≡ 0 ⌝ }
+    requires { ⌜ PartGiven (graphNow starts neighbours) from to (wordsOf (sizeNow starts) (now scratch)) (slice (tallyArea (sizeNow starts)) (areasEnd (sizeNow starts)) (now scratch)) ⌝ }
+    requires { ⌜ (length (now numbers) ≡ sizeNow starts) × (length (now levels) ≡ sizeNow starts) ⌝ }
+    ensures { λ r. ⌜ r ≡ partFiguresOf (resultOf order (graphWas starts neighbours) (lowestIn (sizeWas starts) from (was scratch)) .report) ⌝ }
+    ensures { λ _. ⌜ left scratch ≡ was scratch ⌝ }
+    ensures { λ _. ⌜ left numbers ≡ newNumbers (graphWas starts neighbours) (lowestIn (sizeWas starts) from (was scratch)) (resultOf order (graphWas starts neighbours) (lowestIn (sizeWas starts) from (was scratch))) from (was numbers) ⌝ }
+    ensures { λ _. ⌜ left levels ≡ newLevels (graphWas starts neighbours) (lowestIn (sizeWas starts) from (was scratch)) (resultOf order (graphWas starts neighbours) (lowestIn (sizeWas starts) from (was scratch))) (was levels) ⌝ }
+{
+    match order {
+        Order::GibbsPooleStockmeyer => number_part(
+            starts,
+            neighbours,
+            scratch,
+            numbers,
+            levels,
+            from,
+            to,
+        ),
+        Order::ReverseCuthillMcKee => cuthill_part(
+            starts,
+            neighbours,
+            scratch,
+            numbers,
+            levels,
+            from,
+            to,
+        ),
+    }
+}
+
 // "take the next free numbers": one part more, whose size stands where its lowest node gets its number. The scratch is as before.
 fn next_part(
+    order: Order,
     starts: &[u16],
     neighbours: &[u16],
     numbers: &mut [u16],
@@ -69,9 +120,9 @@ fn next_part(
     t: Tally,
 ) -> Tally
     requires { ⌜ t .parts < length (parts (graphNow starts neighbours)) ⌝ }
-    requires { ⌜ Ran (now starts) (now neighbours) (t .parts) (t .nodes) (t .levels) (t .width) (now numbers) (now levels) (now passes) (now scratch) ⌝ }
+    requires { ⌜ Ran order (now starts) (now neighbours) (t .parts) (t .nodes) (t .levels) (t .width) (now numbers) (now levels) (now passes) (now scratch) ⌝ }
     ensures { λ r. ⌜ r .parts ≡ t .parts + 1 ⌝ }
-    ensures { λ r. ⌜ Ran (was starts) (was neighbours) (r .parts) (r .nodes) (r .levels) (r .width) (left numbers) (left levels) (left passes) (was scratch) ⌝ }
+    ensures { λ r. ⌜ Ran order (was starts) (was neighbours) (r .parts) (r .nodes) (r .levels) (r .width) (left numbers) (left levels) (left passes) (was scratch) ⌝ }
     ensures { λ _. ⌜ left scratch ≡ was scratch ⌝ }
 {
     let n = starts.len() - 1;
@@ -88,7 +139,8 @@ fn next_part(
         };
         return add_part(t, 1, f, passes);
     }
-    let f = number_part(
+    let f = number_one(
+        order,
         starts,
         neighbours,
         scratch,
@@ -102,6 +154,7 @@ fn next_part(
 
 // "Parts come in order of lowest old number". The scratch is as before.
 fn number_parts(
+    order: Order,
     starts: &[u16],
     neighbours: &[u16],
     numbers: &mut [u16],
@@ -111,11 +164,11 @@ fn number_parts(
     count: u16,
 ) -> Tally
     requires { ⌜ count ≡ length (parts (graphNow starts neighbours)) ⌝ }
-    requires { ⌜ Ran (now starts) (now neighbours) 0 0 0 0 (now numbers) (now levels) (now passes) (now scratch) ⌝ }
-    ensures { λ r. ⌜ Summed (run (graphWas starts neighbours) .figures) (r .parts) (r .nodes) (r .levels) (r .width) ⌝ }
-    ensures { λ _. ⌜ left numbers ≡ run (graphWas starts neighbours) .numbers ⌝ }
-    ensures { λ _. ⌜ left levels ≡ run (graphWas starts neighbours) .levels ⌝ }
-    ensures { λ _. ⌜ left passes ≡ run (graphWas starts neighbours) .passes ⌝ }
+    requires { ⌜ Ran order (now starts) (now neighbours) 0 0 0 0 (now numbers) (now levels) (now passes) (now scratch) ⌝ }
+    ensures { λ r. ⌜ Summed (wholeIn order (graphWas starts neighbours) .figures) (r .parts) (r .nodes) (r .levels) (r .width) ⌝ }
+    ensures { λ _. ⌜ left numbers ≡ wholeIn order (graphWas starts neighbours) .numbers ⌝ }
+    ensures { λ _. ⌜ left levels ≡ wholeIn order (graphWas starts neighbours) .levels ⌝ }
+    ensures { λ _. ⌜ left passes ≡ wholeIn order (graphWas starts neighbours) .passes ⌝ }
     ensures { λ _. ⌜ left scratch ≡ was scratch ⌝ }
 {
     let mut t = Tally {
@@ -125,7 +178,16 @@ fn number_parts(
         width: 0,
     };
     while t.parts < count {
-        t = next_part(starts, neighbours, numbers, levels, passes, scratch, t);
+        t = next_part(
+            order,
+            starts,
+            neighbours,
+            numbers,
+            levels,
+            passes,
+            scratch,
+            t,
+        );
     }
     t
 }
@@ -144,7 +206,7 @@ fn begin(
     requires { ⌜ (length (now numbers) ≡ sizeNow starts) × (length (now levels) ≡ sizeNow starts) × (length (now passes) ≡ sizeNow starts) ⌝ }
     requires { ⌜ wordsPerNode * sizeNow starts ≤ length (now scratch) ⌝ }
     ensures { λ r. ⌜ r ≡ length (parts (graphWas starts neighbours)) ⌝ }
-    ensures { λ _. ⌜ Ran (was starts) (was neighbours) 0 0 0 0 (left numbers) (left levels) (left passes) (left scratch) ⌝ }
+    ensures { λ _. ⌜ ((order : Order) → Ran order (was starts) (was neighbours) 0 0 0 0 (left numbers) (left levels) (left passes) (left scratch)) ⌝ }
     ensures { λ _. ⌜ drop (wordsPerNode * sizeWas starts) (left scratch) ≡ drop (wordsPerNode * sizeWas starts) (was scratch) ⌝ }
 {
     let n = starts.len() - 1;
@@ -170,6 +232,7 @@ fn finish(starts: &[u16], neighbours: &[u16], numbers: &[u16], scratch: &mut [u1
 
 // Numbers and levels, n words each by old number, the passes of each part in n words, and the figures, in scratch that is set to 0 before and after.
 pub fn number_all(
+    order: Order,
     starts: &[u16],
     neighbours: &[u16],
     numbers: &mut [u16],
@@ -180,14 +243,23 @@ pub fn number_all(
     requires { ⌜ graphRefusal (now starts) (now neighbours) ≡ 0 ⌝ }
     requires { ⌜ (length (now numbers) ≡ sizeNow starts) × (length (now levels) ≡ sizeNow starts) × (length (now passes) ≡ sizeNow starts) ⌝ }
     requires { ⌜ wordsPerNode * sizeNow starts ≤ length (now scratch) ⌝ }
-    ensures { λ r. ⌜ seven r ≡ run (graphWas starts neighbours) .figures ⌝ }
-    ensures { λ _. ⌜ left numbers ≡ run (graphWas starts neighbours) .numbers ⌝ }
-    ensures { λ _. ⌜ left levels ≡ run (graphWas starts neighbours) .levels ⌝ }
-    ensures { λ _. ⌜ left passes ≡ run (graphWas starts neighbours) .passes ⌝ }
+    ensures { λ r. ⌜ seven r ≡ wholeIn order (graphWas starts neighbours) .figures ⌝ }
+    ensures { λ _. ⌜ left numbers ≡ wholeIn order (graphWas starts neighbours) .numbers ⌝ }
+    ensures { λ _. ⌜ left levels ≡ wholeIn order (graphWas starts neighbours) .levels ⌝ }
+    ensures { λ _. ⌜ left passes ≡ wholeIn order (graphWas starts neighbours) .passes ⌝ }
     ensures { λ _. ⌜ left scratch ≡ zeroed (wordsPerNode * sizeWas starts) (was scratch) ⌝ }
 {
     let count = begin(starts, neighbours, numbers, levels, passes, scratch);
-    let t = number_parts(starts, neighbours, numbers, levels, passes, scratch, count);
+    let t = number_parts(
+        order,
+        starts,
+        neighbours,
+        numbers,
+        levels,
+        passes,
+        scratch,
+        count,
+    );
     let m = finish(starts, neighbours, numbers, scratch);
     RunFigures {
         nodes: t.nodes,

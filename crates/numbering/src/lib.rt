@@ -1,6 +1,7 @@
-// Document 01's second library: the whole run. It tests what it is handed in the order of the table: 1 to 4, then 5.
+// Document 01's second library: the whole run; and A.3's call beside it. Both test what they are handed in the order of the table: 1 to 4, then 5.
 pub mod answer;
 pub mod legal;
+pub mod order;
 
 ghost use mathlib.Core.Path.{_≡_};
 ghost use mathlib.Core.Bool.{_||_};
@@ -8,14 +9,18 @@ ghost use Prim.Native.Nat.{_*_, _≤_};
 ghost use lib.Dec.{ltb};
 ghost use lib.ListN.{take};
 ghost use Rattle.basis.specs.Moments.{was, left};
+ghost use Rattle.spec.specs.CallsCuthill.{cuthillAnswer, cuthillNumbers, cuthillLevels, cuthillPasses, cuthillScratch};
 ghost use Rattle.spec.specs.Claim.{Numbered};
+ghost use Rattle.spec.specs.ClaimCuthill.{CuthillNumbered};
 ghost use Rattle.spec.specs.CallsNumbering.{runAnswer, runNumbers, runLevels, runPasses, runScratch};
 ghost use Rattle.spec.specs.Graph.{sizeOf};
 ghost use Rattle.spec.specs.Lent.{accepted, wordsPerNode};
 ghost use Rattle.spec.specs.Numbering.{Figures};
 ghost use Rattle.numbering.specs.Answer.{meaning};
+ghost use Rattle.numbering.specs.Orders.{answerIn, numbersIn, levelsIn, passesIn, NumberedIn};
 use answer::RunAnswer;
 use graph::Adjacency;
+use order::Order;
 
 // 5: numbers, levels, passes or scratch are short.
 fn any_short(n: usize, numbers: usize, levels: usize, passes: usize, scratch: usize) -> bool
@@ -34,8 +39,46 @@ fn any_short(n: usize, numbers: usize, levels: usize, passes: usize, scratch: us
     scratch < levels::legal::WORDS_PER_NODE * n
 }
 
-// The whole run: new numbers and levels by old number and the passes of each part in the first n words of the three lists lent, and the seven
-// figures.
+// Numbers in this order: new numbers and levels by old number and the passes of each part in the first n words of the three lists lent, and the
+// seven figures.
+fn number(
+    order: Order,
+    starts: &[u16],
+    neighbours: &[u16],
+    numbers: &mut [u16],
+    levels: &mut [u16],
+    passes: &mut [u16],
+    scratch: &mut [u16],
+) -> RunAnswer
+    ensures { λ r. ⌜ meaning r ≡ answerIn order (was starts) (was neighbours) (was numbers) (was levels) (was passes) (was scratch) ⌝ }
+    ensures { λ _. ⌜ left numbers ≡ numbersIn order (was starts) (was neighbours) (was numbers) (was levels) (was passes) (was scratch) ⌝ }
+    ensures { λ _. ⌜ left levels ≡ levelsIn order (was starts) (was neighbours) (was numbers) (was levels) (was passes) (was scratch) ⌝ }
+    ensures { λ _. ⌜ left passes ≡ passesIn order (was starts) (was neighbours) (was numbers) (was levels) (was passes) (was scratch) ⌝ }
+    ensures { λ _. ⌜ left scratch ≡ runScratch (was starts) (was neighbours) (was numbers) (was levels) (was passes) (was scratch) ⌝ }
+    ensures { λ r. ⌜ ((F : Figures) → meaning r ≡ accepted F → NumberedIn order (was starts) (was neighbours) F (take (sizeOf (was starts)) (left numbers)) (take (sizeOf (was starts)) (left levels))) ⌝ }
+{
+    match graph::test_adjacency(starts, neighbours) {
+        Adjacency::Refused(c) => RunAnswer::Refused(c),
+        Adjacency::Legal => {
+            let n = starts.len() - 1;
+            if any_short(n, numbers.len(), levels.len(), passes.len(), scratch.len()) {
+                return RunAnswer::Refused(5);
+            }
+            let f = legal::number_all(
+                order,
+                starts,
+                neighbours,
+                &mut numbers[..n],
+                &mut levels[..n],
+                &mut passes[..n],
+                scratch,
+            );
+            RunAnswer::Numbered(f)
+        }
+    }
+}
+
+// The whole run: the numbering of Gibbs, Poole and Stockmeyer.
 pub fn run(
     starts: &[u16],
     neighbours: &[u16],
@@ -51,22 +94,40 @@ pub fn run(
     ensures { λ _. ⌜ left scratch ≡ runScratch (was starts) (was neighbours) (was numbers) (was levels) (was passes) (was scratch) ⌝ }
     ensures { λ r. ⌜ ((F : Figures) → meaning r ≡ accepted F → Numbered (was starts) (was neighbours) F (take (sizeOf (was starts)) (left numbers)) (take (sizeOf (was starts)) (left levels))) ⌝ }
 {
-    match graph::test_adjacency(starts, neighbours) {
-        Adjacency::Refused(c) => RunAnswer::Refused(c),
-        Adjacency::Legal => {
-            let n = starts.len() - 1;
-            if any_short(n, numbers.len(), levels.len(), passes.len(), scratch.len()) {
-                return RunAnswer::Refused(5);
-            }
-            let f = legal::number_all(
-                starts,
-                neighbours,
-                &mut numbers[..n],
-                &mut levels[..n],
-                &mut passes[..n],
-                scratch,
-            );
-            RunAnswer::Numbered(f)
-        }
-    }
+    number(
+        Order::GibbsPooleStockmeyer,
+        starts,
+        neighbours,
+        numbers,
+        levels,
+        passes,
+        scratch,
+    )
+}
+
+// "a further call with the run's buffers and figures": the reverse order of Cuthill and McKee.
+pub fn reverse_cuthill_mckee(
+    starts: &[u16],
+    neighbours: &[u16],
+    numbers: &mut [u16],
+    levels: &mut [u16],
+    passes: &mut [u16],
+    scratch: &mut [u16],
+) -> RunAnswer
+    ensures { λ r. ⌜ meaning r ≡ cuthillAnswer (was starts) (was neighbours) (was numbers) (was levels) (was passes) (was scratch) ⌝ }
+    ensures { λ _. ⌜ left numbers ≡ cuthillNumbers (was starts) (was neighbours) (was numbers) (was levels) (was passes) (was scratch) ⌝ }
+    ensures { λ _. ⌜ left levels ≡ cuthillLevels (was starts) (was neighbours) (was numbers) (was levels) (was passes) (was scratch) ⌝ }
+    ensures { λ _. ⌜ left passes ≡ cuthillPasses (was starts) (was neighbours) (was numbers) (was levels) (was passes) (was scratch) ⌝ }
+    ensures { λ _. ⌜ left scratch ≡ cuthillScratch (was starts) (was neighbours) (was numbers) (was levels) (was passes) (was scratch) ⌝ }
+    ensures { λ r. ⌜ ((F : Figures) → meaning r ≡ accepted F → CuthillNumbered (was starts) (was neighbours) F (take (sizeOf (was starts)) (left numbers)) (take (sizeOf (was starts)) (left levels))) ⌝ }
+{
+    number(
+        Order::ReverseCuthillMcKee,
+        starts,
+        neighbours,
+        numbers,
+        levels,
+        passes,
+        scratch,
+    )
 }

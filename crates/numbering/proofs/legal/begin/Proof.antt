@@ -71,7 +71,7 @@ returns c =
     let w = scratch .clear .ensures in (
       m .0,
       (
-        ran-begin (drop (5 * sizeOf S) (scratch .clear .last .0)) (s .pre .0) (m .1 .1)
+        λ order. ran-begin (drop (5 * sizeOf S) (scratch .clear .last .0)) (s .pre .0) (m .1 .1)
             (levels .clear2 .ensures ∙ zeroed-all (sizeOf S) (now (s .args .levels)) (s .pre .1 .0 .1))
             (passes .clear3 .ensures ∙ zeroed-all (sizeOf S) (now (s .args .passes)) (s .pre .1 .0 .2))
             (m .1 .0)

@@ -14,7 +14,7 @@ use Rattle.numbering.proofs.legal.next_part.Tie as tie
 
 -- where the run is, with the count of nodes as an index
 at : (c : tie.After-wide) → let known = c .before .before .before .before in let s = known .before .before .before in
-    Ran (now (s .args .starts)) (now (s .args .neighbours)) (s .args .t .parts) (c .wide .result) (s .args .t .levels) (s .args .t .width)
+    Ran (s .args .order) (now (s .args .starts)) (now (s .args .neighbours)) (s .args .t .parts) (c .wide .result) (s .args .t .levels) (s .args .t .width)
     (now (s .args .numbers)) (now (s .args .levels)) (now (s .args .passes)) (now (s .args .scratch))
 at c = let known = c .before .before .before .before in ran-at (c .wide .ensures) (known .before .before .before .pre .1)
 
@@ -98,15 +98,15 @@ returns c =
 wide-requires-3 : tie.Need-wide-requires-3
 wide-requires-3 c κs = search needs
 
-add-number-part : tie.Need-add-number-part
-add-number-part c =
+add-number-one : tie.Need-add-number-one
+add-number-one c =
     let test = c .before .before .before .before in
     let low = test .before .before in
     let w = low .before .before in
     omega (arith, few (at w) (more w), fits (at w) (more w), c .wide3 .ensures, size-is (at w) (more w) (low .wide2 .ensures))
 
-number-part-requires : tie.Need-number-part-requires
-number-part-requires c κs =
+number-one-requires : tie.Need-number-one-requires
+number-one-requires c κs =
     let test = c .before .before .before .before in
     let low = test .before .before in
     let w = low .before .before in
@@ -121,7 +121,7 @@ add-part-requires-2 c κs =
     let low = test .before .before in
     let w = low .before .before in
     let known₀ = w .before .before .before .before in
-    let f = part-figures (at w) (more w) (done .number-part .ensures .0) in
+    let f = part-figures (at w) (more w) (done .number-one .ensures .0) in
     sums-fit (known₀ .before .before .before .pre .1) (more w) (size-is (at w) (more w) (low .wide2 .ensures)) (k-few (at w) (more w) f)
 
 same-length-4 : tie.Need-same-length-4
@@ -146,10 +146,10 @@ returns-2 c =
     let w = low .before .before in
     let known₀ = w .before .before .before .before in
     let s = known₀ .before .before .before in
-    let f = done .number-part .ensures in
+    let f = done .number-one .ensures in
     let m = size-is (at w) (more w) (low .wide2 .ensures) in
     let r = ran-part (at w) (more w) (f .0) m (f .1 .1 .0) (f .1 .1 .1) (add .add-part2 .ensures .1) in
-    let q = ran-added (s .args .t) (getD (now (s .args .numbers)) (low .wide2 .result - 1) 0) (done .number-part .result) (w .wide .ensures) (add .add-part2 .ensures .0) r in
+    let q = ran-added (s .args .t) (getD (now (s .args .numbers)) (low .wide2 .result - 1) 0) (done .number-one .result) (w .wide .ensures) (add .add-part2 .ensures .0) r in
     (q .0, (q .1, f .1 .0))
 
 pub next-part-spec : {M : Type 1} → statement M
@@ -173,8 +173,8 @@ next-part-spec =
     same-length-3
     returns
     wide-requires-3
-    add-number-part
-    number-part-requires
+    add-number-one
+    number-one-requires
     add-part-requires-2
     same-length-4
     same-length-5

@@ -1,10 +1,10 @@
 -- `numbering::legal::number_all` meets its contract: its calls in their order. Assumes nothing.
-use mathlib.Core.Path.{_≡_, ap}
+use mathlib.Core.Path.{ap}
 use native.Mathlib.Omega.{arith}
 use borrow.Author.Needs.{needs}
 use denote.Ref.{now}
 use lib.ListN.{length}
-use Rattle.spec.specs.Graph.{sizeOf, graphRefusal}
+use Rattle.spec.specs.Graph.{sizeOf}
 use Rattle.numbering.proofs.Figures.{legal-lists, cleared-last, numbers-numbering, seven-are}
 use Rattle.numbering.proofs.legal.number_all.Statement.{statement}
 use Rattle.numbering.proofs.legal.number_all.Tie as tie
@@ -17,11 +17,14 @@ number-parts-requires c κs =
     let known = c .before .before .before .before in
     let first = known .before .before .before .before in
     let b = first .before .before .before .before .begin .ensures in
-    (b .0, b .1 .0)
+    (b .0, b .1 .0 _)
 
--- the lists were found legal
-legal : (c : tie.After-begin) → let lent = c .before .before .before .before .before in let known = lent .before .before .before .before in let s = known .before .before in graphRefusal (now (s .args .starts)) (now (s .args .neighbours)) ≡ 0
-legal c = let lent = c .before .before .before .before .before in let known = lent .before .before .before .before in known .before .before .pre .0
+-- what was handed to the call
+abbrev start : tie.After-begin → tie.Start
+start c =
+    let lent = c .before .before .before .before .before in
+    let known = lent .before .before .before .before in
+    known .before .before
 
 finish-requires : tie.Need-finish-requires
 finish-requires c κs =
@@ -30,8 +33,11 @@ finish-requires c κs =
     let lent = ran .before .before .before .before .before in
     let known₁ = lent .before .before .before .before in
     let first = known₁ .before .before .before .before in
-    let r = ran .number-parts .ensures in
-    (legal-lists _ _ (legal first), (numbers-numbering _ _ (legal first) (r .1 .0), omega (arith, ap length (r .1 .1 .1 .1), first .begin .ensures .1 .0 .full)))
+    let s = start first in
+    let r = ran .number-parts .ensures in (
+      legal-lists _ _ (s .pre .0),
+      (numbers-numbering _ _ (s .pre .0) (s .args .order) (r .1 .0), omega (arith, ap length (r .1 .1 .1 .1), first .begin .ensures .1 .0 (s .args .order) .full)),
+    )
 
 same-length : tie.Need-same-length
 same-length c = search needs
@@ -54,15 +60,16 @@ returns c =
     let lent = ran .before .before .before .before .before in
     let known₂ = lent .before .before .before .before in
     let first = known₂ .before .before .before .before in
+    let s = start first in
     let r = ran .number-parts .ensures in
-    let lent₂ = first .before .before .before .before .before in
-    let known₃ = lent₂ .before .before .before .before in
-    let s = known₃ .before .before in
     let m = last .finish .ensures in (
-      seven-are _ _ (legal first) (r .1 .0) (m .0) (r .0),
+      seven-are _ _ (s .pre .0) (s .args .order) (r .1 .0) (m .0) (r .0),
       (
         r .1 .0,
-        (r .1 .1 .0, (r .1 .1 .1 .0, cleared-last (sizeOf (now (s .args .starts))) (now (s .args .scratch)) (m .1) (r .1 .1 .1 .1) (first .begin .ensures .1 .1))),
+        (
+          r .1 .1 .0,
+          (r .1 .1 .1 .0, cleared-last (sizeOf (now (s .args .starts))) (now (s .args .scratch)) (m .1) (r .1 .1 .1 .1) (first .begin .ensures .1 .1)),
+        ),
       ),
     )
 

@@ -4,15 +4,15 @@ use Prim.Native.Nat.{_-_}
 use native.Mathlib.Omega.{arith}
 use borrow.Author.Needs.{needs}
 use Rattle.numbering.specs.Ran.{Ran}
-use Rattle.numbering.proofs.Ran.{ran-words, levels-size, passes-words, passed-all, run-numbers, run-levels, run-passes, summed}
+use Rattle.numbering.proofs.Ran.{ran-words, levels-size, passes-words, passed-all, all-numbers, all-levels, all-passes, summed}
 use Rattle.numbering.proofs.legal.number_parts.Statement.{statement}
 use Rattle.numbering.proofs.legal.number_parts.Tie as tie
 
 abbrev Inv-loop : tie.InvT-loop
-Inv-loop starts neighbours numbers₀ levels₀ passes₀ scratch₀ count t₀ numbers levels passes scratch t = (scratch ≡ scratch₀) × Ran starts neighbours (t .parts) (t .nodes) (t .levels) (t .width) numbers levels passes scratch₀
+Inv-loop order starts neighbours numbers₀ levels₀ passes₀ scratch₀ count t₀ numbers levels passes scratch t = (scratch ≡ scratch₀) × Ran order starts neighbours (t .parts) (t .nodes) (t .levels) (t .width) numbers levels passes scratch₀
 
 abbrev μ-loop : tie.MeasureT-loop
-μ-loop starts neighbours numbers₀ levels₀ passes₀ scratch₀ count t₀ numbers levels passes scratch t = count - t .parts
+μ-loop order starts neighbours numbers₀ levels₀ passes₀ scratch₀ count t₀ numbers levels passes scratch t = count - t .parts
 
 loop-holds : tie.Need-loop-holds Inv-loop μ-loop
 loop-holds c = let at = c .before .before .before in (refl, at .before .before .before .pre .1)
@@ -63,7 +63,7 @@ returns c =
     let start = loop .before .before .before .before in
     let I = loop .loop .inv in
     let e = passed-all (start .before .before .before .pre .0) (c .if1 .left) in
-    (summed (I .1) e, (run-numbers (I .1) e, (run-levels (I .1) e, (run-passes (I .1) e, I .0))))
+    (summed (I .1) e, (all-numbers (I .1) e, (all-levels (I .1) e, (all-passes (I .1) e, I .0))))
 
 pub number-parts-spec : {M : Type 1} → statement M
 number-parts-spec =
