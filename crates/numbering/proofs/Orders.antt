@@ -9,14 +9,12 @@ use Rattle.spec.specs.ClaimCuthill.{CuthillNumbered}
 use Rattle.spec.specs.Cuthill.{cuthillResults, cuthillRun}
 use Rattle.spec.specs.Graph.{Graph}
 use Rattle.spec.specs.Numbering.{Figures, partResults, run}
-use Rattle.laws.specs.Legal.{Node, LegalGraph}
+use Rattle.laws.specs.Legal.{LegalGraph}
 use Rattle.laws.specs.Results.{AllSound}
 use Rattle.laws.proofs.CuthillRun.{cuthill-sound, cuthill-numbered}
 use Rattle.laws.proofs.Whole.{part-sound}
 use Rattle.numbering_part.specs.Part.{newNumbers, newLevels, partFiguresOf}
 use Rattle.numbering_part.specs.declared.shape.PartFigures.{PartFigures}
-use Rattle.numbering_part.proofs.Result.{ResultOf, part-result}
-use Rattle.numbering_cuthill.proofs.Result.{cuthill-result}
 use Rattle.numbering.specs.Orders.{resultOf, answerIn, numbersIn, levelsIn, passesIn, NumberedIn}
 use Rattle.numbering.specs.declared.order.Order.{Order}
 use Rattle.numbering.specs.declared.order.Order.the-variants.{GibbsPooleStockmeyer, ReverseCuthillMcKee}
@@ -24,10 +22,6 @@ use Rattle.numbering.specs.declared.order.Order.the-variants.{GibbsPoole
 pub sound-in : (order : Order) {g : Graph} → LegalGraph g → AllSound g (resultOf order g)
 sound-in GibbsPooleStockmeyer G = part-sound G
 sound-in ReverseCuthillMcKee G = cuthill-sound G
-
-pub result-in : (order : Order) {g : Graph} → LegalGraph g → {z : ℕ} → Node g z → ResultOf g z (resultOf order g z)
-result-in GibbsPooleStockmeyer G Z = part-result G Z
-result-in ReverseCuthillMcKee G Z = cuthill-result G Z
 
 -- ---- one part
 

@@ -18,7 +18,7 @@ use Rattle.spec.specs.Levels.{part, leads, leaders, parts}
 use Rattle.spec.specs.Measures.{numbersOf}
 use Rattle.spec.specs.Numbering.{PartResult, wholeOrder, wholeLevels, partPasses, figuresOf, runOf}
 use Rattle.laws.specs.Legal.{Node, LegalGraph, Starts}
-use Rattle.laws.specs.Results.{AllSound}
+use Rattle.laws.specs.Results.{Sound, AllSound}
 use Rattle.laws.proofs.Legal.{ofNode-at, ofNode-zeros, ofNode-map, by-node, length-nodes}
 use Rattle.laws.proofs.Levels.{part-self}
 use Rattle.laws.proofs.Parts.{leaders-in, leaders-rise, parts-apart}
@@ -36,13 +36,12 @@ use Rattle.numbering_parts.proofs.Leads.{parts-length}
 use Rattle.numbering_parts.proofs.Walk.{walk-begin, walk-end, walk-next, next-leads, next-node, next-some, next-fits, scratch-first, scratch-part}
 use Rattle.numbering_part.specs.Part.{numberFrom, renewed, lowestIn, newNumbers, newLevels, partFiguresOf}
 use Rattle.numbering_part.specs.declared.shape.PartFigures.{PartFigures}
-use Rattle.numbering_part.proofs.Result.{ResultOf}
 use Rattle.numbering_part.proofs.Single.{figures-one, numbers-one, levels-one}
 use Rattle.numbering.specs.Orders.{resultOf, wholeIn}
 use Rattle.numbering.specs.Ran.{soFar, added, Ran, Summed}
 use Rattle.numbering.specs.declared.legal.Tally.{Tally}
 use Rattle.numbering.specs.declared.order.Order.{Order}
-use Rattle.numbering.proofs.Orders.{sound-in, result-in}
+use Rattle.numbering.proofs.Orders.{sound-in}
 use Rattle.numbering.proofs.Found.{parts-most, sum-next, greatest-next, depth-few, passes-size, passes-next, numbers-next, levels-next, found-all, found-count}
 
 module _ (S N : List ℕ) (legal : graphRefusal S N ≡ 0) where
@@ -287,8 +286,8 @@ module _ {order : Order} {S N : List ℕ} {j a k w : ℕ} {X L P W : List ℕ} (
 
   -- a part of one node
   module _ (one : 1 ≡ m) where
-    lone : ResultOf (graphOf S N) z (resultOf order (graphOf S N) z)
-    lone = result-in order G Z
+    lone : Sound (graphOf S N) z (resultOf order (graphOf S N) z)
+    lone = sound-in order G .sound z Z
 
     pub ran-lone : {q : ℕ} {X′ L′ P′ : List ℕ} → q ≡ getD W (4 * n + a) 0 → X′ ≡ set X (q - 1) (a + 1) → L′ ≡ set L (q - 1) 1 → P′ ≡ set P j 1
         → Ran order S N (j + 1) (a + 1) (k + 1) (max w 1) X′ L′ P′ W
