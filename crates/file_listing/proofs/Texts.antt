@@ -6,7 +6,7 @@ use native.Mathlib.Omega.{arith}
 use lib.ListN.{length, take, drop, length-append, length-drop}
 use lib.Seq.{length-take-le, take-at}
 use Rattle.spec.specs.Graph.{graphOf, sizeOf, graphRefusal}
-use Rattle.spec.specs.Numbering.{Figures, run}
+use Rattle.spec.specs.Numbering.{Figures, partResult, partResults, run}
 use Rattle.spec.specs.File.{listing}
 use Rattle.laws.specs.Legal.{LegalGraph, Starts}
 use Rattle.laws.proofs.Refused.{passed, starts-of, not-refused}
@@ -34,7 +34,8 @@ module _ (S N : List ℕ) (legal : graphRefusal S N ≡ 0) where
   -- the list of passes that is lent, of which the run writes the first n words
   module _ {P : List ℕ} (O : List ℕ) (p : P ≡ run (graphOf S N) .passes) where
     n-words : length P ≡ sizeOf S
-    n-words = ap length p ∙ passes-length (graphOf S N)
+    unfolding run partResults
+    n-words = ap length p ∙ passes-length (graphOf S N) (partResult (graphOf S N))
 
     pub passes-stay : 4096 ≤ length O → 4096 ≤ length (P ++ drop (sizeOf S) O)
     passes-stay h = omega (arith, n-words, starts .few, length-append P (drop (sizeOf S) O), length-drop (sizeOf S) O)

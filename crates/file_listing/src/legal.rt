@@ -17,6 +17,8 @@ ghost use Rattle.file_listing.specs.Room.{ReadingRoom, TextRoom};
 use file_writing::Figures;
 use mesh::Entries;
 use numbering::answer::RunFigures;
+use numbering::legal::number_all;
+use numbering::order::Order;
 
 // The run's figures for the first line.
 fn figures(f: RunFigures) -> Figures
@@ -51,7 +53,15 @@ fn renumber(
     let n = starts.len() - 1;
     let x = &mut numbers[..n];
     let l = &mut levels[..n];
-    let f = numbering::legal::number_all(starts, neighbours, x, l, &mut passes[..n], scratch);
+    let f = number_all(
+        Order::GibbsPooleStockmeyer,
+        starts,
+        neighbours,
+        x,
+        l,
+        &mut passes[..n],
+        scratch,
+    );
     file_writing::legal::write_listing(figures(f), x, l, &passes[..n], output)
 }
 

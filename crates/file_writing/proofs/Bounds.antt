@@ -28,7 +28,8 @@ use Rattle.laws.proofs.Named.{part-levels}
 use Rattle.laws.proofs.Parts.{leaders-in, parts-perm}
 use Rattle.laws.proofs.Passes.{leaders-most, passes-sum}
 use Rattle.laws.proofs.Renumber.{number-node, renumbered-size}
-use Rattle.laws.proofs.RunLevels.{depth-of, width-of, run-level}
+use Rattle.laws.proofs.ResultLevels.{depth-of}
+use Rattle.laws.proofs.RunLevels.{width-of, run-level}
 use Rattle.laws.proofs.Whole.{run-numbering, run-measured-bandwidth, run-measured-profile, run-measured-front}
 use Rattle.graph_envelope.proofs.Envelope.{profile-most}
 

@@ -9,6 +9,7 @@ use denote.Ref.{now}
 use borrow.Author.Needs.{needs}
 use Rattle.basis.specs.Lists.{overwrite}
 use Rattle.spec.specs.Graph.{sizeOf}
+use Rattle.spec.specs.Numbering.{partResults, run}
 use Rattle.file_writing.specs.Figures.{figuresOf}
 use Rattle.file_listing.proofs.Texts.{Found, starts, front, sizes, passes-stay, passes-front, text-is, text-fits}
 use Rattle.file_listing.proofs.legal.renumber.Statement.{statement}
@@ -73,14 +74,15 @@ number-all-requires c κs =
 
 -- what the run left of the lists
 abbrev passes′ : tie.After-number-all → List ℕ
-passes′ m = m .number-all .last .1 .1 .1 .1 .0 ++ drop (sizeOf (now (entry m .args .starts))) (now (entry m .args .passes))
+passes′ m = m .number-all .last .1 .1 .1 .1 .1 .0 ++ drop (sizeOf (now (entry m .args .starts))) (now (entry m .args .passes))
 
 found : (f : tie.After-figures) →
     let m = ran (f .before) in
     let s = entry m in
     let S = now (s .args .starts) in
     Found S (now (s .args .neighbours)) (s .pre .0) (figuresOf (f .figures .result))
-    (m .number-all .last .1 .1 .0) (m .number-all .last .1 .1 .1 .0) (take (sizeOf S) (passes′ m))
+    (m .number-all .last .1 .1 .1 .0) (m .number-all .last .1 .1 .1 .1 .0) (take (sizeOf S) (passes′ m))
+unfolding run partResults
 found f =
     let m = ran (f .before) in
     let s = entry m in
@@ -93,6 +95,7 @@ found f =
     }
 
 slice-reshare-prefix-write-listing : tie.Need-slice-reshare-prefix-write-listing
+unfolding run partResults
 slice-reshare-prefix-write-listing c =
     let m = ran (c .before .before .before) in
     let s = entry m in
