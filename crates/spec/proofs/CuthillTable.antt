@@ -1,11 +1,13 @@
 -- A.3's call (document 02) on small graphs: a table by computation, by hand from the paper's step B and step D. Every buffer is lent full of
 -- 9s, so that a word that the call writes shows. Assumes nothing.
-use Prim.Native.Nat.{ℕ}
+use Prim.Native.Nat.{ℕ, _*_}
 use mathlib.Core.Path.{_≡_, refl}
 use mathlib.Core.List.{List, [], _∷_, _++_}
 use lib.ListN.{replicate}
 use Rattle.spec.specs.CallsCuthill.{cuthillAnswer, cuthillNumbers, cuthillLevels, cuthillPasses, cuthillScratch}
-use Rattle.spec.specs.Lent.{Outcome, refused}
+use Rattle.spec.specs.CallsCuthill.{cuthillEliminateAnswer, cuthillEliminateBytes}
+use Rattle.spec.specs.CallsStore.{EliminationFigures, RunElimination}
+use Rattle.spec.specs.Lent.{Outcome, accepted, refused}
 use Rattle.spec.specs.Numbering.{Figures}
 use Rattle.spec.proofs.Compute.{computes}
 use Rattle.spec.proofs.Called.{Lists, seven}
@@ -30,6 +32,22 @@ ordered l i j p k =
     ∷ cuthillPasses (l .starts) (l .neighbours) (lent i) (lent j) (lent p) (lent k)
     ∷ cuthillScratch (l .starts) (l .neighbours) (lent i) (lent j) (lent p) (lent k)
     ∷ [])
+
+-- the same with the elimination after it, exact buffers and so many mark bytes lent: its answer and the bytes
+record Eliminated : Type 0 where
+  answer : Outcome RunElimination
+  bytes : List ℕ
+
+-- the figures, and beside them the elimination's answer
+beside : Outcome Figures → Outcome EliminationFigures → List ℕ → Eliminated
+beside (refused c) e b = record { answer = refused c; bytes = b }
+beside (accepted f) e b = record { answer = accepted (record { figures = f; elimination = e }); bytes = b }
+
+eliminated : Lists → ℕ → ℕ → Eliminated
+eliminated l n b = record {
+  answer = cuthillEliminateAnswer (l .starts) (l .neighbours) (lent n) (lent n) (lent n) (lent (6 * n)) (lent b);
+  bytes = cuthillEliminateBytes (l .starts) (l .neighbours) (lent n) (lent n) (lent n) (lent (6 * n)) (lent b);
+}
 
 -- ---- the graphs
 
@@ -76,9 +94,15 @@ record CuthillTable : Type 0 where
   refused-5-levels : ordered pair 3 1 3 13 ≡ leaves (refused 5) (lent 3 ∷ lent 1 ∷ lent 3 ∷ lent 13 ∷ [])
   refused-5-passes : ordered pair 3 3 1 13 ≡ leaves (refused 5) (lent 3 ∷ lent 3 ∷ lent 1 ∷ lent 13 ∷ [])
   refused-5-scratch : ordered pair 3 3 3 11 ≡ leaves (refused 5) (lent 3 ∷ lent 3 ∷ lent 3 ∷ lent 11 ∷ [])
+  -- the star's centre has number 4: the pairs 1-4, 2-4, 3-4 and 4-5 have the four places, and all are joined from the start
+  star-eliminated : eliminated star 5 2 ≡ beside (seven 5 1 3 4 2 3 3) (accepted (record { marked = 4; new = 0 })) (15 ∷ 9 ∷ [])
+  -- no mark byte: 8 beside the figures
+  star-8 : eliminated star 5 0 ≡ beside (seven 5 1 3 4 2 3 3) (refused 8) []
+  -- refused as the call is: the mark bytes are left alone
+  eliminated-4 : eliminated unpaired 2 1 ≡ beside (refused 4) (refused 8) (lent 1)
 
 cuthill-table : CuthillTable
-unfolding computes leaves lent ordered one path star apart pair unpaired
+unfolding computes leaves lent ordered beside eliminated one path star apart pair unpaired
 cuthill-table = record {
   one-order = refl;
   path-order = refl;
@@ -89,4 +113,7 @@ cuthill-table = record {
   refused-5-levels = refl;
   refused-5-passes = refl;
   refused-5-scratch = refl;
+  star-eliminated = refl;
+  star-8 = refl;
+  eliminated-4 = refl;
 }

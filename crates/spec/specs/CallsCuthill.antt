@@ -1,4 +1,5 @@
--- The call of document 02's A.3, Reverse Cuthill-McKee: "a further call with the run's buffers and figures". It refuses as the run does.
+-- The call of document 02's A.3, Reverse Cuthill-McKee: "a further call with the run's buffers and figures". It refuses as the run does. And
+-- the same with the elimination after it.
 -- Assumes nothing.
 use Prim.Native.Nat.{ℕ}
 use mathlib.Core.List.{List}
@@ -7,6 +8,7 @@ use Rattle.spec.specs.Graph.{graphOf}
 use Rattle.spec.specs.Numbering.{Figures}
 use Rattle.spec.specs.Cuthill.{cuthillRun}
 use Rattle.spec.specs.CallsNumbering.{runRefusal, runScratch}
+use Rattle.spec.specs.CallsStore.{RunElimination, thenEliminateAnswer, thenEliminateBytes}
 
 -- numbers n, levels n, passes n and scratch 6n are lent
 module _ (starts neighbours numbersBuffer levelsBuffer passesBuffer scratch : List ℕ) where
@@ -33,3 +35,18 @@ module _ (starts neighbours numbersBuffer levelsBuffer passesBuffer scratch : Li
   -- the scratch afterwards
   unfoldable pub cuthillScratch : List ℕ
   cuthillScratch = runScratch starts neighbours numbersBuffer levelsBuffer passesBuffer scratch
+
+-- reverse Cuthill-McKee and eliminate: the lists end as `cuthillNumbers`, `cuthillLevels`, `cuthillPasses` and `cuthillScratch` say
+module _ (starts neighbours numbersBuffer levelsBuffer passesBuffer scratch bytes : List ℕ) where
+  unfoldable pub cuthillEliminateAnswer : Outcome RunElimination
+  cuthillEliminateAnswer =
+      thenEliminateAnswer starts neighbours (cuthillNumbers starts neighbours numbersBuffer levelsBuffer passesBuffer scratch)
+      (cuthillScratch starts neighbours numbersBuffer levelsBuffer passesBuffer scratch) bytes
+      (cuthillAnswer starts neighbours numbersBuffer levelsBuffer passesBuffer scratch)
+
+  -- the mark bytes afterwards
+  unfoldable pub cuthillEliminateBytes : List ℕ
+  cuthillEliminateBytes =
+      thenEliminateBytes starts neighbours (cuthillNumbers starts neighbours numbersBuffer levelsBuffer passesBuffer scratch)
+      (cuthillScratch starts neighbours numbersBuffer levelsBuffer passesBuffer scratch) bytes
+      (cuthillAnswer starts neighbours numbersBuffer levelsBuffer passesBuffer scratch)

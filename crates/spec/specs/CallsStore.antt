@@ -1,17 +1,18 @@
--- The calls of the library `store` (document 01, "Lent buffers" and its table): elimination, and the run with the elimination after it.
+-- The calls of the library `store` (document 01, "Lent buffers" and its table): elimination, and a numbering call with the
+-- elimination after it.
 -- Assumes nothing.
 use Prim.Native.Nat.{ℕ}
-use mathlib.Core.Bool.{cond, _||_}
+use mathlib.Core.Bool.{_||_}
 use mathlib.Core.List.{List}
 use lib.ListN.{take}
 use lib.Dec.{eqb}
 use Rattle.spec.specs.Refusal.{refuse, _orElse_}
-use Rattle.spec.specs.Lent.{Outcome, outcome, filled, scratchAfter, short}
+use Rattle.spec.specs.Lent.{Outcome, accepted, refused, outcome, filled, scratchAfter, short}
 use Rattle.spec.specs.Graph.{Graph, graphOf, sizeOf}
 use Rattle.spec.specs.Measures.{renumbered}
-use Rattle.spec.specs.Numbering.{Figures, run}
+use Rattle.spec.specs.Numbering.{Figures}
 use Rattle.spec.specs.Store.{markBytes, markByteCount, markCount, newCount}
-use Rattle.spec.specs.CallsNumbering.{measuresRefusal, runRefusal, runNumbers, runScratch}
+use Rattle.spec.specs.CallsNumbering.{measuresRefusal, runAnswer, runNumbers, runScratch}
 
 -- ---- elimination: a numbering is given, scratch n and the mark bytes are lent
 
@@ -44,38 +45,42 @@ module _ (starts neighbours numbering scratch bytes : List ℕ) where
   unfoldable pub eliminationBytes : List ℕ
   eliminationBytes = filled eliminationRefusal (markBytes (renumbered (graphOf starts neighbours) numbering)) bytes
 
--- ---- run and eliminate, a call of our own: numbers n, levels n, passes n, scratch 6n and the mark bytes are lent. The elimination works in the
--- first n scratch words. Numbers, levels, passes and scratch end as the run leaves them: `runNumbers`, `runLevels`, `runPasses`, `runScratch`.
+-- ---- a numbering call and the elimination after it, as one call of our own: numbers n, levels n, passes n, scratch 6n and the mark bytes are
+-- lent. The elimination works in the first n scratch words. Numbers, levels, passes and scratch end as the numbering call leaves them.
 
--- the run's figures, and what the elimination answers
+-- the numbering call's figures, and what the elimination answers
 pub record RunElimination : Type 0 where
   pub figures : Figures
   pub elimination : Outcome EliminationFigures
 
-module _ (starts neighbours numbersBuffer levelsBuffer passesBuffer scratch : List ℕ) where
-  -- the numbers handed on: "the run's n, without the excess of a longer buffer"
-  unfoldable pub handedNumbers : List ℕ
-  handedNumbers = take (sizeOf starts) (runNumbers starts neighbours numbersBuffer levelsBuffer passesBuffer scratch)
+-- what is handed on of a list: its n words, "without the excess of a longer buffer"
+abbrev pub handedOn : List ℕ → List ℕ → List ℕ
+handedOn starts list = take (sizeOf starts) list
 
-  -- the scratch handed on: its first n words, as the run leaves them
-  unfoldable pub handedScratch : List ℕ
-  handedScratch = take (sizeOf starts) (runScratch starts neighbours numbersBuffer levelsBuffer passesBuffer scratch)
+-- said once for every order of ours: the numbering call leaves these numbers and this scratch
+module _ (starts neighbours numbers scratch bytes : List ℕ) where
+  -- by what the numbering call answers: refused as it is; where it is accepted, its figures stand beside the elimination's answer or refusal
+  unfoldable pub thenEliminateAnswer : Outcome Figures → Outcome RunElimination
+  thenEliminateAnswer (refused c) = refused c
+  thenEliminateAnswer (accepted f) =
+      accepted (record { figures = f; elimination = eliminationAnswer starts neighbours (handedOn starts numbers) (handedOn starts scratch) bytes })
 
+  -- the mark bytes afterwards: untouched where the numbering call is refused, else as the elimination leaves them
+  unfoldable pub thenEliminateBytes : Outcome Figures → List ℕ
+  thenEliminateBytes (refused c) = bytes
+  thenEliminateBytes (accepted f) = eliminationBytes starts neighbours (handedOn starts numbers) (handedOn starts scratch) bytes
+
+-- run and eliminate; the lists end as `runNumbers`, `runLevels`, `runPasses` and `runScratch` say
 module _ (starts neighbours numbersBuffer levelsBuffer passesBuffer scratch bytes : List ℕ) where
-  -- Refused as the run is. Where the run is accepted and the elimination refuses, the run's figures stand beside that refusal.
   unfoldable pub runEliminateAnswer : Outcome RunElimination
   runEliminateAnswer =
-      outcome (runRefusal starts neighbours numbersBuffer levelsBuffer passesBuffer scratch) (record {
-        figures = run (graphOf starts neighbours) .figures;
-        elimination =
-            eliminationAnswer starts neighbours (handedNumbers starts neighbours numbersBuffer levelsBuffer passesBuffer scratch)
-            (handedScratch starts neighbours numbersBuffer levelsBuffer passesBuffer scratch) bytes;
-      })
+      thenEliminateAnswer starts neighbours (runNumbers starts neighbours numbersBuffer levelsBuffer passesBuffer scratch)
+      (runScratch starts neighbours numbersBuffer levelsBuffer passesBuffer scratch) bytes
+      (runAnswer starts neighbours numbersBuffer levelsBuffer passesBuffer scratch)
 
-  -- the mark bytes afterwards: as the elimination leaves them, untouched where the run is refused
+  -- the mark bytes afterwards
   unfoldable pub runEliminateBytes : List ℕ
   runEliminateBytes =
-      cond (eqb (runRefusal starts neighbours numbersBuffer levelsBuffer passesBuffer scratch) 0)
-      (eliminationBytes starts neighbours (handedNumbers starts neighbours numbersBuffer levelsBuffer passesBuffer scratch)
-      (handedScratch starts neighbours numbersBuffer levelsBuffer passesBuffer scratch) bytes)
-      bytes
+      thenEliminateBytes starts neighbours (runNumbers starts neighbours numbersBuffer levelsBuffer passesBuffer scratch)
+      (runScratch starts neighbours numbersBuffer levelsBuffer passesBuffer scratch) bytes
+      (runAnswer starts neighbours numbersBuffer levelsBuffer passesBuffer scratch)

@@ -13,8 +13,8 @@ pub mod Lent
 pub mod Cuthill
 pub mod CallsLevels
 pub mod CallsNumbering
-pub mod CallsCuthill
 pub mod CallsStore
+pub mod CallsCuthill
 pub mod CallsMesh
 pub mod Claim
 pub mod ClaimCuthill
