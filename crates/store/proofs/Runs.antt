@@ -1,28 +1,27 @@
--- The run with the elimination after it: what the answers of the two calls make of the answer and of the buffers. Assumes nothing.
+-- A numbering call of ours with the elimination after it: what the answers of the two make of the answer and of the buffers, for every order.
+-- Assumes nothing.
 use mathlib.Core.Path.{_≡_, refl, sym, ap, _∙_}
-use mathlib.Core.Bool.{Bool, true, false, _||_}
+use mathlib.Core.Bool.{Bool, true, false}
 use mathlib.Core.List.{List, _∷_, _++_}
 use Prim.Native.Nat.{ℕ, zero, suc, _*_, _≤_}
 use native.Mathlib.Omega.{arith}
-use lib.ListN.{length, take, drop, replicate, length-replicate, take-append-drop}
+use lib.ListN.{length, take, drop, replicate, length-replicate, length-append, length-drop, take-append-drop}
 use lib.Seq.{take-append-le}
-use borrow.Author.Tests.{ne-eqb, ltb-false}
+use borrow.Author.Tests.{ltb-false}
 use Rattle.basis.proofs.Logic.{or-none}
-use Rattle.spec.specs.CallsLevels.{partScratch}
-use Rattle.spec.specs.CallsNumbering.{runRefusal, runAnswer, runNumbers, runLevels, runScratch}
-use Rattle.spec.specs.CallsStore.{RunElimination, EliminationFigures, eliminationAnswer, eliminationScratch, eliminationBytes, handedNumbers, handedScratch, runEliminateAnswer, runEliminateBytes}
-use Rattle.spec.specs.Claim.{Numbered as RunNumbered, Claimed}
+use Rattle.spec.specs.CallsCuthill.{cuthillRefusal, cuthillAnswer, cuthillNumbers, cuthillScratch}
+use Rattle.spec.specs.CallsNumbering.{runRefusal, runAnswer, runNumbers, runScratch}
+use Rattle.spec.specs.CallsStore.{RunElimination, EliminationFigures, eliminationAnswer, eliminationScratch, eliminationBytes, handedOn, thenEliminateAnswer, thenEliminateBytes}
+use Rattle.spec.specs.Claim.{NumberedAs, ClaimedAs}
+use Rattle.spec.specs.ClaimCuthill.{CuthillNumbered}
+use Rattle.spec.specs.Cuthill.{cuthillResult, cuthillRun}
 use Rattle.spec.specs.Graph.{sizeOf, graphOf, graphRefusal}
-use Rattle.spec.specs.Lent.{Outcome, accepted, refused, outcome, scratchAfter, wordsPerNode, short}
-use Rattle.spec.specs.Numbering.{Figures, run}
+use Rattle.spec.specs.Lent.{Outcome, accepted, refused, outcome, filled, scratchAfter, wordsPerNode, short}
+use Rattle.spec.specs.Numbering.{Figures, PartResult, Run, run}
 use Rattle.laws.proofs.Claim.{run-legal}
-use Rattle.laws.proofs.Lent.{outcome-accepted, outcome-refused, zeroed-is, zeroed-all}
+use Rattle.laws.proofs.Lent.{outcome-accepted, scratch-accepted, zeroed-is, zeroed-all}
 use Rattle.laws.proofs.Refused.{or-else-zero, refuse-zero, passed, starts-of}
-use Rattle.numbering.specs.Answer.{seven, meaning as runMeaning}
-use Rattle.numbering.specs.declared.answer.RunFigures.{RunFigures}
-use Rattle.numbering.specs.declared.answer.RunAnswer.{RunAnswer}
-use Rattle.numbering.specs.declared.answer.RunAnswer.the-variants.{Refused, Numbered}
-use Rattle.store.specs.Answer.{meaning}
+use Rattle.store.specs.Answer.{meaning, Room, thenScratch}
 use Rattle.store.specs.declared.answer.Elimination.{Elimination}
 use Rattle.store.proofs.TwoCalls.{two-calls}
 
@@ -30,124 +29,137 @@ use Rattle.store.proofs.TwoCalls.{two-calls}
 refused-not : {A : Type 0} (c : ℕ) (a : A) → refused c ≡ accepted a → ⊥
 refused-not c a e = let z : _≡_ {A = ℕ} 0 1 = cc in absurd (omega arith)
 
--- the elimination's answer, beside the run's figures
+-- what is accepted is known
+accepted-is : {A : Type 0} (a b : A) → accepted b ≡ accepted a → a ≡ b
+accepted-is a b e = cc
+
+-- the elimination's answer, beside the figures
 pub beside : (F : Figures) {r : Elimination} {m e : Outcome EliminationFigures} → meaning r ≡ e → {r′ : Elimination} → r ≡ r′ → m ≡ meaning r′
     → _≡_ {A = Outcome RunElimination} (accepted (record { figures = F; elimination = m })) (accepted (record { figures = F; elimination = e }))
 beside F a b d = ap (λ (o : Outcome EliminationFigures). accepted (record { figures = F; elimination = o })) (d ∙ ap meaning (sym b) ∙ a)
 
+-- ---- lists
+
 -- n words that are 0 stay so, whatever the elimination does in them
-zeros-stay : (b : Bool) (n : ℕ) (C : List ℕ) → length C ≡ n → C ≡ replicate n 0 → scratchAfter b n C ≡ C
+zeros-stay : (b : Bool) (n : ℕ) (C : List ℕ) → C ≡ replicate n 0 → scratchAfter b n C ≡ C
 unfolding scratchAfter
-zeros-stay true n C l z = zeroed-all n C l ∙ sym z
-zeros-stay false n C l z = refl
+zeros-stay true n C z = zeroed-all n C (ap length z ∙ length-replicate {A = ℕ} n 0) ∙ sym z
+zeros-stay false n C z = refl
 
 take-zeros : (m n : ℕ) → m ≤ n → take {A = ℕ} m (replicate n 0) ≡ replicate m 0
 take-zeros zero n h = refl
 take-zeros (suc m) zero h = absurd (omega arith)
 take-zeros (suc m) (suc n) h = ap (λ (l : List ℕ). 0 ∷ l) (take-zeros m n (omega arith))
 
--- the run of S and N with numbers X, levels L, passes P and scratch W lent is accepted
-module _ (S N X L P W : List ℕ) {r : RunAnswer} (e : runMeaning r ≡ runAnswer S N X L P W) {f : RunFigures} (h : r ≡ Numbered f) where
-  accepts : runAnswer S N X L P W ≡ accepted (seven f)
-  accepts = sym e ∙ ap runMeaning h
+-- a buffer that a call fills is no shorter than it was
+no-shorter : (c : ℕ) (new old : List ℕ) → length old ≤ length (filled c new old)
+unfolding filled
+no-shorter zero new old = omega (arith, length-append new (drop (length new) old), length-drop (length new) old)
+no-shorter (suc c) new old = omega arith
 
-  none : (runRefusal S N X L P W ≡ 0) × (run (graphOf S N) .figures ≡ seven f)
-  unfolding runAnswer
-  none = outcome-accepted (runRefusal S N X L P W) (run (graphOf S N) .figures) (seven f) accepts
+-- ---- by what the numbering call answered, A: numbers X, scratch C and mark bytes B
 
-  legal : graphRefusal S N ≡ 0
-  legal = run-legal S N X L P W (none .0)
+module _ (S N X C B : List ℕ) {A : Outcome Figures} where
+  pub then-refused : {c : ℕ} → A ≡ refused c
+      → (refused c ≡ thenEliminateAnswer S N X C B A) × ((C ≡ thenScratch S N X C B A) × (B ≡ thenEliminateBytes S N X C B A))
+  unfolding thenEliminateAnswer thenEliminateBytes
+  then-refused e = (rw e, (rw e, rw e))
 
-  -- there is a node, so the start list has two words
-  pub nodes : 2 ≤ length S
-  nodes = omega (arith, starts-of (passed S N legal) .some)
+  pub then-accepted : {F : Figures} {E : Outcome RunElimination} {C′ B′ : List ℕ} → A ≡ accepted F
+      → E ≡ accepted (record { figures = F; elimination = eliminationAnswer S N (handedOn S X) (handedOn S C) B })
+      → C′ ≡ eliminationScratch S N (handedOn S X) (handedOn S C) B → B′ ≡ eliminationBytes S N (handedOn S X) (handedOn S C) B
+      → (E ≡ thenEliminateAnswer S N X C B A) × ((C′ ++ drop (sizeOf S) C ≡ thenScratch S N X C B A) × (B′ ≡ thenEliminateBytes S N X C B A))
+  unfolding thenEliminateAnswer thenEliminateBytes
+  then-accepted e a c b = (a ∙ rw e, (rw (e, c), b ∙ rw e))
 
-  -- what is lent has n words to hand on
-  pub room : (sizeOf S ≤ length X) × (sizeOf S ≤ length L) × (sizeOf S ≤ length W)
-  unfolding runRefusal
-  room =
-      let w = or-else-zero (graphRefusal S N) _ (none .0) in
-      let s = or-none (short X (sizeOf S) || short L (sizeOf S) || short P (sizeOf S)) (short W (wordsPerNode * sizeOf S)) (refuse-zero _ 5 (omega arith) (w .1)) in
-      let t = or-none (short X (sizeOf S) || short L (sizeOf S)) (short P (sizeOf S)) (s .0) in
-      let u = or-none (short X (sizeOf S)) (short L (sizeOf S)) (t .0) in
-      let a : wordsPerNode * sizeOf S ≤ length W = ltb-false (length W) (wordsPerNode * sizeOf S) (s .1) in
-      (ltb-false (length X) (sizeOf S) (u .0), ltb-false (length L) (sizeOf S) (u .1), omega arith)
+-- ---- the numbering call: lists S and N; numbers X, levels L, passes P and scratch W are lent. It answered A and left X′ and W′.
 
--- numbers X, levels L, passes P, scratch W and mark bytes B are lent; X′, L′ and W′ are what the run leaves
-module _ (S N X L P W B X′ L′ W′ : List ℕ) (numbers-are : X′ ≡ runNumbers S N X L P W) (scratch-is : W′ ≡ runScratch S N X L P W) where
-  -- the answer, the mark bytes at exit, and the claim
-  pub record Answered (A : Outcome RunElimination) (B′ : List ℕ) : Type 0 where
-    pub answer : A ≡ runEliminateAnswer S N X L P W B
-    pub bytes : B′ ≡ runEliminateBytes S N X L P W B
-    pub claimed : (e : RunElimination) → A ≡ accepted e → Claimed S N (e .figures) X′ L′ (handedScratch S N X L P W) B (e .elimination) B′
+-- what its contract ensures of them: `whole` is what the documents find of the graph
+pub record Ran (whole : Run) (S N X L P W : List ℕ) (A : Outcome Figures) (X′ W′ : List ℕ) : Type 0 where
+  pub answer : A ≡ outcome (runRefusal S N X L P W) (whole .figures)
+  pub numbers : X′ ≡ filled (runRefusal S N X L P W) (whole .numbers) X
+  pub scratch : W′ ≡ runScratch S N X L P W
 
-  -- ---- the run is refused
+module _ {whole : Run} {S N X L P W : List ℕ} {A : Outcome Figures} {X′ W′ : List ℕ} (R : Ran whole S N X L P W A X′ W′) where
+  -- ---- it is accepted with the figures F
 
-  module _ {r : RunAnswer} (e : runMeaning r ≡ runAnswer S N X L P W) {c : ℕ} (h : r ≡ Refused c) where
-    by : (runRefusal S N X L P W ≡ c) × (1 ≤ c)
-    unfolding runAnswer
-    by = outcome-refused (runRefusal S N X L P W) c (run (graphOf S N) .figures) (sym e ∙ ap runMeaning h)
+  module _ {F : Figures} (e : A ≡ accepted F) where
+    none : runRefusal S N X L P W ≡ 0
+    none = outcome-accepted (runRefusal S N X L P W) (whole .figures) F (sym (R .answer) ∙ e) .0
 
-    refused-answer : refused c ≡ runEliminateAnswer S N X L P W B
-    unfolding runEliminateAnswer outcome
-    refused-answer = rw (by .0) (go c _ (by .1))
-      where
-        go : {A : Type 0} (d : ℕ) (a : A) → 1 ≤ d → refused d ≡ outcome d a
-        go zero a l = absurd (omega arith)
-        go (suc d) a l = refl
+    -- the numbers lent have n words
+    room-lent : sizeOf S ≤ length X
+    unfolding runRefusal
+    room-lent =
+        let s = refuse-zero _ 5 (omega arith) (or-else-zero (graphRefusal S N) _ none .1) in
+        ltb-false (length X) (sizeOf S) (or-none (short X (sizeOf S)) (short L (sizeOf S)) (or-none _ (short P (sizeOf S)) (or-none _ (short W (wordsPerNode * sizeOf S)) s .0) .0) .0)
 
-    refused-bytes : B ≡ runEliminateBytes S N X L P W B
-    unfolding runEliminateBytes
-    refused-bytes = rw (by .0, ne-eqb c 0 (omega (arith, by .1)))
+    cleared : W′ ≡ replicate (wordsPerNode * sizeOf S) 0 ++ drop (wordsPerNode * sizeOf S) W
+    unfolding runScratch
+    cleared = R .scratch ∙ sym (scratch-accepted (runRefusal S N X L P W) S W none) ∙ zeroed-is (wordsPerNode * sizeOf S) W
 
-    pub run-refused : Answered (refused c) B
-    run-refused = record {
-      answer = refused-answer;
-      bytes = refused-bytes;
-      claimed = λ a d. absurd (refused-not c a d);
+    -- there is a node, and n words to hand on
+    pub room : Room S X′ W′
+    room = record {
+      nodes = omega (arith, starts-of (passed S N (run-legal S N X L P W none)) .some);
+      numbers = rw (R .numbers) (omega (arith, room-lent, no-shorter (runRefusal S N X L P W) (whole .numbers) X));
+      scratch = rw cleared (omega (arith, length-append (replicate {A = ℕ} (wordsPerNode * sizeOf S) 0) (drop (wordsPerNode * sizeOf S) W), length-replicate {A = ℕ} (wordsPerNode * sizeOf S) 0));
     }
 
-  -- ---- the run is accepted
-
-  module _ {r : RunAnswer} (e : runMeaning r ≡ runAnswer S N X L P W) {f : RunFigures} (h : r ≡ Numbered f) where
-    abbrev scratch : List ℕ
-    scratch = take (sizeOf S) W′
-
-    handed-zeros : scratch ≡ replicate (sizeOf S) 0
-    unfolding runScratch partScratch scratchAfter
+    handed-zeros : handedOn S W′ ≡ replicate (sizeOf S) 0
     handed-zeros =
-        rw (scratch-is, none S N X L P W e h .0) (ap (take (sizeOf S)) (zeroed-is (wordsPerNode * sizeOf S) W)
+        ap (take (sizeOf S)) cleared
         ∙ take-append-le (sizeOf S) (replicate (wordsPerNode * sizeOf S) 0) _ (omega (arith, length-replicate {A = ℕ} (wordsPerNode * sizeOf S) 0))
-        ∙ take-zeros (sizeOf S) (wordsPerNode * sizeOf S) (omega arith))
+        ∙ take-zeros (sizeOf S) (wordsPerNode * sizeOf S) (omega arith)
 
-    -- the scratch ends as the run leaves it
-    pub scratch-stays : {C : List ℕ} → C ≡ eliminationScratch S N (take (sizeOf S) X′) scratch B → C ++ drop (sizeOf S) W′ ≡ runScratch S N X L P W
+    -- the elimination leaves the scratch as it is
+    kept : (B : List ℕ) → eliminationScratch S N (handedOn S X′) (handedOn S W′) B ++ drop (sizeOf S) W′ ≡ W′
     unfolding eliminationScratch
-    scratch-stays {C} q =
-        ap (λ (l : List ℕ). l ++ drop (sizeOf S) W′) (q ∙ zeros-stay _ (sizeOf S) scratch (ap length handed-zeros ∙ length-replicate {A = ℕ} (sizeOf S) 0) handed-zeros)
-        ∙ take-append-drop (sizeOf S) W′ ∙ scratch-is
+    kept B = ap (λ (l : List ℕ). l ++ drop (sizeOf S) W′) (zeros-stay _ (sizeOf S) (handedOn S W′) handed-zeros) ∙ take-append-drop (sizeOf S) W′
 
-    -- what run and eliminate answers
-    abbrev both : RunElimination
-    both = record { figures = seven f; elimination = eliminationAnswer S N (take (sizeOf S) X′) scratch B }
+  -- ---- the elimination after it, with mark bytes B lent: E is answered, C′ and B′ are left
 
-    is-both : (a : RunElimination) → accepted both ≡ accepted a → a ≡ both
-    is-both a d = cc
+  module _ (B : List ℕ) {E : Outcome RunElimination} {C′ B′ : List ℕ} (answer : E ≡ thenEliminateAnswer S N X′ W′ B A) (scratch : C′ ≡ thenScratch S N X′ W′ B A) (bytes : B′ ≡ thenEliminateBytes S N X′ W′ B A) where
+    -- the scratch ends as the numbering call leaves it
+    stays : (a : Outcome Figures) → A ≡ a → thenScratch S N X′ W′ B a ≡ W′
+    stays (refused c) e = refl
+    stays (accepted F) e = kept e B
 
-    passed-answer : accepted both ≡ runEliminateAnswer S N X L P W B
-    unfolding runEliminateAnswer outcome handedNumbers handedScratch
-    passed-answer = rw (numbers-are, scratch-is, none S N X L P W e h .0, none S N X L P W e h .1)
+    -- demand 3, out of what the numbering call ensures of its numbers and levels
+    module _ {result : ℕ → PartResult} {L′ : List ℕ} (numbered : (F : Figures) → A ≡ accepted F → NumberedAs whole result S N F (take (sizeOf S) X′) (take (sizeOf S) L′)) where
+      claims : (a : Outcome Figures) → A ≡ a → (x : RunElimination) → thenEliminateAnswer S N X′ W′ B a ≡ accepted x
+          → ClaimedAs whole result S N (x .figures) X′ L′ (handedOn S W′) B (x .elimination) (thenEliminateBytes S N X′ W′ B a)
+      unfolding thenEliminateAnswer thenEliminateBytes
+      claims (refused c) e x d = absurd (refused-not c x d)
+      claims (accepted F) e x d = rw (accepted-is x _ d) (two-calls numbered refl refl F e)
 
-    passed-bytes : eliminationBytes S N (take (sizeOf S) X′) scratch B ≡ runEliminateBytes S N X L P W B
-    unfolding runEliminateBytes handedNumbers handedScratch
-    passed-bytes = rw (numbers-are, scratch-is, none S N X L P W e h .0)
+      claimed : (x : RunElimination) → E ≡ accepted x → ClaimedAs whole result S N (x .figures) X′ L′ (handedOn S (runScratch S N X L P W)) B (x .elimination) B′
+      claimed x d = rw (bytes, ← R .scratch) (claims A refl x (sym answer ∙ d))
 
-    -- the claim comes from what the run ensures of its numbers and levels
-    pub run-passed : {A : Outcome RunElimination} {B′ : List ℕ} → ((F : Figures) → runMeaning r ≡ accepted F → RunNumbered S N F (take (sizeOf S) X′) (take (sizeOf S) L′))
-        → A ≡ accepted both → B′ ≡ eliminationBytes S N (take (sizeOf S) X′) scratch B → Answered A B′
-    unfolding handedScratch
-    run-passed ran a b = record {
-      answer = a ∙ passed-answer;
-      bytes = b ∙ passed-bytes;
-      claimed = λ x d. rw (is-both x (sym a ∙ d), ← scratch-is) (two-calls ran refl b (seven f) (ap runMeaning h));
-    }
+      -- all that is ensured of the two together, in the contract's order: levels and passes are as the numbering call left them
+      pub ended : {L₀ P₀ P′ : List ℕ} → L′ ≡ L₀ → P′ ≡ P₀
+          → (E ≡ thenEliminateAnswer S N (filled (runRefusal S N X L P W) (whole .numbers) X) (runScratch S N X L P W) B (outcome (runRefusal S N X L P W) (whole .figures)))
+          × ((X′ ≡ filled (runRefusal S N X L P W) (whole .numbers) X)
+          × ((L′ ≡ L₀)
+          × ((P′ ≡ P₀)
+          × ((C′ ≡ runScratch S N X L P W)
+          × ((B′ ≡ thenEliminateBytes S N (filled (runRefusal S N X L P W) (whole .numbers) X) (runScratch S N X L P W) B (outcome (runRefusal S N X L P W) (whole .figures)))
+          × ((x : RunElimination) → E ≡ accepted x → ClaimedAs whole result S N (x .figures) X′ L′ (handedOn S (runScratch S N X L P W)) B (x .elimination) B′))))))
+      ended l p =
+          (answer ∙ rw (R .numbers, R .scratch, R .answer), (R .numbers, (l, (p, (scratch ∙ stays A refl ∙ R .scratch, (bytes ∙ rw (R .numbers, R .scratch, R .answer), claimed))))))
+
+-- ---- each order's contract is of that form
+
+module _ (S N X L P W : List ℕ) {A : Outcome Figures} {X′ W′ : List ℕ} where
+  pub run-ran : A ≡ runAnswer S N X L P W → X′ ≡ runNumbers S N X L P W → W′ ≡ runScratch S N X L P W → Ran (run (graphOf S N)) S N X L P W A X′ W′
+  unfolding runAnswer runNumbers
+  run-ran a x w = record { answer = a; numbers = x; scratch = w }
+
+  pub cuthill-ran : A ≡ cuthillAnswer S N X L P W → X′ ≡ cuthillNumbers S N X L P W → W′ ≡ cuthillScratch S N X L P W → Ran (cuthillRun (graphOf S N)) S N X L P W A X′ W′
+  unfolding cuthillRefusal cuthillAnswer cuthillNumbers cuthillScratch
+  cuthill-ran a x w = record { answer = a; numbers = x; scratch = w }
+
+-- what a library above rests on has the run's sentences
+pub cuthill-is : {S N Y Z : List ℕ} {A : Outcome Figures} → ((F : Figures) → A ≡ accepted F → CuthillNumbered S N F Y Z)
+    → (F : Figures) → A ≡ accepted F → NumberedAs (cuthillRun (graphOf S N)) (cuthillResult (graphOf S N)) S N F Y Z
+cuthill-is n F e = n F e .numbered

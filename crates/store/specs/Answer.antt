@@ -1,9 +1,11 @@
 -- What the answers of this library mean in document 01's numbers and values. Assumes nothing.
-use mathlib.Core.List.{List}
-use Prim.Native.Nat.{ℕ}
-use Rattle.spec.specs.CallsStore.{EliminationFigures, RunElimination, eliminationFigures}
-use Rattle.spec.specs.Graph.{Graph}
+use mathlib.Core.List.{List, _++_}
+use Prim.Native.Nat.{ℕ, _≤_}
+use lib.ListN.{length, drop}
+use Rattle.spec.specs.CallsStore.{EliminationFigures, RunElimination, eliminationFigures, eliminationScratch, handedOn}
+use Rattle.spec.specs.Graph.{Graph, sizeOf}
 use Rattle.spec.specs.Lent.{Outcome, accepted, refused, outcome, filled, short}
+use Rattle.spec.specs.Numbering.{Figures}
 use Rattle.spec.specs.Refusal.{refuse}
 use Rattle.spec.specs.Store.{markByteCount, markBytes}
 use Rattle.numbering.specs.Answer.{seven}
@@ -24,12 +26,25 @@ meaning (Accepted c) = accepted (figuresOf c)
 meaning (Refused c) = refused c
 
 abbrev pub runMeaning : RunEliminated → Outcome RunElimination
--- 1 to 5, as the run is
+-- 1 to 5, as the numbering call is
 runMeaning (RunRefused c) = refused c
--- the run's figures stand beside the refusal of the elimination
+-- its figures stand beside the refusal of the elimination
 runMeaning (RunOnly f c) = accepted (record { figures = seven f; elimination = refused c })
--- the run's figures and the elimination's counts
+-- its figures and the elimination's counts
 runMeaning (Both f c) = accepted (record { figures = seven f; elimination = accepted (figuresOf c) })
+
+-- ---- what a numbering call hands on
+
+-- n words of the numbers and of the scratch; there is a node
+pub record Room (S X C : List ℕ) : Type 0 where
+  pub nodes : 2 ≤ length S
+  pub numbers : sizeOf S ≤ length X
+  pub scratch : sizeOf S ≤ length C
+
+-- the scratch after the elimination that works in its first n words
+abbrev pub thenScratch : List ℕ → List ℕ → List ℕ → List ℕ → List ℕ → Outcome Figures → List ℕ
+thenScratch S N X C B (refused c) = C
+thenScratch S N X C B (accepted f) = eliminationScratch S N (handedOn S X) (handedOn S C) B ++ drop (sizeOf S) C
 
 -- ---- the elimination of the graph h, by its new numbers, where mark bytes are lent
 

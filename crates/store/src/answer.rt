@@ -1,4 +1,4 @@
-// What the elimination answers, and the run with the elimination after it.
+// What the elimination answers, and a numbering call with the elimination after it.
 use numbering::answer::RunFigures;
 
 // "The marks that are 1 are counted, and so are the newly joined pairs, those not joined at first."
@@ -12,7 +12,7 @@ pub enum Elimination {
     Refused(u16),
 }
 
-// Refused as the run is; or the run's figures, beside the refusal of the elimination or its counts.
+// Refused as the numbering call is; or its figures, beside the refusal of the elimination or its counts.
 pub enum RunElimination {
     Refused(u16),
     RunOnly { figures: RunFigures, refusal: u16 },
