@@ -1,6 +1,6 @@
--- DEMAND 3 of `wagonepoch_run` and then `wagonepoch_eliminate` on its n numbers: "nobody writes them or the two lists between the calls". The
--- premises are just what the two contracts ensure, and that the run answered 0. Assumes nothing.
-use mathlib.Core.Path.{_≡_, refl, sym, ap, _∙_}
+-- DEMAND 3 of `wagonepoch_run` or `wagonepoch_reverse_cuthill_mckee` and then `wagonepoch_eliminate` on its n numbers: "nobody writes them or the
+-- two lists between the calls". The premises are just what the two contracts ensure, and that the first answered 0. Assumes nothing.
+use mathlib.Core.Path.{_≡_, refl, sym, _∙_}
 use mathlib.Core.Bool.{Bool, true, false, cond, _||_}
 use mathlib.Core.List.{List}
 use mathlib.Core.Logic.{_↔_}
@@ -8,18 +8,21 @@ use Prim.Native.Nat.{ℕ, zero, suc, _+_, _*_, _/_, _<_}
 use native.Mathlib.Omega.{arith}
 use lib.ListN.{take}
 use Rattle.basis.specs.Lists.{overwrite}
-use Rattle.spec.specs.CallsNumbering.{runRefusal, runAnswer, runNumbers, runLevels}
+use Rattle.spec.specs.CallsCuthill.{cuthillAnswer, cuthillNumbers, cuthillLevels}
+use Rattle.spec.specs.CallsNumbering.{runAnswer, runNumbers, runLevels}
 use Rattle.spec.specs.CallsStore.{EliminationFigures, eliminationFigures, eliminationAnswer, eliminationBytes}
-use Rattle.spec.specs.Claim.{JoinedPlace, StoreClaim, Claim}
+use Rattle.spec.specs.Claim.{JoinedPlace, ClaimAs}
+use Rattle.spec.specs.Cuthill.{cuthillRun}
 use Rattle.spec.specs.Graph.{Graph, graphOf, graphRefusal, sizeOf}
-use Rattle.spec.specs.Lent.{Outcome, accepted, refused, outcome, short}
+use Rattle.spec.specs.Lent.{accepted, outcome, short}
 use Rattle.spec.specs.Measures.{renumbered}
-use Rattle.spec.specs.Numbering.{Figures, run}
+use Rattle.spec.specs.Numbering.{Figures, PartResult, Run, run}
 use Rattle.spec.specs.Refusal.{refuse, _orElse_}
 use Rattle.spec.specs.Store.{markAt}
 use Rattle.laws.proofs.Claim.{claim}
+use Rattle.laws.proofs.CuthillRun.{cuthill-claim}
 use Rattle.capi_figures.specs.Figures.{number, written, answerC, lentC, figuresC, runList, eliminationList}
-use Rattle.capi_figures.specs.Claimed.{figuresIn, ClaimedC}
+use Rattle.capi_figures.specs.Claimed.{figuresIn, ClaimedCAs, ClaimedC, CuthillClaimedC}
 
 -- ---- an answer of 0
 
@@ -53,26 +56,23 @@ module _ (Q : List ℕ) (c : ℕ) (a : EliminationFigures) where
 
 -- ---- the two calls
 
--- the run: lists S and N, numbers X₀, levels L₀, passes T₀, scratch W and figures P₀ are lent; it answered 0 and left P, X and L
-module _ (S N X₀ L₀ T₀ W P₀ P X L : List ℕ) {r : ℕ} (run-answers : r ≡ answerC 7 P₀ (graphRefusal S N) (runAnswer S N X₀ L₀ T₀ W)) (run-figures : P ≡ figuresC 7 P₀ runList (runAnswer S N X₀ L₀ T₀ W)) (run-numbers : X ≡ lentC 7 P₀ X₀ (runNumbers S N X₀ L₀ T₀ W)) (run-levels : L ≡ lentC 7 P₀ L₀ (runLevels S N X₀ L₀ T₀ W)) (accepts : r ≡ 0) where
-  abbrev F : Figures
-  F = run (graphOf S N) .figures
+-- The numbering call: lists S and N, numbers X₀, levels L₀ and figures P₀ are lent. It answered 0 and left P, X and L. `c` is its refusal, and X₁
+-- and L₁ are the numbers and levels of its definition, of which the claim holds.
+module _ (whole : Run) {result : ℕ → PartResult} (S N X₀ L₀ P₀ P X L : List ℕ) (c : ℕ) (X₁ L₁ : List ℕ) {r : ℕ} (claims : (F : Figures) → outcome c (whole .figures) ≡ accepted F → ClaimAs whole result S N F (take (sizeOf S) X₁) (take (sizeOf S) L₁)) (numbering-answers : r ≡ answerC 7 P₀ (graphRefusal S N) (outcome c (whole .figures))) (numbering-figures : P ≡ figuresC 7 P₀ runList (outcome c (whole .figures))) (numbering-numbers : X ≡ lentC 7 P₀ X₀ X₁) (numbering-levels : L ≡ lentC 7 P₀ L₀ L₁) (accepts : r ≡ 0) where
+  passed : (short P₀ 7 ≡ false) × (c ≡ 0)
+  passed = zero-answer 7 P₀ (graphRefusal S N) c (whole .figures) (sym numbering-answers ∙ accepts)
 
-  passed : (short P₀ 7 ≡ false) × (runRefusal S N X₀ L₀ T₀ W ≡ 0)
-  unfolding runAnswer
-  passed = zero-answer 7 P₀ (graphRefusal S N) (runRefusal S N X₀ L₀ T₀ W) F (sym run-answers ∙ accepts)
-
-  answer-is : runAnswer S N X₀ L₀ T₀ W ≡ accepted F
-  unfolding runAnswer outcome
+  answer-is : outcome c (whole .figures) ≡ accepted (whole .figures)
+  unfolding outcome
   answer-is = rw (passed .1)
 
-  figures-are : figuresIn P ≡ F
+  figures-are : figuresIn P ≡ whole .figures
   unfolding figuresC written
-  figures-are = rw (run-figures, passed .0, answer-is) (read-back F P₀)
+  figures-are = rw (numbering-figures, passed .0, answer-is) (read-back (whole .figures) P₀)
 
-  run-claim : Claim S N (figuresIn P) (take (sizeOf S) X) (take (sizeOf S) L)
+  numbering-claim : ClaimAs whole result S N (figuresIn P) (take (sizeOf S) X) (take (sizeOf S) L)
   unfolding lentC
-  run-claim = rw (figures-are, run-numbers, run-levels, passed .0) (claim S N X₀ L₀ T₀ W F answer-is)
+  numbering-claim = rw (figures-are, numbering-numbers, numbering-levels, passed .0) (claims (whole .figures) answer-is)
 
   abbrev Y : List ℕ
   Y = take (sizeOf S) X
@@ -80,17 +80,17 @@ module _ (S N X₀ L₀ T₀ W P₀ P X L : List ℕ) {r : ℕ} (run-answers : r
   abbrev h : Graph
   h = renumbered (graphOf S N) Y
 
-  -- the elimination by the run's n numbers, lent C, B and Q₀: it answered s and left Q and B′
+  -- the elimination by its n numbers, lent C, B and Q₀: it answered s and left Q and B′
   module _ (C B B′ Q₀ Q : List ℕ) {s : ℕ} (answers : s ≡ answerC 2 Q₀ (graphRefusal S N) (eliminationAnswer S N Y C B)) (figures : Q ≡ figuresC 2 Q₀ eliminationList (eliminationAnswer S N Y C B)) (bytes : B′ ≡ lentC 2 Q₀ B (eliminationBytes S N Y C B)) where
     abbrev refusal : ℕ
     refusal = refuse (short C (sizeOf S)) 5 orElse refuse (short B ((figuresIn P .profile + 7) / 8)) 8
 
     outcome-is : eliminationAnswer S N Y C B ≡ outcome refusal (eliminationFigures h)
-    outcome-is = run-claim .store .refuses C B
+    outcome-is = numbering-claim .store .refuses C B
 
     refuses : s ≡ (refuse (short Q₀ 2 || short C (sizeOf S)) 5 orElse refuse (short B ((figuresIn P .profile + 7) / 8)) 8)
     unfolding answerC
-    refuses = answers ∙ rw (run-claim .numbered .legal, outcome-is) (late-answer Q₀ refusal (eliminationFigures h) (short Q₀ 2) (short C (sizeOf S)) _ refl refl)
+    refuses = answers ∙ rw (numbering-claim .numbered .legal, outcome-is) (late-answer Q₀ refusal (eliminationFigures h) (short Q₀ 2) (short C (sizeOf S)) _ refl refl)
 
     module _ (zero-is : s ≡ 0) where
       taken : (short Q₀ 2 ≡ false) × (refusal ≡ 0)
@@ -102,11 +102,24 @@ module _ (S N X₀ L₀ T₀ W P₀ P X L : List ℕ) {r : ℕ} (run-answers : r
 
       marks : (t : ℕ) → t < 8 * ((figuresIn P .profile + 7) / 8) → (markAt B′ t ≡ 1) ↔ JoinedPlace h t
       unfolding lentC
-      marks t l = rw (bytes, taken .0) (run-claim .store .marks C B (eliminationFigures h) accepted-is t l)
+      marks t l = rw (bytes, taken .0) (numbering-claim .store .marks C B (eliminationFigures h) accepted-is t l)
 
       counts : Q ≡ overwrite (eliminationList (eliminationFigures h)) Q₀
       unfolding figuresC written
       counts = rw (figures, taken .0, accepted-is)
 
-    pub two-calls : ClaimedC S N P X L C B Q₀ s Q B′
-    two-calls = record { claim = run-claim; refuses = refuses; marks = marks; counts = counts }
+    two-calls : ClaimedCAs whole result S N P X L C B Q₀ s Q B′
+    two-calls = record { claim = numbering-claim; refuses = refuses; marks = marks; counts = counts }
+
+-- ---- of each order: numbers X₀, levels L₀, passes T₀, scratch W and figures P₀ are lent
+
+module _ (S N X₀ L₀ T₀ W P₀ P X L C B B′ Q₀ Q : List ℕ) {r s : ℕ} (accepts : r ≡ 0) (answers : s ≡ answerC 2 Q₀ (graphRefusal S N) (eliminationAnswer S N (take (sizeOf S) X) C B)) (figures : Q ≡ figuresC 2 Q₀ eliminationList (eliminationAnswer S N (take (sizeOf S) X) C B)) (bytes : B′ ≡ lentC 2 Q₀ B (eliminationBytes S N (take (sizeOf S) X) C B)) where
+  pub run-two-calls : r ≡ answerC 7 P₀ (graphRefusal S N) (runAnswer S N X₀ L₀ T₀ W) → P ≡ figuresC 7 P₀ runList (runAnswer S N X₀ L₀ T₀ W)
+      → X ≡ lentC 7 P₀ X₀ (runNumbers S N X₀ L₀ T₀ W) → L ≡ lentC 7 P₀ L₀ (runLevels S N X₀ L₀ T₀ W) → ClaimedC S N P X L C B Q₀ s Q B′
+  unfolding runAnswer
+  run-two-calls a p x l = two-calls (run (graphOf S N)) S N X₀ L₀ P₀ P X L _ _ _ (claim S N X₀ L₀ T₀ W) a p x l accepts C B B′ Q₀ Q answers figures bytes
+
+  pub cuthill-two-calls : r ≡ answerC 7 P₀ (graphRefusal S N) (cuthillAnswer S N X₀ L₀ T₀ W) → P ≡ figuresC 7 P₀ runList (cuthillAnswer S N X₀ L₀ T₀ W)
+      → X ≡ lentC 7 P₀ X₀ (cuthillNumbers S N X₀ L₀ T₀ W) → L ≡ lentC 7 P₀ L₀ (cuthillLevels S N X₀ L₀ T₀ W) → CuthillClaimedC S N P X L C B Q₀ s Q B′
+  unfolding cuthillAnswer
+  cuthill-two-calls a p x l = two-calls (cuthillRun (graphOf S N)) S N X₀ L₀ P₀ P X L _ _ _ (cuthill-claim S N X₀ L₀ T₀ W) a p x l accepts C B B′ Q₀ Q answers figures bytes

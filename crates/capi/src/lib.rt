@@ -1,5 +1,7 @@
-// The C interface: the adjacency test and the calls of document 01 over plain numbers and slices, a slice being a pointer and a length. Each answers 0 or the number of
-// a refusal, and an accepted call writes its figures into a lent list of 64-bit words. Nothing is required of the numbers and the lists.
+// The C interface: the adjacency test, the calls of document 01 and reverse Cuthill-McKee over plain numbers and slices, a slice being a pointer
+// and a length. Each answers 0 or the number of a refusal, and an accepted call writes its figures into a lent list of 64-bit words. Nothing is
+// required of the numbers and the lists.
+mod calls_cuthill;
 mod calls_levels;
 mod calls_mesh;
 mod calls_numbering;

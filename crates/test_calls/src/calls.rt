@@ -138,15 +138,9 @@ fn run_figures(f: RunFigures) {
     );
 }
 
-pub(crate) fn whole_run(
-    starts: &[u16],
-    neighbours: &[u16],
-    numbers: &mut [u16],
-    levels: &mut [u16],
-    passes: &mut [u16],
-    scratch: &mut [u16],
-) {
-    match numbering::run(starts, neighbours, numbers, levels, passes, scratch) {
+// What a numbering call answers.
+fn numbered(answer: RunAnswer) {
+    match answer {
         RunAnswer::Refused(number) => refused(number),
         RunAnswer::Numbered(f) => run_figures(f),
     }
@@ -169,17 +163,9 @@ pub(crate) fn eliminate(
     }
 }
 
-// The run's figures are followed by the elimination's answer.
-pub(crate) fn run_eliminate(
-    starts: &[u16],
-    neighbours: &[u16],
-    numbers: &mut [u16],
-    levels: &mut [u16],
-    passes: &mut [u16],
-    scratch: &mut [u16],
-    bytes: &mut [u8],
-) {
-    match store::run_eliminate(starts, neighbours, numbers, levels, passes, scratch, bytes) {
+// What a numbering call with the elimination after it answers: its figures are followed by the elimination's answer.
+fn eliminated(answer: RunElimination) {
+    match answer {
         RunElimination::Refused(number) => refused(number),
         RunElimination::RunOnly { figures, refusal } => {
             run_figures(figures);
@@ -191,6 +177,49 @@ pub(crate) fn run_eliminate(
             io::write_all(STDOUT_FILENO, b" ");
             elimination_counts(counts);
         }
+    }
+}
+
+// The calls that number, alone or with the elimination after them.
+pub(crate) fn number(
+    call: usize,
+    starts: &[u16],
+    neighbours: &[u16],
+    numbers: &mut [u16],
+    levels: &mut [u16],
+    passes: &mut [u16],
+    scratch: &mut [u16],
+    bytes: &mut [u8],
+) {
+    match call {
+        8 => numbered(numbering::run(starts, neighbours, numbers, levels, passes, scratch)),
+        9 => eliminated(store::run_eliminate(
+            starts,
+            neighbours,
+            numbers,
+            levels,
+            passes,
+            scratch,
+            bytes,
+        )),
+        11 => numbered(numbering::reverse_cuthill_mckee(
+            starts,
+            neighbours,
+            numbers,
+            levels,
+            passes,
+            scratch,
+        )),
+        12 => eliminated(store::cuthill_eliminate(
+            starts,
+            neighbours,
+            numbers,
+            levels,
+            passes,
+            scratch,
+            bytes,
+        )),
+        _ => {}
     }
 }
 

@@ -26,10 +26,17 @@ fn run(
         5 => calls::eliminate(starts, neighbours, given, first, bytes),
         6 => calls::mesh(node, given, first, second, third),
         7 => calls::combined(starts, neighbours, node, first, second),
-        8 => calls::whole_run(starts, neighbours, first, second, third, fourth),
-        9 => calls::run_eliminate(starts, neighbours, first, second, third, fourth, bytes),
         10 => calls::part_report(starts, neighbours, node, first),
-        _ => {}
+        _ => calls::number(
+            call,
+            starts,
+            neighbours,
+            first,
+            second,
+            third,
+            fourth,
+            bytes,
+        ),
     }
 }
 

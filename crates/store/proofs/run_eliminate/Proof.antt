@@ -2,7 +2,7 @@
 -- it ensures. Assumes nothing.
 use borrow.Author.Needs.{needs}
 use denote.Ref.{now}
-use Rattle.spec.specs.CallsNumbering.{runAnswer, runNumbers, runScratch}
+use Rattle.spec.specs.CallsNumbering.{runAnswer, runNumbers}
 use Rattle.spec.specs.CallsStore.{runEliminateAnswer, runEliminateBytes}
 use Rattle.store.proofs.Runs.{room, ended, run-ran}
 use Rattle.store.proofs.run_eliminate.Statement.{statement}
