@@ -212,15 +212,24 @@ def elimination(starts, neighbours, numbering, scratch, mark_bytes):
     return accepted(marks, new)
 
 
-def run_and_eliminate(starts, neighbours, numbers, levels, passes, scratch, mark_bytes):
-    """(run figures, elimination's answer); refused as the run is refused."""
-    run = whole_run(starts, neighbours, numbers, levels, passes, scratch)
-    if run[0] == 'refused':
-        return run
+def and_eliminate(call, starts, neighbours, numbers, levels, passes, scratch, mark_bytes):
+    """(the call's figures, elimination's answer); refused as the call is refused."""
+    answer = call(starts, neighbours, numbers, levels, passes, scratch)
+    if answer[0] == 'refused':
+        return answer
     n = len(starts) - 1
     # "The numbers handed on are the run's n, without the excess of a
-    # longer buffer". The run left all 6n scratch words 0.
-    return accepted(run[1], elimination(starts, neighbours, numbers[:n], scratch, mark_bytes))
+    # longer buffer". The call left all 6n scratch words 0.
+    return accepted(answer[1], elimination(starts, neighbours, numbers[:n], scratch, mark_bytes))
+
+
+def run_and_eliminate(*lists):
+    return and_eliminate(whole_run, *lists)
+
+
+def cuthill_and_eliminate(*lists):
+    # A.3: "The store guarantee has to hold for this order as well"
+    return and_eliminate(reverse_cuthill_mckee, *lists)
 
 
 # Mesh.

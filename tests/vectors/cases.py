@@ -39,6 +39,7 @@ CALLS = {
     'run and eliminate': Call(9, calls.run_and_eliminate, 'starts neighbours', 'first second third fourth bytes'),
     'part report': Call(10, calls.part_report, 'starts neighbours node', 'first'),
     'reverse Cuthill-McKee': Call(11, calls.reverse_cuthill_mckee, 'starts neighbours', 'first second third fourth'),
+    'reverse Cuthill-McKee and eliminate': Call(12, calls.cuthill_and_eliminate, 'starts neighbours', 'first second third fourth bytes'),
 }
 
 # The calls with the run's buffers.
@@ -460,6 +461,20 @@ def cuthill_orders(draw, count):
         yield Case('order', 'reverse Cuthill-McKee', *lists, [], 0, *[size + 1 + draw.below(9) for size in due], 2)
         for at in range(4):
             yield Case('order', 'reverse Cuthill-McKee', *lists, [], 0, *due[:at], due[at] - 1, *due[at + 1:])
+
+
+def cuthill_stores(draw, count):
+    """A.3 and then the elimination: just enough bytes, more, and one less; each of the four lists short; an adjacency that is none."""
+    call = 'reverse Cuthill-McKee and eliminate'
+    fixed = [from_edges(n, edges) for _, n, edges, *_ in cuthill_cases.WORKED_ORDERS] + [from_edges(*shapes.grid(7, 4, True))]
+    for lists in fixed + list(with_names_changed(draw, count)):
+        due, need = run_lengths(lists), run_byte_count(lists, calls.reverse_cuthill_mckee)
+        yield Case('store of an order', call, *lists, [], 0, *due, need)
+        yield Case('store of an order', call, *lists, [], 0, *[size + 1 + draw.below(9) for size in due], need + 2)
+        yield Case('store of an order', call, *lists, [], 0, *due, max(0, need - 1))
+        at = draw.below(4)
+        yield Case('store of an order', call, *lists, [], 0, *due[:at], due[at] - 1, *due[at + 1:], need)
+        yield Case('store of an order', call, *damaged(draw, *lists), [], 0, *due, need)
 
 
 def illegal(draw, count):
