@@ -1,5 +1,5 @@
--- `capi::calls_cuthill::wagonepoch_reverse_cuthill_mckee` meets its contract: the call is `numbering::reverse_cuthill_mckee`, which is not named, so that another in its
--- place is refused by what it ensures. Assumes nothing.
+-- `capi::calls_cuthill::wagonepoch_reverse_cuthill_mckee` meets its contract: the call is `numbering::reverse_cuthill_mckee`, which is not
+-- named, so that another in its place is refused by what it ensures. Assumes nothing.
 use mathlib.Core.Path.{ap, _∙_}
 use Prim.Native.Nat.{ℕ}
 use borrow.Author.Needs.{needs}
