@@ -5,8 +5,6 @@ use mathlib.Core.List.{List}
 use Prim.Native.Nat.{ℕ, _-_, _*_, _≤_}
 use lib.ListN.{length, take}
 use Rattle.spec.specs.CallsCuthill.{cuthillRefusal, cuthillAnswer, cuthillNumbers, cuthillLevels}
-use Rattle.spec.specs.CallsNumbering.{runRefusal}
-use Rattle.spec.specs.Claim.{StoreClaim}
 use Rattle.spec.specs.ClaimCuthill.{bandOf, wideOf, CuthillNumbered, CuthillClaim}
 use Rattle.spec.specs.Cuthill.{cuthillResultBy, cuthillResult, cuthillResults, cuthillRun}
 use Rattle.spec.specs.Ends.{ends}
@@ -16,14 +14,13 @@ use Rattle.spec.specs.Levels.{part}
 use Rattle.spec.specs.Numbering.{Figures}
 use Rattle.laws.specs.Legal.{Node, LegalGraph}
 use Rattle.laws.specs.Results.{AllSound}
-use Rattle.laws.proofs.Claim.{sound-numbered, numbered-claim}
+use Rattle.laws.proofs.Claim.{sound-numbered, run-legal, reported-claim}
 use Rattle.laws.proofs.Cuthill.{rooted-structure, turned-perm, turned-span}
 use Rattle.laws.proofs.CuthillBand.{band-least, band-most}
 use Rattle.laws.proofs.Ends.{ends-of}
-use Rattle.laws.proofs.Lent.{outcome-accepted, filled-front}
-use Rattle.laws.proofs.Numberings.{numbering-length}
+use Rattle.laws.proofs.Lent.{outcome-accepted}
 use Rattle.laws.proofs.Parts.{leaders-in}
-use Rattle.laws.proofs.Refused.{or-else-zero, not-refused}
+use Rattle.laws.proofs.Refused.{not-refused}
 
 -- ---- one part
 
@@ -66,26 +63,15 @@ cuthill-numbered S N legal =
       most = λ z m. part-most G (leaders-in (graphOf S N) z m .0);
     }
 
-module _ (S N X L P W : List ℕ) (ok : cuthillRefusal S N X L P W ≡ 0) where
-  -- what the call accepts is legal
-  pub cuthill-legal : graphRefusal S N ≡ 0
-  unfolding cuthillRefusal runRefusal
-  cuthill-legal = or-else-zero (graphRefusal S N) _ ok .0
-
-  numbers-are : take (sizeOf S) (cuthillNumbers S N X L P W) ≡ cuthillRun (graphOf S N) .numbers
-  unfolding cuthillNumbers
-  numbers-are =
-      filled-front (cuthillRefusal S N X L P W) (sizeOf S) (cuthillRun (graphOf S N) .numbers) X ok
-      (numbering-length (sizeOf S) (cuthillRun (graphOf S N) .numbers) (cuthill-numbered S N cuthill-legal .numbered .numbering))
-
-  levels-are : take (sizeOf S) (cuthillLevels S N X L P W) ≡ cuthillRun (graphOf S N) .levels
-  unfolding cuthillLevels
-  levels-are = filled-front (cuthillRefusal S N X L P W) (sizeOf S) (cuthillRun (graphOf S N) .levels) L ok (cuthill-numbered S N cuthill-legal .numbered .full)
+-- what the call accepts is legal
+pub cuthill-legal : (S N X L P W : List ℕ) → cuthillRefusal S N X L P W ≡ 0 → graphRefusal S N ≡ 0
+unfolding cuthillRefusal
+cuthill-legal S N X L P W ok = run-legal S N X L P W ok
 
 -- "The store guarantee has to hold for this order as well": of the figures, numbers and levels that the call reports
 pub cuthill-claim : (S N X L P W : List ℕ) (F : Figures) → cuthillAnswer S N X L P W ≡ accepted F
     → CuthillClaim S N F (take (sizeOf S) (cuthillNumbers S N X L P W)) (take (sizeOf S) (cuthillLevels S N X L P W))
-unfolding cuthillAnswer
+unfolding cuthillAnswer cuthillNumbers cuthillLevels
 cuthill-claim S N X L P W F e =
     let a = outcome-accepted (cuthillRefusal S N X L P W) (cuthillRun (graphOf S N) .figures) F e in
-    rw (numbers-are S N X L P W (a .0), levels-are S N X L P W (a .0), ← a .1) (numbered-claim (cuthill-numbered S N (cuthill-legal S N X L P W (a .0)) .numbered))
+    rw (← a .1) (reported-claim (cuthill-numbered S N (cuthill-legal S N X L P W (a .0)) .numbered) (cuthillRefusal S N X L P W) (a .0) X L)
