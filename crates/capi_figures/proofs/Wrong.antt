@@ -1,6 +1,6 @@
 -- Demand 3 of the two calls of C (specs/Claimed) is no empty talk: a theorem to a field, which refutes by that field alone what a wrong pair of
 -- calls would report. On the path 1-2-3, whose store has two places, both marked. Assumes nothing.
-use mathlib.Core.Path.{_≡_, refl, sym, ap, _∙_}
+use mathlib.Core.Path.{_≡_, refl, ap}
 use mathlib.Core.List.{List, [], _∷_}
 use Prim.Native.Nat.{ℕ}
 use native.Mathlib.Omega.{arith}

@@ -1,38 +1,37 @@
 -- The order of Cuthill and McKee (document 02, A.3): it is the numbering level by level of the levels rooted at v, where nothing is left over;
 -- those levels are a level structure; and before it is turned every node but the first stands behind a neighbour. Assumes nothing.
-use mathlib.Core.Path.{_≡_, refl, sym, ap, ap₂, _∙_, subst}
-use mathlib.Core.Logic.{_⊎_, inl, inr, ⊎-elim}
-use mathlib.Core.Bool.{Bool, true, false, not, _&&_}
+use mathlib.Core.Path.{_≡_, refl, sym, ap, _∙_, subst}
+use mathlib.Core.Logic.{_⊎_, ⊎-elim}
+use mathlib.Core.Bool.{true, not, _&&_}
 use mathlib.Core.List.{List, [], _∷_, _++_, foldl, reverse, append-nil}
 use Prim.Native.Nat.{ℕ, zero, suc, _+_, _-_, _*_, _≤_, _<_}
 use native.Mathlib.Omega.{arith}
 use lib.ListN.{length, getD}
 use lib.Dec.{eqb}
-use borrow.Author.Tests.{eqb-true, not-true}
-use Rattle.basis.specs.Lists.{filterb, countb, memb, upFrom, position}
+use borrow.Author.Tests.{eqb-true}
+use Rattle.basis.specs.Lists.{filterb, memb, upFrom, position}
 use Rattle.basis.specs.Perm.{Once, Perm}
 use Rattle.basis.proofs.Count.{count-some, count-none, memb-times, times-memb}
 use Rattle.basis.proofs.Index.{memb-getD, position-hit, once-index}
 use Rattle.basis.proofs.Lists.{memb-here, memb-append, filter-make}
 use Rattle.basis.proofs.Logic.{which, clash, and-make, or-left, or-right, lt-or-le}
-use Rattle.basis.proofs.Perm.{perm-memb, perm-length}
+use Rattle.basis.proofs.Perm.{perm-memb}
 use Rattle.spec.specs.Combined.{widthOf}
 use Rattle.spec.specs.Cuthill.{cuthillMcKee}
-use Rattle.spec.specs.Ends.{Ends, depthAt, ends}
-use Rattle.spec.specs.Graph.{Graph, nodes, adjoins, ofNode}
-use Rattle.spec.specs.Levels.{levels, levelOf, levelList, part, depth, Neighbouring}
+use Rattle.spec.specs.Ends.{Ends, depthAt}
+use Rattle.spec.specs.Graph.{Graph, adjoins, ofNode}
+use Rattle.spec.specs.Levels.{levels, levelOf, levelList, part}
 use Rattle.spec.specs.Numbering.{levelNodes, unnumberedBy, nextWithin, within, fromBefore, laterLevel, forwardOrder}
 use Rattle.laws.specs.Legal.{Node, LegalGraph}
 use Rattle.laws.specs.Order.{Fresh, leftIn, InLevels, no-level, next-level, Spans}
 use Rattle.laws.specs.Structure.{EndsOf, LevelStructure}
 use Rattle.laws.proofs.Combined.{out-level}
-use Rattle.laws.proofs.Ends.{ends-of}
 use Rattle.laws.proofs.Figures.{length-levelList}
-use Rattle.laws.proofs.Legal.{node-in, edge-node}
+use Rattle.laws.proofs.Legal.{edge-node}
 use Rattle.laws.proofs.LevelOrder.{fresh-next, first-filled}
 use Rattle.laws.proofs.Levels.{level-most, rooted, occupied, levelList-at, part-node, part-level, level-part, part-same, part-on}
 use Rattle.laws.proofs.Orders.{perm-sortE}
-use Rattle.laws.proofs.PartOrder.{level-in, level-make, level-once, levels-in, later, apart-next, forward-is, forward-perm, reverse-perm, forward-span, reverse-span}
+use Rattle.laws.proofs.PartOrder.{level-in, level-make, level-once, later, apart-next, forward-is, forward-perm, reverse-perm, reverse-span}
 use Rattle.laws.proofs.Parts.{part-once}
 use Rattle.laws.proofs.Rooted.{near}
 

@@ -1,13 +1,13 @@
 -- The band of Cuthill and McKee's order (document 02, A.3): for a part of two or more nodes the bandwidth is at least the width w of the levels
 -- rooted at v, turned or not; and it is at most 2 w − 1. Assumes nothing.
-use mathlib.Core.Path.{_≡_, refl, sym, ap, ap₂, _∙_, subst}
+use mathlib.Core.Path.{_≡_, sym, ap, ap₂, _∙_, subst}
 use mathlib.Core.Logic.{⊎-elim}
 use mathlib.Core.Bool.{true}
 use mathlib.Core.List.{List, reverse}
-use Prim.Native.Nat.{ℕ, zero, suc, _+_, _-_, _*_, _≤_, _<_}
+use Prim.Native.Nat.{ℕ, suc, _+_, _-_, _*_, _≤_, _<_}
 use native.Mathlib.Omega.{arith}
 use lib.ListN.{length, getD, length-reverse}
-use Rattle.basis.specs.Lists.{memb, upFrom, position}
+use Rattle.basis.specs.Lists.{upFrom, position}
 use Rattle.basis.proofs.Count.{count-length}
 use Rattle.basis.proofs.Index.{getD-reverse, position-hit, greatest-met}
 use Rattle.basis.proofs.Lists.{upFrom-in, upFrom-make}

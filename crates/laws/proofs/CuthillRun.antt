@@ -7,7 +7,6 @@ use lib.ListN.{length, take}
 use Rattle.spec.specs.CallsCuthill.{cuthillRefusal, cuthillAnswer, cuthillNumbers, cuthillLevels}
 use Rattle.spec.specs.ClaimCuthill.{bandOf, wideOf, CuthillNumbered, CuthillClaim}
 use Rattle.spec.specs.Cuthill.{cuthillResultBy, cuthillResult, cuthillResults, cuthillRun}
-use Rattle.spec.specs.Ends.{ends}
 use Rattle.spec.specs.Graph.{Graph, sizeOf, graphOf, graphRefusal}
 use Rattle.spec.specs.Lent.{accepted}
 use Rattle.spec.specs.Levels.{part}

@@ -1,7 +1,7 @@
 -- What the laws of the whole ask of the result of a part, whichever order it is of. Assumes nothing.
 use mathlib.Core.Path.{_≡_}
 use mathlib.Core.Bool.{true}
-use mathlib.Core.List.{List, map}
+use mathlib.Core.List.{map}
 use Prim.Native.Nat.{ℕ, _*_, _≤_}
 use Rattle.basis.specs.Lists.{memb}
 use Rattle.basis.specs.Perm.{Perm}
