@@ -1,21 +1,18 @@
--- What is found of a part is sound in either order, and the calls of the two orders are those of the definitions. Assumes nothing.
-use mathlib.Core.Path.{_≡_, refl, sym, ap, _∙_}
+-- What is found of a part is sound in either order. Assumes nothing.
+use mathlib.Core.Path.{_≡_, sym, ap, _∙_}
 use mathlib.Core.List.{List}
 use Prim.Native.Nat.{ℕ}
-use Rattle.spec.specs.CallsCuthill.{cuthillRefusal, cuthillAnswer, cuthillNumbers, cuthillLevels, cuthillPasses, cuthillScratch}
-use Rattle.spec.specs.CallsNumbering.{runAnswer, runNumbers, runLevels, runPasses, runScratch}
-use Rattle.spec.specs.Claim.{Numbered}
 use Rattle.spec.specs.ClaimCuthill.{CuthillNumbered}
 use Rattle.spec.specs.Cuthill.{cuthillResults, cuthillRun}
 use Rattle.spec.specs.Graph.{Graph}
-use Rattle.spec.specs.Numbering.{Figures, partResults, run}
+use Rattle.spec.specs.Numbering.{Figures}
 use Rattle.laws.specs.Legal.{LegalGraph}
 use Rattle.laws.specs.Results.{AllSound}
 use Rattle.laws.proofs.CuthillRun.{cuthill-sound, cuthill-numbered}
 use Rattle.laws.proofs.Whole.{part-sound}
 use Rattle.numbering_part.specs.Part.{newNumbers, newLevels, partFiguresOf}
 use Rattle.numbering_part.specs.declared.shape.PartFigures.{PartFigures}
-use Rattle.numbering.specs.Orders.{resultOf, answerIn, numbersIn, levelsIn, passesIn, NumberedIn}
+use Rattle.numbering.specs.Orders.{resultOf, NumberedIn}
 use Rattle.numbering.specs.declared.order.Order.{Order}
 use Rattle.numbering.specs.declared.order.Order.the-variants.{GibbsPooleStockmeyer, ReverseCuthillMcKee}
 
@@ -40,51 +37,7 @@ found-told g z a X L e c = (
   ),
 )
 
-module _ (S N X L P W : List ℕ) where
-  -- ---- the run
-
-  pub run-answers : answerIn GibbsPooleStockmeyer S N X L P W ≡ runAnswer S N X L P W
-  unfolding runAnswer run partResults
-  run-answers = refl
-
-  pub run-numbers : numbersIn GibbsPooleStockmeyer S N X L P W ≡ runNumbers S N X L P W
-  unfolding runNumbers run partResults
-  run-numbers = refl
-
-  pub run-levels : levelsIn GibbsPooleStockmeyer S N X L P W ≡ runLevels S N X L P W
-  unfolding runLevels run partResults
-  run-levels = refl
-
-  pub run-passes : passesIn GibbsPooleStockmeyer S N X L P W ≡ runPasses S N X L P W
-  unfolding runPasses run partResults
-  run-passes = refl
-
-  -- ---- A.3's call
-
-  pub cuthill-answers : answerIn ReverseCuthillMcKee S N X L P W ≡ cuthillAnswer S N X L P W
-  unfolding cuthillAnswer cuthillRefusal cuthillRun cuthillResults
-  cuthill-answers = refl
-
-  pub cuthill-numbers : numbersIn ReverseCuthillMcKee S N X L P W ≡ cuthillNumbers S N X L P W
-  unfolding cuthillNumbers cuthillRefusal cuthillRun cuthillResults
-  cuthill-numbers = refl
-
-  pub cuthill-levels : levelsIn ReverseCuthillMcKee S N X L P W ≡ cuthillLevels S N X L P W
-  unfolding cuthillLevels cuthillRefusal cuthillRun cuthillResults
-  cuthill-levels = refl
-
-  pub cuthill-passes : passesIn ReverseCuthillMcKee S N X L P W ≡ cuthillPasses S N X L P W
-  unfolding cuthillPasses cuthillRefusal cuthillRun cuthillResults
-  cuthill-passes = refl
-
-  pub cuthill-scratch : runScratch S N X L P W ≡ cuthillScratch S N X L P W
-  unfolding cuthillScratch
-  cuthill-scratch = refl
-
--- what a library above rests on
-pub run-numbered : {S N : List ℕ} {F : Figures} {X L : List ℕ} → NumberedIn GibbsPooleStockmeyer S N F X L → Numbered S N F X L
-unfolding run partResults
-run-numbered M = M
+-- ---- what a library above rests on, after A.3's call
 
 pub call-numbered : {S N : List ℕ} {F : Figures} {X L : List ℕ} → NumberedIn ReverseCuthillMcKee S N F X L → CuthillNumbered S N F X L
 unfolding cuthillRun cuthillResults

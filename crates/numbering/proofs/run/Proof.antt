@@ -1,8 +1,7 @@
 -- `numbering::run` meets its contract: the run is the numbering in its order. Assumes nothing.
-use mathlib.Core.Path.{_∙_}
 use borrow.Author.Needs.{needs}
-use denote.Ref.{now}
-use Rattle.numbering.proofs.Orders.{run-answers, run-numbers, run-levels, run-passes, run-numbered}
+use Rattle.spec.specs.CallsNumbering.{runAnswer, runNumbers, runLevels, runPasses}
+use Rattle.spec.specs.Numbering.{partResults, run}
 use Rattle.numbering.proofs.run.Statement.{statement}
 use Rattle.numbering.proofs.run.Tie as tie
 
@@ -10,40 +9,23 @@ number-requires : tie.Need-number-requires
 number-requires c κs = search needs
 
 same-length : tie.Need-same-length
-same-length c = search needs
+same-length c = let done = c .before .before .before .before in done .before .before .before .numbers .given
 
 same-length-2 : tie.Need-same-length-2
-same-length-2 c = search needs
+same-length-2 c = c .before .before .before .before .before .levels .given
 
 same-length-3 : tie.Need-same-length-3
-same-length-3 c = search needs
+same-length-3 c = c .before .before .before .passes .given
 
 same-length-4 : tie.Need-same-length-4
-same-length-4 c = search needs
+same-length-4 c = c .before .scratch .given
 
 returns : tie.Need-returns
+unfolding runAnswer runNumbers runLevels runPasses run partResults
 returns c =
     let done = c .before .before .before .before in
     let ran = done .before .before .before .before in
-    let lent = ran .before .before .before .before .before in
-    let known = lent .before .before .before .before in
-    let s = known .before .before in
-    let S = now (s .args .starts) in
-    let N = now (s .args .neighbours) in
-    let X = now (s .args .numbers) in
-    let L = now (s .args .levels) in
-    let P = now (s .args .passes) in
-    let W = now (s .args .scratch) in
-    let f = ran .number .ensures in (
-      f .0 ∙ run-answers S N X L P W,
-      (
-        f .1 .0 ∙ run-numbers S N X L P W,
-        (
-          f .1 .1 .0 ∙ run-levels S N X L P W,
-          (f .1 .1 .1 .0 ∙ run-passes S N X L P W, (f .1 .1 .1 .1 .0, λ F e. run-numbered (f .1 .1 .1 .1 .1 F e))),
-        ),
-      ),
-    )
+    ran .number .ensures
 
 pub run-spec : {M : Type 1} → statement M
 run-spec = tie.close (tie.spec number-requires same-length same-length-2 same-length-3 same-length-4 returns)
