@@ -148,9 +148,9 @@ pub record ClaimAs (whole : Run) (result : ℕ → PartResult) (S N : List ℕ) 
 abbrev pub Claim : List ℕ → List ℕ → Figures → List ℕ → List ℕ → Type 0
 Claim S N F X L = ClaimAs (run (graphOf S N)) (partResult (graphOf S N)) S N F X L
 
--- ---- the two calls, a numbering call and then the elimination: F is what the first answered, X and L its numbers and levels at exit; scratch C and mark
--- bytes B are lent to the elimination, E is what it answered and B′ its bytes at exit. "The numbers handed on are the run's n, without the excess
--- of a longer buffer, and nobody writes them or the two lists between the calls."
+-- ---- the two calls, a numbering call and then the elimination: F is what the first answered, X and L its numbers and levels at exit; scratch C
+-- and mark bytes B are lent to the elimination, E is what it answered and B′ its bytes at exit. "The numbers handed on are the run's n, without
+-- the excess of a longer buffer, and nobody writes them or the two lists between the calls."
 
 pub record ClaimedAs (whole : Run) (result : ℕ → PartResult) (S N : List ℕ) (F : Figures) (X L C B : List ℕ) (E : Outcome EliminationFigures) (B′ : List ℕ) : Type 0 where
   -- rules out: a run of which another run's figures are reported

@@ -31,10 +31,10 @@ pub record CuthillNumbered (S N : List ℕ) (F : Figures) (X L : List ℕ) : Typ
   -- rules out: a start at u, a part that is not turned, combined levels handed back
   pub numbered : NumberedAs (cuthillRun (graphOf S N)) (cuthillResult (graphOf S N)) S N F X L
   -- "For a part of two or more nodes its bandwidth is at least the width w of those levels"
-  -- rules out: a part that is numbered across its levels
+  -- a fact of the definitions, which `numbered` ties to F, X and L; so it rules out no report by itself
   pub least : (z : ℕ) → memb z (leaders (graphOf S N)) ≡ true → 2 ≤ length (part (graphOf S N) z) → wideOf (graphOf S N) z ≤ bandOf (graphOf S N) z
   -- "and at most 2w less 1"
-  -- rules out: an order that does not go level by level
+  -- a fact of the definitions as well
   pub most : (z : ℕ) → memb z (leaders (graphOf S N)) ≡ true → bandOf (graphOf S N) z ≤ 2 * wideOf (graphOf S N) z - 1
 
 -- "The store guarantee has to hold for this order as well"
