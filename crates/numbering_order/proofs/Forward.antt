@@ -12,7 +12,7 @@ use lib.Dec.{eqb}
 use borrow.Author.Tests.{eqb-true}
 use Rattle.basis.specs.Lists.{filterb, memb, upFrom, overwrite}
 use Rattle.basis.proofs.Count.{bit-one, bit-none, memb-times, times-memb}
-use Rattle.basis.proofs.Lists.{memb-append, memb-drop, memb-here, filter-none, filter-append}
+use Rattle.basis.proofs.Lists.{memb-append, memb-drop, memb-here, memb-one, filter-none, filter-append}
 use Rattle.basis.proofs.Logic.{by-test, clash, fails, or-split, or-right}
 use Rattle.basis.proofs.Perm.{perm-memb}
 use Rattle.spec.specs.Graph.{Graph, nodes, graphOf, graphRefusal, sizeOf, ofNode}
@@ -31,7 +31,7 @@ use Rattle.numbering_order.proofs.Stack.{standing-far}
 use Rattle.numbering_order.proofs.Level.{push-walk, standing-on, levels-on}
 use Rattle.numbering_order.proofs.Wipe.{marks-none}
 
-filter-every : (t : ℕ → Bool) (l : List ℕ) → ((x : ℕ) → memb x l ≡ true → t x ≡ true) → filterb t l ≡ l
+pub filter-every : (t : ℕ → Bool) (l : List ℕ) → ((x : ℕ) → memb x l ≡ true → t x ≡ true) → filterb t l ≡ l
 filter-every t [] h = refl
 filter-every t (x ∷ l) h = rw (h x (memb-here x l)) (ap (λ (k : List ℕ). x ∷ k) (filter-every t l (λ y m. h y (or-right (eqb y x) m))))
 
@@ -40,26 +40,32 @@ module _ (g : Graph) (ls : List ℕ) where
   filled-at : (i : ℕ) {pre o : List ℕ} (F : Filled pre (levelNodes g ls i) o) (x : ℕ) → memb x (F .cur) ≡ true → Node g x × (ofNode ls x ≡ i)
   filled-at i F x m = level-in g ls i x (sym (perm-memb (F .perm) x) ∙ m)
 
-  -- a level is filled behind pre, whose levels are lower
-  levelled-by : (i : ℕ) (pre o : List ℕ) → 1 ≤ i → ((x : ℕ) → memb x pre ≡ true → (1 ≤ ofNode ls x) × (ofNode ls x < i)) → Filled pre (levelNodes g ls i) o
-      → Levelled g ls (suc i) (length pre) o
-  levelled-by i pre o h low F =
+  -- nodes of level i stand behind pre, whose levels are lower
+  levelled-by : (i : ℕ) (pre cur : List ℕ) → 1 ≤ i → ((x : ℕ) → memb x pre ≡ true → (1 ≤ ofNode ls x) × (ofNode ls x < i))
+      → ((x : ℕ) → memb x cur ≡ true → memb x (levelNodes g ls i) ≡ true) → Levelled g ls (suc i) (length pre) (pre ++ cur)
+  levelled-by i pre cur h low here =
       let back : suc i - 1 ≡ i = omega arith in record {
         some = omega arith;
-        inside = omega (arith, ap length (F .is), length-append pre (F .cur));
-        low = λ x m. ⊎-elim (λ a. low x a .0) (λ a. omega (arith, filled-at i F x a .1)) (cases x m);
-        below = λ x m. ⊎-elim (λ a. omega (arith, low x a .1)) (λ a. omega (arith, filled-at i F x a .1)) (cases x m);
+        inside = omega (arith, length-append pre cur);
+        low = λ x m. ⊎-elim (λ a. low x a .0) (λ a. omega (arith, level-in g ls i x (here x a) .1)) (cases x m);
+        below = λ x m. ⊎-elim (λ a. omega (arith, low x a .1)) (λ a. omega (arith, level-in g ls i x (here x a) .1)) (cases x m);
         last =
-            rw (back, F .is)
-            (filter-append (λ w. memb w (levelNodes g ls i)) pre (F .cur)
+            rw back
+            (filter-append (λ w. memb w (levelNodes g ls i)) pre cur
             ∙ ap₂ _++_
             (filter-none (λ w. memb w (levelNodes g ls i)) pre (λ x m. fails _ (λ b. omega (arith, low x m .1, level-in g ls i x b .1))))
-            (filter-every (λ w. memb w (levelNodes g ls i)) (F .cur) (λ x m. sym (perm-memb (F .perm) x) ∙ m))
-            ∙ sym (drop-at pre (F .cur) (length pre) refl));
+            (filter-every (λ w. memb w (levelNodes g ls i)) cur here)
+            ∙ sym (drop-at pre cur (length pre) refl));
       }
     where
-      cases : (x : ℕ) → memb x o ≡ true → (memb x pre ≡ true) ⊎ (memb x (F .cur) ≡ true)
-      cases x m = or-split (memb x pre) (memb x (F .cur)) (sym (memb-append x pre (F .cur)) ∙ ap (memb x) (sym (F .is)) ∙ m)
+      cases : (x : ℕ) → memb x (pre ++ cur) ≡ true → (memb x pre ≡ true) ⊎ (memb x cur ≡ true)
+      cases x m = or-split (memb x pre) (memb x cur) (sym (memb-append x pre cur) ∙ m)
+
+  -- v alone
+  pub levelled-one : (v : ℕ) → memb v (levelNodes g ls 1) ≡ true → Levelled g ls 2 0 (v ∷ [])
+  levelled-one v k =
+      levelled-by 1 [] (v ∷ []) (omega arith) (λ x m. clash m refl)
+      (λ x m. ap (λ (y : ℕ). memb y (levelNodes g ls 1)) (eqb-true x v (sym (memb-one x v) ∙ m)) ∙ k)
 
   -- the first level
   pub begun-first : (v : ℕ) → memb v (levelNodes g ls 1) ≡ true → Begun g ls 1 0 (v ∷ [])
@@ -73,7 +79,9 @@ module _ (g : Graph) (ls : List ℕ) where
   }
 
   pub levelled-first : (v : ℕ) → memb v (levelNodes g ls 1) ≡ true → Levelled g ls 2 0 (filledIn g ls 1 (v ∷ []))
-  levelled-first v k = levelled-by 1 [] (filledIn g ls 1 (v ∷ [])) (omega arith) (λ x m. clash m refl) (first-filled g (levelNodes g ls 1) v k (level-once g ls 1))
+  levelled-first v k =
+      let F = first-filled g (levelNodes g ls 1) v k (level-once g ls 1) in
+      rw (F .is) (levelled-by 1 [] (F .cur) (omega arith) (λ x m. clash m refl) (λ x m. sym (perm-memb (F .perm) x) ∙ m))
 
   pub first-listed : {n : ℕ} → n ≡ g .size → (v : ℕ) → memb v (levelNodes g ls 1) ≡ true → Listed n (filledIn g ls 1 (v ∷ []))
   first-listed q v k =
@@ -89,7 +97,9 @@ module _ (g : Graph) (ls : List ℕ) where
     filled = later-filled g (levelNodes g ls i) o (level-once g ls i) apart (levelNodes g ls (i - 1))
 
     pub levelled-next : Levelled g ls (suc i) (length o) (laterIn g ls o i)
-    levelled-next = levelled-by i o (laterIn g ls o i) (I .some) (λ x m. (I .low x m, I .below x m)) filled
+    levelled-next =
+        let F = filled in
+        rw (F .is) (levelled-by i o (F .cur) (I .some) (λ x m. (I .low x m, I .below x m)) (λ x m. sym (perm-memb (F .perm) x) ∙ m))
 
     pub later-listed : {n : ℕ} → n ≡ g .size → Listed n o → Listed n (laterIn g ls o i)
     later-listed q A =
@@ -108,6 +118,12 @@ module _ (g : Graph) (ls : List ℕ) where
     grown =
         from-grown g (levelNodes g ls i) o (filterb (λ w. memb w (levelNodes g ls (i - 1))) o) o
         (record { cur = []; is = sym (append-nil o); few = λ x. omega arith })
+
+    cur-in : (x : ℕ) → memb x (grown .cur) ≡ true → memb x (levelNodes g ls i) ≡ true
+    cur-in x m = times-memb x (levelNodes g ls i) (omega (arith, grown .few x, memb-times x (grown .cur) m))
+
+    pub levelled-before : Levelled g ls (suc i) (length o) (fromBefore g (levelNodes g ls (i - 1)) (levelNodes g ls i) o)
+    levelled-before = rw (grown .is) (levelled-by i o (grown .cur) (I .some) (λ x m. (I .low x m, I .below x m)) cur-in)
 
     pub begun-later : {b : ℕ} → b ≡ length o → Begun g ls i b (fromBefore g (levelNodes g ls (i - 1)) (levelNodes g ls i) o)
     begun-later {b} q =
@@ -128,9 +144,6 @@ module _ (g : Graph) (ls : List ℕ) where
         (listed-append A
         (record { once = λ x. omega (arith, grown .few x, level-once g ls i x); inside = λ z m. let X = level-in g ls i z (cur-in z m) .0 in (X .low, rw q (X .high)) })
         (λ x m. apart x (cur-in x m)))
-      where
-        cur-in : (x : ℕ) → memb x (grown .cur) ≡ true → memb x (levelNodes g ls i) ≡ true
-        cur-in x m = times-memb x (levelNodes g ls i) (omega (arith, grown .few x, memb-times x (grown .cur) m))
 
 -- ---- in the words
 

@@ -9,3 +9,4 @@ pub mod Wipe
 pub mod Forward
 pub mod Whole
 pub mod Callers
+pub mod Rooting

@@ -34,7 +34,7 @@ fn is_free(work: &[u16], at: usize, q: usize, i: u16) -> bool
 }
 
 // The node z gets the next number.
-fn push(work: &mut [u16], n: usize, t: usize, z: u16)
+pub(crate) fn push(work: &mut [u16], n: usize, t: usize, z: u16)
     requires { ⌜ Open n t (now work) ⌝ }
     requires { ⌜ (1 ≤ z) × (z ≤ n) ⌝ }
     requires { ⌜ memb z (orderIn n t (now work)) ≡ false ⌝ }
@@ -113,7 +113,7 @@ fn extend(
 }
 
 // "for the nodes of the level before, by number": those that stand in the order from a up to b, not including b, where it ends.
-fn from_before(
+pub(crate) fn from_before(
     starts: &[u16],
     neighbours: &[u16],
     work: &mut [u16],
@@ -247,7 +247,7 @@ fn level(
 }
 
 // Sets the marks of the t nodes of the order to 0 again.
-fn wipe(work: &mut [u16], n: usize, t: usize)
+pub(crate) fn wipe(work: &mut [u16], n: usize, t: usize)
     requires { ⌜ Open n t (now work) ⌝ }
     ensures { λ _. ⌜ left work ≡ replicate n 0 ++ drop n (was work) ⌝ }
 {

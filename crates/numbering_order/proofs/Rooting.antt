@@ -1,0 +1,154 @@
+-- The order level after level, each level from the level before alone. Assumes nothing.
+use mathlib.Core.Path.{_≡_, refl, sym, ap, _∙_}
+use mathlib.Core.Bool.{true}
+use mathlib.Core.List.{List, [], _∷_, _++_, foldl}
+use Prim.Native.Nat.{ℕ, zero, suc, _+_, _-_, _≤_, _<_}
+use native.Mathlib.Omega.{arith}
+use native.Mathlib.Numerals.{add-one}
+use lib.ListN.{length, take, drop, replicate, length-drop}
+use lib.Seq.{length-take-le, getD-take}
+use Rattle.basis.specs.Lists.{filterb, memb, upFrom, overwrite}
+use Rattle.basis.proofs.Lists.{memb-drop}
+use Rattle.basis.proofs.Logic.{clash}
+use Rattle.spec.specs.Graph.{Graph, nodes, graphOf, graphRefusal, sizeOf, ofNode}
+use Rattle.spec.specs.Numbering.{levelNodes, unnumberedBy, fromBefore}
+use Rattle.laws.specs.Legal.{Node, LegalGraph, Closed}
+use Rattle.laws.proofs.Legal.{node-in, in-nodes, ofNode-at}
+use Rattle.laws.proofs.PartOrder.{level-make}
+use Rattle.laws.proofs.Refused.{not-refused}
+use Rattle.levels_sort.specs.Nodes.{Nodes}
+use Rattle.numbering_order.specs.Model.{stand, orderIn, Listed, Open, Became, Far, foundBy, addBy, ownLevels, Levelled}
+use Rattle.numbering_order.specs.Root.{levelsFrom, beforeIn, beforesIn, rootOrder, Rooted}
+use Rattle.numbering_order.proofs.Stand.{at-order, at-next, at-became, stand-behind, listed-none, listed-one}
+use Rattle.numbering_order.proofs.Walk.{Walk, walk-begin, walk-levels}
+use Rattle.numbering_order.proofs.Part.{found-same, fold-same}
+use Rattle.numbering_order.proofs.Level.{push-walk}
+use Rattle.numbering_order.proofs.Wipe.{marks-none}
+use Rattle.numbering_order.proofs.Forward.{filter-every, levelled-one, levelled-before, before-listed, before-longer}
+use Rattle.numbering_order.proofs.Callers.{own-is}
+
+-- ---- what is found along rows by the levels of all nodes: these are a part like any other
+
+module _ {g : Graph} (G : LegalGraph g) {n : ℕ} (sized : n ≡ g .size) (L : List ℕ) (wide : n ≤ length L) where
+  closed : Closed g (nodes g)
+  closed = record { on = λ x y m a. in-nodes g y (G .inside x y a) }
+
+  own : ownLevels g (nodes g) L ≡ take n L
+  own = own-is g (nodes g) L (take n L) (length-take-le n L wide ∙ sized) same (λ q X o. clash (in-nodes g q X) o)
+    where
+      same : (q : ℕ) → memb q (nodes g) ≡ true → ofNode L q ≡ ofNode (take n L) q
+      same q m =
+          let X = node-in g q m in
+          ofNode-at L q (X .low) ∙ sym (getD-take n L (q - 1) 0 (omega (arith, X .low, X .high, sized))) ∙ sym (ofNode-at (take n L) q (X .low))
+
+  found-here : (i : ℕ) → 1 ≤ i → (o : List ℕ) (w : ℕ) → Node g w → foundBy g L i o w ≡ unnumberedBy g (levelNodes g (take n L) i) o w
+  found-here i some o w X =
+      found-same G (nodes g) L (sym (filter-every (λ q. memb q (nodes g)) (nodes g) (λ x m. m))) closed i some o w (in-nodes g w X)
+      ∙ ap (λ (l : List ℕ). unnumberedBy g (levelNodes g l i) o w) own
+
+  -- the nodes from a on are those of the level before
+  before-same : {i a : ℕ} {o : List ℕ} → Levelled g (take n L) i a o → Nodes n o → foldl (addBy (foundBy g L i)) o (drop a o) ≡ beforeIn g (take n L) o i
+  unfolding fromBefore
+  before-same {i} {a} {o} D inside =
+      fold-same (foundBy g L i) (unnumberedBy g (levelNodes g (take n L) i)) (drop a o) o
+      (λ p w k. let r = inside w (memb-drop w a o k) in found-here i (D .some) p w (record { low = r .0; high = omega (arith, r .1, sized) }))
+      ∙ ap (foldl (addBy (unnumberedBy g (levelNodes g (take n L) i))) o) (sym (D .last))
+
+-- ---- level after level
+
+-- the levels up to i are numbered
+pub record Rooting (S N : List ℕ) (n at : ℕ) (W₀ : List ℕ) (k : ℕ) (W : List ℕ) (a b i : ℕ) : Type 0 where
+  pub order : List ℕ
+  pub walk : Walk S N n at W₀ order W b
+  pub levelled : Levelled (graphOf S N) (levelsFrom at n W₀) (suc i) a order
+  pub goes : foldl (beforeIn (graphOf S N) (levelsFrom at n W₀)) order (upFrom (suc i) (k - i)) ≡ beforesIn (graphOf S N) (levelsFrom at n W₀) k (orderIn n 1 W₀)
+
+pub rooting-begin : {S N : List ℕ} {n at k : ℕ} {W : List ℕ} → graphRefusal S N ≡ 0 → n ≡ sizeOf S → Open n 1 W → Far n at W
+    → Levelled (graphOf S N) (levelsFrom at n W) 2 0 (orderIn n 1 W) → Rooting S N n at W k W 0 1 1
+rooting-begin ok q O F D = record { order = _; walk = walk-begin ok q O F; levelled = D; goes = refl }
+
+module _ {S N : List ℕ} {n at : ℕ} {W₀ : List ℕ} {k : ℕ} {W : List ℕ} {a b i : ℕ} (I : Rooting S N n at W₀ k W a b i) where
+  pub rooting-inside : a ≤ b
+  rooting-inside = omega (arith, I .levelled .inside, I .walk .now .count)
+
+  pub rooting-step : i < k → {e : ℕ} {W′ : List ℕ} → length W′ ≡ length W
+      → Became n W (foldl (addBy (foundBy (graphOf S N) (drop at W) (i + 1))) (orderIn n b W) (drop a (orderIn n b W))) e W′ → Rooting S N n at W₀ k W′ b e (i + 1)
+  rooting-step h {e} {W′} s X =
+      let g : Graph = graphOf S N in
+      let ls : List ℕ = levelsFrom at n W₀ in
+      let K = I .walk in
+      let c : k - i ≡ suc (k - suc i) = omega arith in
+      let wide : n ≤ length (drop at W₀) = omega (arith, length-drop at W₀, K .behind .held) in
+      let same = before-same (not-refused S N (K .ok)) (K .sized) (drop at W₀) wide (I .levelled) (K .now .listed .inside) in
+      rw (add-one i) (record {
+        order = beforeIn g ls (I .order) (suc i);
+        walk = record {
+          ok = K .ok;
+          sized = K .sized;
+          now =
+              at-next (K .now) (before-listed g ls (I .levelled) (K .sized) (K .now .listed)) (before-longer g ls (I .levelled))
+              (rw (walk-levels K, at-order (K .now), add-one i, same) at X);
+          behind = K .behind;
+          room = K .room;
+          size = s ∙ K .size;
+        };
+        levelled = rw (K .now .count) (levelled-before g ls (I .levelled));
+        goes = ap (λ (d : ℕ). foldl (beforeIn g ls) (I .order) (upFrom (suc i) d)) (sym c) ∙ I .goes;
+      })
+
+  pub rooting-done : k ≤ i → Became n W₀ (beforesIn (graphOf S N) (levelsFrom at n W₀) k (orderIn n 1 W₀)) b W
+  rooting-done h = let c : k - i ≡ 0 = omega arith in rw (← I .goes, c) (at-became (I .walk .now))
+
+-- the levels from level i on, on lists
+befores-listed : (g : Graph) (ls : List ℕ) {n : ℕ} → n ≡ g .size → (m i a : ℕ) (o : List ℕ) → Levelled g ls i a o → Listed n o
+    → Listed n (foldl (beforeIn g ls) o (upFrom i m)) × (length o ≤ length (foldl (beforeIn g ls) o (upFrom i m)))
+befores-listed g ls q zero i a o D A = (A, omega arith)
+befores-listed g ls q (suc m) i a o D A =
+    let r = befores-listed g ls q m (suc i) (length o) (beforeIn g ls o i) (levelled-before g ls D) (before-listed g ls D q A) in
+    (r .0, omega (arith, r .1, before-longer g ls D))
+
+-- ---- the whole order
+
+module _ (S N : List ℕ) {n at v : ℕ} {W : List ℕ} (ok : graphRefusal S N ≡ 0) (sized : n ≡ sizeOf S) (R : Rooted (graphOf S N) n at v W) where
+  -- no node is numbered yet
+  pub root-open : Open n 0 W
+  root-open = record {
+    marked = R .zeros ∙ sym (marks-none n);
+    listed = listed-none n;
+    fits = omega arith;
+    room = omega (arith, R .far .behind, R .far .held);
+  }
+
+  pub root-range : (1 ≤ v) × (v ≤ n)
+  root-range = (R .node .low, rw sized (R .node .high))
+
+  root-first : Levelled (graphOf S N) (levelsFrom at n W) 2 0 (v ∷ [])
+  root-first = levelled-one (graphOf S N) (levelsFrom at n W) v (level-make (graphOf S N) (levelsFrom at n W) 1 v (R .node) (R .first))
+
+  -- v is numbered
+  module _ {W₁ : List ℕ} (s₁ : length W₁ ≡ length W) (e₁ : W₁ ≡ stand n (orderIn n 0 W ++ (v ∷ [])) (drop n W)) where
+    pub root-walk : Walk S N n at W (v ∷ []) W₁ 1
+    root-walk = push-walk ok sized root-open (R .far) v root-range refl s₁ e₁
+
+    pub root-levelled : Levelled (graphOf S N) (levelsFrom at n W₁) 2 0 (orderIn n 1 W₁)
+    root-levelled = rw (walk-levels root-walk, at-order (root-walk .now)) root-first
+
+    -- all levels are numbered
+    module _ (k : ℕ) {t : ℕ} {W₂ : List ℕ} (s₂ : length W₂ ≡ length W₁)
+        (H : Became n W₁ (beforesIn (graphOf S N) (levelsFrom at n W₁) k (orderIn n 1 W₁)) t W₂) where
+      pub root-all : Walk S N n at W (rootOrder (graphOf S N) (levelsFrom at n W) k v) W₂ t
+      root-all =
+          let r = befores-listed (graphOf S N) (levelsFrom at n W) sized (k - 1) 2 0 (v ∷ []) root-first (listed-one v (root-range .0) (root-range .1)) in record {
+            ok = ok;
+            sized = sized;
+            now = at-next (root-walk .now) (r .0) (r .1) (rw (walk-levels root-walk, at-order (root-walk .now)) at H);
+            behind = R .far;
+            room = root-open .room;
+            size = s₂ ∙ s₁;
+          }
+
+      pub root-done : {W₃ : List ℕ} → W₃ ≡ replicate n 0 ++ drop n W₂
+          → W₃ ≡ replicate n 0 ++ overwrite (rootOrder (graphOf S N) (levelsFrom at n W) k v) (drop n W)
+      root-done e =
+          e ∙ ap (λ (l : List ℕ). replicate n 0 ++ l)
+          (ap (drop n) (root-all .now .is) ∙ stand-behind n (rootOrder (graphOf S N) (levelsFrom at n W) k v) (drop n W))
