@@ -17,12 +17,13 @@ use Rattle.basis.proofs.Logic.{by-test, clash, fails, or-split, or-right}
 use Rattle.basis.proofs.Perm.{perm-memb}
 use Rattle.spec.specs.Graph.{Graph, nodes, graphOf, graphRefusal, sizeOf, ofNode}
 use Rattle.spec.specs.Numbering.{levelNodes, unnumberedBy, within, fromBefore, laterLevel, forwardOrder}
-use Rattle.laws.specs.Legal.{Node}
+use Rattle.laws.specs.Legal.{Node, LegalGraph, Closed}
 use Rattle.laws.specs.Order.{Grown, Filled}
 use Rattle.laws.proofs.Legal.{length-nodes}
 use Rattle.laws.proofs.LevelOrder.{later-filled, first-filled, from-grown, within-grown, left-length}
 use Rattle.laws.proofs.PartOrder.{level-in, level-make, level-once}
 use Rattle.laws.proofs.Refused.{not-refused}
+use Rattle.levels_sort.specs.Nodes.{Nodes}
 use Rattle.numbering_order.specs.Model.{stand, orderIn, Listed, Open, Became, foundBy, addBy, ownLevels, Standing, Begun, Levelled, Starting, filledIn, laterIn, Fills, Follows}
 use Rattle.numbering_order.proofs.Stand.{open-at, at-order, at-next, at-became, stand-behind, listed-append, listed-none}
 use Rattle.numbering_order.proofs.Walk.{Walk, walk-begin}
@@ -145,6 +146,19 @@ module _ (g : Graph) (ls : List ℕ) where
         (record { once = λ x. omega (arith, grown .few x, level-once g ls i x); inside = λ z m. let X = level-in g ls i z (cur-in z m) .0 in (X .low, rw q (X .high)) })
         (λ x m. apart x (cur-in x m)))
 
+-- the nodes from a on are those of the level before: what they find along their rows is what they find in level i
+module _ {g : Graph} (G : LegalGraph g) (P L : List ℕ) (rising : P ≡ filterb (λ q. memb q P) (nodes g)) (closed : Closed g P) where
+  pub before-same : {i a : ℕ} {o : List ℕ} → Levelled g (ownLevels g P L) i a o → Nodes (g .size) o
+      → foldl (addBy (foundBy g L i)) o (drop a o) ≡ fromBefore g (levelNodes g (ownLevels g P L) (i - 1)) (levelNodes g (ownLevels g P L) i) o
+  unfolding fromBefore
+  before-same {i} {a} {o} D inside =
+      fold-same (foundBy g L i) (unnumberedBy g (levelNodes g (ownLevels g P L) i)) (drop a o) o
+      (λ p w k. found-same G P L rising closed i (D .some) p w (member w (memb-drop w a o k)))
+      ∙ ap (foldl (addBy (unnumberedBy g (levelNodes g (ownLevels g P L) i))) o) (sym (D .last))
+    where
+      member : (w : ℕ) → memb w o ≡ true → memb w P ≡ true
+      member w j = let r = inside w j in own-member G P L rising closed w (record { low = r .0; high = r .1 }) (D .low w j)
+
 -- ---- in the words
 
 within-longer : (g : Graph) (level o : List ℕ) → length o ≤ length (within (length level) g level o)
@@ -167,19 +181,9 @@ module _ (S N : List ℕ) {n at : ℕ} {P W : List ℕ} {a b i : ℕ} (ok : grap
   abbrev mid : List ℕ
   mid = fromBefore (graphOf S N) (levelNodes (graphOf S N) (ownLevels (graphOf S N) P (drop at W)) (i - 1)) (levelNodes (graphOf S N) (ownLevels (graphOf S N) P (drop at W)) i) (orderIn n b W)
 
-  -- the nodes from a on are those of the level before
   same-before : foldl (addBy (foundBy gr (drop at W) i)) ord (drop a ord) ≡ mid
-  unfolding fromBefore
   same-before =
-      fold-same (foundBy gr (drop at W) i) (unnumberedBy gr (levelNodes gr lv i)) (drop a ord) ord
-      (λ o w k. found-same (not-refused S N ok) P (drop at W) (B .rising) (B .closed) i (D .some) o w (member w k))
-      ∙ ap (foldl (addBy (unnumberedBy gr (levelNodes gr lv i))) ord) (sym (D .last))
-    where
-      member : (w : ℕ) → memb w (drop a ord) ≡ true → memb w P ≡ true
-      member w k =
-          let j : memb w ord ≡ true = memb-drop w a ord k in
-          let r = O .listed .inside w j in
-          own-member (not-refused S N ok) P (drop at W) (B .rising) (B .closed) w (record { low = r .0; high = rw (← q) (r .1) }) (D .low w j)
+      before-same (not-refused S N ok) P (drop at W) (B .rising) (B .closed) D (λ w m. let r = O .listed .inside w m in (r .0, rw (← q) (r .1)))
 
   module _ {e : ℕ} {W₁ : List ℕ} (s : length W₁ ≡ length W) (X : Became n W (foldl (addBy (foundBy (graphOf S N) (drop at W) i)) (orderIn n b W) (drop a (orderIn n b W))) e W₁) where
     pub level-walk : Walk S N n at W (fromBefore (graphOf S N) (levelNodes (graphOf S N) (ownLevels (graphOf S N) P (drop at W)) (i - 1)) (levelNodes (graphOf S N) (ownLevels (graphOf S N) P (drop at W)) i) (orderIn n b W)) W₁ e

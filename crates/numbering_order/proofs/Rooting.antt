@@ -1,5 +1,5 @@
 -- The order level after level, each level from the level before alone. Assumes nothing.
-use mathlib.Core.Path.{_≡_, refl, sym, ap, _∙_}
+use mathlib.Core.Path.{_≡_, refl, sym, ap, _∙_, subst}
 use mathlib.Core.Bool.{true}
 use mathlib.Core.List.{List, [], _∷_, _++_, foldl}
 use Prim.Native.Nat.{ℕ, zero, suc, _+_, _-_, _≤_, _<_}
@@ -7,12 +7,10 @@ use native.Mathlib.Omega.{arith}
 use native.Mathlib.Numerals.{add-one}
 use lib.ListN.{length, take, drop, replicate, length-drop}
 use lib.Seq.{length-take-le, getD-take}
-use Rattle.basis.specs.Lists.{filterb, memb, upFrom, overwrite}
-use Rattle.basis.proofs.Lists.{memb-drop}
+use Rattle.basis.specs.Lists.{memb, upFrom, overwrite}
 use Rattle.basis.proofs.Logic.{clash}
 use Rattle.spec.specs.Graph.{Graph, nodes, graphOf, graphRefusal, sizeOf, ofNode}
-use Rattle.spec.specs.Numbering.{levelNodes, unnumberedBy, fromBefore}
-use Rattle.laws.specs.Legal.{Node, LegalGraph, Closed}
+use Rattle.laws.specs.Legal.{LegalGraph, Closed}
 use Rattle.laws.proofs.Legal.{node-in, in-nodes, ofNode-at}
 use Rattle.laws.proofs.PartOrder.{level-make}
 use Rattle.laws.proofs.Refused.{not-refused}
@@ -21,10 +19,9 @@ use Rattle.numbering_order.specs.Model.{stand, orderIn, Listed, Open, Be
 use Rattle.numbering_order.specs.Root.{levelsFrom, beforeIn, beforesIn, rootOrder, Rooted}
 use Rattle.numbering_order.proofs.Stand.{at-order, at-next, at-became, stand-behind, listed-none, listed-one}
 use Rattle.numbering_order.proofs.Walk.{Walk, walk-begin, walk-levels}
-use Rattle.numbering_order.proofs.Part.{found-same, fold-same}
 use Rattle.numbering_order.proofs.Level.{push-walk}
 use Rattle.numbering_order.proofs.Wipe.{marks-none}
-use Rattle.numbering_order.proofs.Forward.{filter-every, levelled-one, levelled-before, before-listed, before-longer}
+use Rattle.numbering_order.proofs.Forward.{filter-every, before-same, levelled-one, levelled-before, before-listed, before-longer}
 use Rattle.numbering_order.proofs.Callers.{own-is}
 
 -- ---- what is found along rows by the levels of all nodes: these are a part like any other
@@ -41,18 +38,11 @@ module _ {g : Graph} (G : LegalGraph g) {n : ℕ} (sized : n ≡ g .size) (L : L
           let X = node-in g q m in
           ofNode-at L q (X .low) ∙ sym (getD-take n L (q - 1) 0 (omega (arith, X .low, X .high, sized))) ∙ sym (ofNode-at (take n L) q (X .low))
 
-  found-here : (i : ℕ) → 1 ≤ i → (o : List ℕ) (w : ℕ) → Node g w → foundBy g L i o w ≡ unnumberedBy g (levelNodes g (take n L) i) o w
-  found-here i some o w X =
-      found-same G (nodes g) L (sym (filter-every (λ q. memb q (nodes g)) (nodes g) (λ x m. m))) closed i some o w (in-nodes g w X)
-      ∙ ap (λ (l : List ℕ). unnumberedBy g (levelNodes g l i) o w) own
-
-  -- the nodes from a on are those of the level before
-  before-same : {i a : ℕ} {o : List ℕ} → Levelled g (take n L) i a o → Nodes n o → foldl (addBy (foundBy g L i)) o (drop a o) ≡ beforeIn g (take n L) o i
-  unfolding fromBefore
-  before-same {i} {a} {o} D inside =
-      fold-same (foundBy g L i) (unnumberedBy g (levelNodes g (take n L) i)) (drop a o) o
-      (λ p w k. let r = inside w (memb-drop w a o k) in found-here i (D .some) p w (record { low = r .0; high = omega (arith, r .1, sized) }))
-      ∙ ap (foldl (addBy (unnumberedBy g (levelNodes g (take n L) i))) o) (sym (D .last))
+  all-same : {i a : ℕ} {o : List ℕ} → Levelled g (take n L) i a o → Nodes n o → foldl (addBy (foundBy g L i)) o (drop a o) ≡ beforeIn g (take n L) o i
+  all-same {i} {a} {o} D inside =
+      subst (λ (l : List ℕ). foldl (addBy (foundBy g L i)) o (drop a o) ≡ beforeIn g l o i) own
+      (before-same G (nodes g) L (sym (filter-every (λ q. memb q (nodes g)) (nodes g) (λ x m. m))) closed
+      (subst (λ (l : List ℕ). Levelled g l i a o) (sym own) D) (λ w m. let r = inside w m in (r .0, omega (arith, r .1, sized))))
 
 -- ---- level after level
 
@@ -79,7 +69,7 @@ module _ {S N : List ℕ} {n at : ℕ} {W₀ : List ℕ} {k : ℕ} {W : List ℕ
       let K = I .walk in
       let c : k - i ≡ suc (k - suc i) = omega arith in
       let wide : n ≤ length (drop at W₀) = omega (arith, length-drop at W₀, K .behind .held) in
-      let same = before-same (not-refused S N (K .ok)) (K .sized) (drop at W₀) wide (I .levelled) (K .now .listed .inside) in
+      let same = all-same (not-refused S N (K .ok)) (K .sized) (drop at W₀) wide (I .levelled) (K .now .listed .inside) in
       rw (add-one i) (record {
         order = beforeIn g ls (I .order) (suc i);
         walk = record {
