@@ -24,7 +24,7 @@ use levels_ends::legal::ends_from;
 use levels_ends::legal::first_in_e;
 use levels_search::legal::wipe;
 use levels_sizes::legal::width_of;
-use numbering_order::legal::forward;
+use numbering_order::rooted::from_root;
 use numbering_part::legal::give_levels;
 use numbering_part::legal::give_numbers;
 use numbering_part::shape::PartFigures;
@@ -69,7 +69,7 @@ fn root_part(
     }
 }
 
-// The part's order from v, "turned end for end": "Every part is turned".
+// The part's order from v, "turned end for end": "Every part is turned". Its m nodes stand from `from` on, of which only the contract speaks.
 fn order_part(
     starts: &[u16],
     neighbours: &[u16],
@@ -85,7 +85,7 @@ fn order_part(
     ensures { λ _. ⌜ left scratch ≡ sets (was scratch) (sizeWas starts) (resultIn (graphWas starts neighbours) from (was scratch) .order) ⌝ }
 {
     let n = starts.len() - 1;
-    forward(starts, neighbours, scratch, at, from, m, k, v);
+    from_root(starts, neighbours, scratch, at, k, v);
     reverse(&mut scratch[n..n + m]);
 }
 

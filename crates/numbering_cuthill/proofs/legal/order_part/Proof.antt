@@ -1,25 +1,23 @@
--- `numbering_cuthill::legal::order_part` meets its contract: the order level by level, then turned. Assumes nothing.
+-- `numbering_cuthill::legal::order_part` meets its contract: the order level after level, then turned. Assumes nothing.
 use native.Mathlib.Omega.{arith}
 use borrow.Author.Needs.{needs}
 use denote.Ref.{now}
 use Rattle.laws.proofs.Refused.{passed, starts-of}
-use Rattle.numbering_cuthill.proofs.Ordering.{order-behind, order-starting, order-held, order-done}
+use Rattle.numbering_cuthill.proofs.Ordering.{order-rooted, order-held, order-done}
 use Rattle.numbering_cuthill.proofs.legal.order_part.Statement.{statement}
 use Rattle.numbering_cuthill.proofs.legal.order_part.Tie as tie
 
 -- the order is had, and before that the start
-abbrev start : tie.After-forward → tie.Start
+abbrev start : tie.After-from-root → tie.Start
 start c = c .before .before .before .before .before
 
 sub-n : tie.Need-sub-n
 sub-n c = let s = c .before .before .before in omega (arith, starts-of (passed (now (s .args .starts)) (now (s .args .neighbours)) (s .pre .0)) .count)
 
-forward-requires : tie.Need-forward-requires
-forward-requires c κs =
+from-root-requires : tie.Need-from-root-requires
+from-root-requires c κs =
     let s = c .before .before .before .before in
-    let S = now (s .args .starts) in
-    let N = now (s .args .neighbours) in
-    (s .pre .0, (s .pre .1 .areas .zeros, (order-behind S N (s .pre .0) (s .pre .1), order-starting S N (s .pre .0) (s .pre .1))))
+    (s .pre .0, order-rooted (now (s .args .starts)) (now (s .args .neighbours)) (s .pre .0) (s .pre .1))
 
 add-reverse : tie.Need-add-reverse
 add-reverse c =
@@ -39,7 +37,7 @@ part-reverse-end : tie.Need-part-reverse-end
 part-reverse-end c =
     let a = c .before .before in
     let s = start a in
-    omega (arith, order-held (now (s .args .starts)) (now (s .args .neighbours)) (s .pre .0) (s .pre .1), a .forward .kept)
+    omega (arith, order-held (now (s .args .starts)) (now (s .args .neighbours)) (s .pre .0) (s .pre .1), a .from-root .kept)
 
 reverse-requires : tie.Need-reverse-requires
 reverse-requires c κs = search needs
@@ -52,14 +50,14 @@ returns c =
     let r = c .before .before in
     let a = r .before .before .before .before in
     let s = start a in
-    order-done (now (s .args .starts)) (now (s .args .neighbours)) (s .pre .0) (s .pre .1) (a .forward .ensures) (r .reverse .last .0) (r .reverse .ensures)
+    order-done (now (s .args .starts)) (now (s .args .neighbours)) (s .pre .0) (s .pre .1) (a .from-root .ensures) (r .reverse .last .0) (r .reverse .ensures)
 
 pub order-part-spec : {M : Type 1} → statement M
 order-part-spec =
     tie.close
     (tie.spec
     sub-n
-    forward-requires
+    from-root-requires
     add-reverse
     mul-reverse
     sub-reverse
