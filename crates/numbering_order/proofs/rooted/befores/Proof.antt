@@ -1,4 +1,4 @@
--- `numbering_order::rooted::befores` meets its contract. The invariant: the levels still to come number from here as from level 2 on. Assumes nothing.
+-- `numbering_order::rooted::befores` meets its contract. The invariant: the levels still to come number as from level 2 on. Assumes nothing.
 use Prim.Native.Nat.{_-_}
 use native.Mathlib.Omega.{arith}
 use Rattle.numbering_order.proofs.Walk.{walk-open, walk-far}
