@@ -11,14 +11,14 @@ ghost use Rattle.spec.specs.Numbering.{run};
 ghost use Rattle.spec.specs.File.{fileGraph, fileRefusal, listing, programOutput};
 ghost use Rattle.laws.specs.Handed.{graphWas};
 ghost use Rattle.mesh.specs.Answer.{meaning};
-ghost use Rattle.numbering.specs.Answer.{seven};
+ghost use Rattle.numbering_whole.specs.Figures.{seven};
 ghost use Rattle.file_writing.specs.Figures.{figuresOf};
 ghost use Rattle.file_listing.specs.Room.{ReadingRoom, TextRoom};
 use file_writing::Figures;
 use mesh::Entries;
-use numbering::answer::RunFigures;
-use numbering::legal::number_all;
-use numbering::order::Order;
+use numbering_whole::legal::number_all;
+use numbering_whole::order::Order;
+use numbering_whole::shape::RunFigures;
 
 // The run's figures for the first line.
 fn figures(f: RunFigures) -> Figures

@@ -10,12 +10,15 @@ use lib.Dec.{ltb}
 use borrow.Author.Tests.{lt-ltb, le-ltb, ltb-false}
 use Rattle.basis.proofs.Logic.{or-none}
 use Rattle.spec.specs.CallsNumbering.{runRefusal, runScratch}
+use Rattle.spec.specs.ClaimCuthill.{CuthillNumbered}
+use Rattle.spec.specs.Cuthill.{cuthillResults, cuthillRun}
 use Rattle.spec.specs.Graph.{graphOf, sizeOf}
 use Rattle.spec.specs.Lent.{Outcome, accepted, refused, filled, zeroed, wordsPerNode}
 use Rattle.spec.specs.Numbering.{Run, Figures}
 use Rattle.spec.specs.Refusal.{refuse}
 use Rattle.laws.specs.Results.{AllSound}
 use Rattle.laws.proofs.Claim.{sound-numbered}
+use Rattle.laws.proofs.CuthillRun.{cuthill-numbered}
 use Rattle.laws.proofs.Lent.{answer-refused, filled-refused, answer-accepted, filled-accepted, scratch-refused, scratch-accepted}
 use Rattle.laws.proofs.Numberings.{numbering-length}
 use Rattle.laws.proofs.Passes.{passes-length}
@@ -23,9 +26,11 @@ use Rattle.laws.proofs.ResultLevels.{all-length}
 use Rattle.laws.proofs.Results.{all-numbering}
 use Rattle.graph.specs.Facts.{LegalLists, RefusedLists}
 use Rattle.graph.proofs.Answers.{refused-first, legal-next}
-use Rattle.numbering.specs.Orders.{resultOf, wholeIn, answerIn, numbersIn, levelsIn, passesIn, NumberedIn}
-use Rattle.numbering.specs.declared.order.Order.{Order}
-use Rattle.numbering.proofs.Orders.{sound-in}
+use Rattle.numbering_whole.specs.Orders.{resultOf, wholeIn}
+use Rattle.numbering_whole.specs.declared.order.Order.{Order}
+use Rattle.numbering_whole.specs.declared.order.Order.the-variants.{ReverseCuthillMcKee}
+use Rattle.numbering_whole.proofs.Orders.{sound-in}
+use Rattle.numbering.specs.Calls.{answerIn, numbersIn, levelsIn, passesIn, NumberedIn}
 
 -- ---- a short buffer
 
@@ -140,3 +145,9 @@ module _ (order : Order) (S N X L P W : List ℕ) where
       where
         taken : (a b : Figures) → _≡_ {A = Outcome Figures} (accepted a) (accepted b) → a ≡ b
         taken a b e = cc
+
+-- ---- after A.3's call: the band of each part beside it
+
+pub call-numbered : {S N : List ℕ} {F : Figures} {X L : List ℕ} → NumberedIn ReverseCuthillMcKee S N F X L → CuthillNumbered S N F X L
+unfolding cuthillRun cuthillResults
+call-numbered {S} {N} M = let C = cuthill-numbered S N (M .legal) in record { numbered = M; least = C .least; most = C .most }

@@ -1,21 +1,9 @@
 -- What the answer of the whole run means in document 01's numbers and values. Assumes nothing.
 use Rattle.spec.specs.Lent.{Outcome, accepted, refused}
 use Rattle.spec.specs.Numbering.{Figures}
+use Rattle.numbering_whole.specs.Figures.{seven}
 use Rattle.numbering.specs.declared.answer.RunAnswer.{RunAnswer}
 use Rattle.numbering.specs.declared.answer.RunAnswer.the-variants as run
-use Rattle.numbering.specs.declared.answer.RunFigures.{RunFigures}
-
--- "seven figures"
-abbrev pub seven : RunFigures → Figures
-seven f = record {
-  nodes = f .nodes;
-  parts = f .parts;
-  bandwidth = f .bandwidth;
-  profile = f .profile;
-  front = f .front;
-  levels = f .levels;
-  width = f .width;
-}
 
 abbrev pub meaning : RunAnswer → Outcome Figures
 -- 1 to 4 or 5, by its number

@@ -1,3 +1,2 @@
-pub mod Orders
+pub mod Calls
 pub mod Answer
-pub mod Ran

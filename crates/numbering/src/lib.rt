@@ -1,7 +1,5 @@
 // Document 01's second library: the whole run; and A.3's call beside it. Both test what they are handed in the order of the table: 1 to 4, then 5.
 pub mod answer;
-pub mod legal;
-pub mod order;
 
 ghost use mathlib.Core.Path.{_≡_};
 ghost use mathlib.Core.Bool.{_||_};
@@ -17,10 +15,11 @@ ghost use Rattle.spec.specs.Graph.{sizeOf};
 ghost use Rattle.spec.specs.Lent.{accepted, wordsPerNode};
 ghost use Rattle.spec.specs.Numbering.{Figures};
 ghost use Rattle.numbering.specs.Answer.{meaning};
-ghost use Rattle.numbering.specs.Orders.{answerIn, numbersIn, levelsIn, passesIn, NumberedIn};
+ghost use Rattle.numbering.specs.Calls.{answerIn, numbersIn, levelsIn, passesIn, NumberedIn};
 use answer::RunAnswer;
 use graph::Adjacency;
-use order::Order;
+use numbering_whole::legal::number_all;
+use numbering_whole::order::Order;
 
 // 5: numbers, levels, passes or scratch are short.
 fn any_short(n: usize, numbers: usize, levels: usize, passes: usize, scratch: usize) -> bool
@@ -64,7 +63,7 @@ fn number(
             if any_short(n, numbers.len(), levels.len(), passes.len(), scratch.len()) {
                 return RunAnswer::Refused(5);
             }
-            let f = legal::number_all(
+            let f = number_all(
                 order,
                 starts,
                 neighbours,

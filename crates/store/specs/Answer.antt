@@ -8,7 +8,7 @@ use Rattle.spec.specs.Lent.{Outcome, accepted, refused, outcome, filled, short}
 use Rattle.spec.specs.Numbering.{Figures}
 use Rattle.spec.specs.Refusal.{refuse}
 use Rattle.spec.specs.Store.{markByteCount, markBytes}
-use Rattle.numbering.specs.Answer.{seven}
+use Rattle.numbering_whole.specs.Figures.{seven}
 use Rattle.store.specs.declared.answer.Counts.{Counts}
 use Rattle.store.specs.declared.answer.Elimination.{Elimination}
 use Rattle.store.specs.declared.answer.Elimination.the-variants.{Accepted, Refused}

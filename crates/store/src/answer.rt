@@ -1,5 +1,5 @@
 // What the elimination answers, and a numbering call with the elimination after it.
-use numbering::answer::RunFigures;
+use numbering_whole::shape::RunFigures;
 
 // "The marks that are 1 are counted, and so are the newly joined pairs, those not joined at first."
 pub struct Counts {

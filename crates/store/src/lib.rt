@@ -10,7 +10,8 @@ ghost use Rattle.spec.specs.Claim.{Claimed};
 ghost use Rattle.spec.specs.ClaimCuthill.{CuthillClaimed};
 ghost use Rattle.spec.specs.Lent.{accepted};
 ghost use Rattle.spec.specs.Numbering.{Figures};
-ghost use Rattle.numbering.specs.Answer.{seven, meaning as numbered};
+ghost use Rattle.numbering.specs.Answer.{meaning as numbered};
+ghost use Rattle.numbering_whole.specs.Figures.{seven};
 ghost use Rattle.store.specs.Answer.{meaning, runMeaning, Room, thenScratch};
 
 mod answer;
@@ -21,7 +22,7 @@ pub use answer::Elimination;
 pub use answer::RunElimination;
 use graph::Adjacency;
 use numbering::answer::RunAnswer;
-use numbering::answer::RunFigures;
+use numbering_whole::shape::RunFigures;
 
 // The entry point: a numbering by old number, a scratch word for each node, and the mark bytes.
 pub fn eliminate(

@@ -2,7 +2,7 @@
 use borrow.Author.Needs.{needs}
 use Rattle.spec.specs.CallsCuthill.{cuthillRefusal, cuthillAnswer, cuthillNumbers, cuthillLevels, cuthillPasses, cuthillScratch}
 use Rattle.spec.specs.Cuthill.{cuthillResults, cuthillRun}
-use Rattle.numbering.proofs.Orders.{call-numbered}
+use Rattle.numbering.proofs.Answers.{call-numbered}
 use Rattle.numbering.proofs.reverse_cuthill_mckee.Statement.{statement}
 use Rattle.numbering.proofs.reverse_cuthill_mckee.Tie as tie
 

@@ -1,13 +1,13 @@
--- `numbering::legal::number_all` meets its contract: its calls in their order. Assumes nothing.
+-- `numbering_whole::legal::number_all` meets its contract: its calls in their order. Assumes nothing.
 use mathlib.Core.Path.{ap}
 use native.Mathlib.Omega.{arith}
 use borrow.Author.Needs.{needs}
 use denote.Ref.{now}
 use lib.ListN.{length}
 use Rattle.spec.specs.Graph.{sizeOf}
-use Rattle.numbering.proofs.Figures.{legal-lists, cleared-last, numbers-numbering, seven-are}
-use Rattle.numbering.proofs.legal.number_all.Statement.{statement}
-use Rattle.numbering.proofs.legal.number_all.Tie as tie
+use Rattle.numbering_whole.proofs.Figures.{legal-lists, cleared-last, numbers-numbering, seven-are}
+use Rattle.numbering_whole.proofs.legal.number_all.Statement.{statement}
+use Rattle.numbering_whole.proofs.legal.number_all.Tie as tie
 
 begin-requires : tie.Need-begin-requires
 begin-requires c κs = let at = c .before .before .before .before .before in at .before .before .before .before .before .pre

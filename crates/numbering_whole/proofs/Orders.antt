@@ -2,19 +2,16 @@
 use mathlib.Core.Path.{_≡_, sym, ap, _∙_}
 use mathlib.Core.List.{List}
 use Prim.Native.Nat.{ℕ}
-use Rattle.spec.specs.ClaimCuthill.{CuthillNumbered}
-use Rattle.spec.specs.Cuthill.{cuthillResults, cuthillRun}
 use Rattle.spec.specs.Graph.{Graph}
-use Rattle.spec.specs.Numbering.{Figures}
 use Rattle.laws.specs.Legal.{LegalGraph}
 use Rattle.laws.specs.Results.{AllSound}
-use Rattle.laws.proofs.CuthillRun.{cuthill-sound, cuthill-numbered}
+use Rattle.laws.proofs.CuthillRun.{cuthill-sound}
 use Rattle.laws.proofs.Whole.{part-sound}
 use Rattle.numbering_part.specs.Part.{newNumbers, newLevels, partFiguresOf}
 use Rattle.numbering_part.specs.declared.shape.PartFigures.{PartFigures}
-use Rattle.numbering.specs.Orders.{resultOf, NumberedIn}
-use Rattle.numbering.specs.declared.order.Order.{Order}
-use Rattle.numbering.specs.declared.order.Order.the-variants.{GibbsPooleStockmeyer, ReverseCuthillMcKee}
+use Rattle.numbering_whole.specs.Orders.{resultOf}
+use Rattle.numbering_whole.specs.declared.order.Order.{Order}
+use Rattle.numbering_whole.specs.declared.order.Order.the-variants.{GibbsPooleStockmeyer, ReverseCuthillMcKee}
 
 pub sound-in : (order : Order) {g : Graph} → LegalGraph g → AllSound g (resultOf order g)
 sound-in GibbsPooleStockmeyer G = part-sound G
@@ -36,9 +33,3 @@ found-told g z a X L e c = (
     ),
   ),
 )
-
--- ---- what a library above rests on, after A.3's call
-
-pub call-numbered : {S N : List ℕ} {F : Figures} {X L : List ℕ} → NumberedIn ReverseCuthillMcKee S N F X L → CuthillNumbered S N F X L
-unfolding cuthillRun cuthillResults
-call-numbered {S} {N} M = let C = cuthill-numbered S N (M .legal) in record { numbered = M; least = C .least; most = C .most }

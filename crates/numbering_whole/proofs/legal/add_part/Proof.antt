@@ -1,12 +1,12 @@
--- `numbering::legal::add_part` meets its contract. Assumes nothing.
+-- `numbering_whole::legal::add_part` meets its contract. Assumes nothing.
 use mathlib.Core.Path.{ap}
 use Prim.Native.Nat.{ℕ, _+_}
 use native.Mathlib.Omega.{arith}
 use lib.ListN.{set, length-set}
 use borrow.Author.Needs.{needs}
 use denote.Ref.{now}
-use Rattle.numbering.proofs.legal.add_part.Statement.{statement}
-use Rattle.numbering.proofs.legal.add_part.Tie as tie
+use Rattle.numbering_whole.proofs.legal.add_part.Statement.{statement}
+use Rattle.numbering_whole.proofs.legal.add_part.Tie as tie
 
 wide-requires : tie.Need-wide-requires
 wide-requires c κs = search needs

@@ -37,12 +37,12 @@ use Rattle.numbering_parts.proofs.Walk.{walk-begin, walk-end, walk-next, next-l
 use Rattle.numbering_part.specs.Part.{numberFrom, renewed, lowestIn, newNumbers, newLevels, partFiguresOf}
 use Rattle.numbering_part.specs.declared.shape.PartFigures.{PartFigures}
 use Rattle.numbering_part.proofs.Single.{figures-one, numbers-one, levels-one}
-use Rattle.numbering.specs.Orders.{resultOf, wholeIn}
-use Rattle.numbering.specs.Ran.{soFar, added, Ran, Summed}
-use Rattle.numbering.specs.declared.legal.Tally.{Tally}
-use Rattle.numbering.specs.declared.order.Order.{Order}
-use Rattle.numbering.proofs.Orders.{sound-in}
-use Rattle.numbering.proofs.Found.{parts-most, sum-next, greatest-next, depth-few, passes-size, passes-next, numbers-next, levels-next, found-all, found-count}
+use Rattle.numbering_whole.specs.Orders.{resultOf, wholeIn}
+use Rattle.numbering_whole.specs.Ran.{soFar, added, Ran, Summed}
+use Rattle.numbering_whole.specs.declared.legal.Tally.{Tally}
+use Rattle.numbering_whole.specs.declared.order.Order.{Order}
+use Rattle.numbering_whole.proofs.Orders.{sound-in}
+use Rattle.numbering_whole.proofs.Found.{parts-most, sum-next, greatest-next, depth-few, passes-size, passes-next, numbers-next, levels-next, found-all, found-count}
 
 module _ (S N : List ℕ) (legal : graphRefusal S N ≡ 0) where
   pub graph : LegalGraph (graphOf S N)

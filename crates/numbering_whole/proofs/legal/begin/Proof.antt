@@ -1,4 +1,4 @@
--- `numbering::legal::begin` meets its contract: what is cleared, then the members. Assumes nothing.
+-- `numbering_whole::legal::begin` meets its contract: what is cleared, then the members. Assumes nothing.
 use mathlib.Core.Path.{_∙_}
 use Prim.Native.Nat.{_*_}
 use native.Mathlib.Omega.{arith}
@@ -7,10 +7,10 @@ use denote.Ref.{now}
 use lib.ListN.{drop}
 use Rattle.spec.specs.Graph.{sizeOf}
 use Rattle.laws.proofs.Lent.{zeroed-all}
-use Rattle.numbering.proofs.Figures.{members-room, members-blank, filled-room, levels-blank, behind-same}
-use Rattle.numbering.proofs.Ran.{starts, ran-begin}
-use Rattle.numbering.proofs.legal.begin.Statement.{statement}
-use Rattle.numbering.proofs.legal.begin.Tie as tie
+use Rattle.numbering_whole.proofs.Figures.{members-room, members-blank, filled-room, levels-blank, behind-same}
+use Rattle.numbering_whole.proofs.Ran.{starts, ran-begin}
+use Rattle.numbering_whole.proofs.legal.begin.Statement.{statement}
+use Rattle.numbering_whole.proofs.legal.begin.Tie as tie
 
 sub-n : tie.Need-sub-n
 sub-n c = let at = c .before .before .before in omega (arith, starts _ _ (at .before .before .before .pre .0) .count)

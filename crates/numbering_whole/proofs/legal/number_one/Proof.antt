@@ -1,11 +1,11 @@
--- `numbering::legal::number_one` meets its contract: one order, then the other. Assumes nothing.
+-- `numbering_whole::legal::number_one` meets its contract: one order, then the other. Assumes nothing.
 use borrow.Author.Needs.{needs}
 use denote.Ref.{now}
 use Rattle.spec.specs.Graph.{graphOf, sizeOf}
 use Rattle.numbering_part.specs.Part.{lowestIn}
-use Rattle.numbering.proofs.Orders.{found-told}
-use Rattle.numbering.proofs.legal.number_one.Statement.{statement}
-use Rattle.numbering.proofs.legal.number_one.Tie as tie
+use Rattle.numbering_whole.proofs.Orders.{found-told}
+use Rattle.numbering_whole.proofs.legal.number_one.Statement.{statement}
+use Rattle.numbering_whole.proofs.legal.number_one.Tie as tie
 
 enum-told : tie.Need-enum-told
 enum-told c = search needs

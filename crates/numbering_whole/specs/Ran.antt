@@ -13,9 +13,9 @@ use Rattle.laws.specs.Legal.{Node}
 use Rattle.laws.specs.Scratch.{membersArea, tallyArea, areasEnd}
 use Rattle.numbering_parts.specs.Walked.{Walked}
 use Rattle.numbering_part.specs.declared.shape.PartFigures.{PartFigures}
-use Rattle.numbering.specs.Orders.{resultOf}
-use Rattle.numbering.specs.declared.legal.Tally.{Tally}
-use Rattle.numbering.specs.declared.order.Order.{Order}
+use Rattle.numbering_whole.specs.Orders.{resultOf}
+use Rattle.numbering_whole.specs.declared.legal.Tally.{Tally}
+use Rattle.numbering_whole.specs.declared.order.Order.{Order}
 
 -- of the results of the parts, those of the first j parts
 abbrev pub foundTo : Graph → (ℕ → PartResult) → ℕ → List PartResult

@@ -1,4 +1,4 @@
--- `numbering::legal::finish` meets its contract. Assumes nothing.
+-- `numbering_whole::legal::finish` meets its contract. Assumes nothing.
 use mathlib.Core.Path.{sym, ap, _∙_}
 use Prim.Native.Nat.{_*_}
 use native.Mathlib.Omega.{arith}
@@ -8,9 +8,9 @@ use lib.Seq.{length-take-le}
 use Rattle.spec.specs.Graph.{sizeOf}
 use Rattle.spec.specs.Lent.{wordsPerNode}
 use Rattle.levels_laws.proofs.Clearing.{zeroed-length}
-use Rattle.numbering.proofs.Figures.{back-size, last-scratch}
-use Rattle.numbering.proofs.legal.finish.Statement.{statement}
-use Rattle.numbering.proofs.legal.finish.Tie as tie
+use Rattle.numbering_whole.proofs.Figures.{back-size, last-scratch}
+use Rattle.numbering_whole.proofs.legal.finish.Statement.{statement}
+use Rattle.numbering_whole.proofs.legal.finish.Tie as tie
 
 sub-n : tie.Need-sub-n
 sub-n c = omega (arith, c .before .before .before .before .pre .0 .starts .count)

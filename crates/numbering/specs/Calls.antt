@@ -1,26 +1,13 @@
--- What is found of a part and of the whole graph in each order, and what a call in that order answers and leaves. Assumes nothing.
+-- What a call in either order answers and leaves: it refuses as the run does. Assumes nothing.
 use mathlib.Core.List.{List}
 use Prim.Native.Nat.{ℕ}
 use Rattle.spec.specs.CallsNumbering.{runRefusal}
 use Rattle.spec.specs.Claim.{NumberedAs}
-use Rattle.spec.specs.Cuthill.{cuthillResult}
-use Rattle.spec.specs.Graph.{Graph, graphOf}
+use Rattle.spec.specs.Graph.{graphOf}
 use Rattle.spec.specs.Lent.{Outcome, outcome, filled}
-use Rattle.spec.specs.Numbering.{PartResult, Run, Figures, partResult}
-use Rattle.laws.specs.Results.{wholeOf}
-use Rattle.numbering.specs.declared.order.Order.{Order}
-use Rattle.numbering.specs.declared.order.Order.the-variants.{GibbsPooleStockmeyer, ReverseCuthillMcKee}
-
--- of the part of a node
-abbrev pub resultOf : Order → Graph → ℕ → PartResult
-resultOf GibbsPooleStockmeyer g = partResult g
-resultOf ReverseCuthillMcKee g = cuthillResult g
-
--- of the whole graph
-abbrev pub wholeIn : Order → Graph → Run
-wholeIn order g = wholeOf g (resultOf order g)
-
--- ---- the call: it refuses as the run does
+use Rattle.spec.specs.Numbering.{Run, Figures}
+use Rattle.numbering_whole.specs.Orders.{resultOf, wholeIn}
+use Rattle.numbering_whole.specs.declared.order.Order.{Order}
 
 module _ (order : Order) (starts neighbours numbersBuffer levelsBuffer passesBuffer scratch : List ℕ) where
   abbrev refusal : ℕ

@@ -24,11 +24,11 @@ use Rattle.levels.proofs.Scratch.{zero-front, behind-front, zeroed-again}
 use Rattle.levels_laws.proofs.Clearing.{zeroed-length}
 use Rattle.numbering_measures.specs.Answer.{three}
 use Rattle.numbering_measures.specs.declared.answer.Measures.{Measures}
-use Rattle.numbering.specs.Orders.{resultOf, wholeIn}
-use Rattle.numbering.specs.Ran.{Summed}
-use Rattle.numbering.specs.declared.order.Order.{Order}
-use Rattle.numbering.proofs.Orders.{sound-in}
-use Rattle.numbering.proofs.Ran.{graph, starts, areas, areas-size, areas-front}
+use Rattle.numbering_whole.specs.Orders.{resultOf, wholeIn}
+use Rattle.numbering_whole.specs.Ran.{Summed}
+use Rattle.numbering_whole.specs.declared.order.Order.{Order}
+use Rattle.numbering_whole.proofs.Orders.{sound-in}
+use Rattle.numbering_whole.proofs.Ran.{graph, starts, areas, areas-size, areas-front}
 
 -- ---- the scratch after the last part: n words are lent to the measures, come back as zeros, and all is cleared
 

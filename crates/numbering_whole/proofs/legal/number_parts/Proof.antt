@@ -1,12 +1,12 @@
--- `numbering::legal::number_parts` meets its contract. Assumes nothing.
+-- `numbering_whole::legal::number_parts` meets its contract. Assumes nothing.
 use mathlib.Core.Path.{_≡_, refl, sym, _∙_}
 use Prim.Native.Nat.{_-_}
 use native.Mathlib.Omega.{arith}
 use borrow.Author.Needs.{needs}
-use Rattle.numbering.specs.Ran.{Ran}
-use Rattle.numbering.proofs.Ran.{ran-words, levels-size, passes-words, passed-all, all-numbers, all-levels, all-passes, summed}
-use Rattle.numbering.proofs.legal.number_parts.Statement.{statement}
-use Rattle.numbering.proofs.legal.number_parts.Tie as tie
+use Rattle.numbering_whole.specs.Ran.{Ran}
+use Rattle.numbering_whole.proofs.Ran.{ran-words, levels-size, passes-words, passed-all, all-numbers, all-levels, all-passes, summed}
+use Rattle.numbering_whole.proofs.legal.number_parts.Statement.{statement}
+use Rattle.numbering_whole.proofs.legal.number_parts.Tie as tie
 
 abbrev Inv-loop : tie.InvT-loop
 Inv-loop order starts neighbours numbers₀ levels₀ passes₀ scratch₀ count t₀ numbers levels passes scratch t = (scratch ≡ scratch₀) × Ran order starts neighbours (t .parts) (t .nodes) (t .levels) (t .width) numbers levels passes scratch₀

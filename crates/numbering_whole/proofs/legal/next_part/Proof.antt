@@ -1,4 +1,4 @@
--- `numbering::legal::next_part` meets its contract: a part of one node, and any other. Assumes nothing.
+-- `numbering_whole::legal::next_part` meets its contract: a part of one node, and any other. Assumes nothing.
 use mathlib.Core.Path.{refl, sym, _∙_}
 use Prim.Native.Nat.{_-_, _<_}
 use native.Mathlib.Omega.{arith}
@@ -7,10 +7,10 @@ use denote.Ref.{now}
 use lib.ListN.{length, getD}
 use Rattle.spec.specs.Graph.{graphOf}
 use Rattle.spec.specs.Levels.{parts}
-use Rattle.numbering.specs.Ran.{Ran}
-use Rattle.numbering.proofs.Ran.{starts, ran-at, words-size, fits, some, lowest-node, size-is, part-given, levels-size, few, sums-fit, k-few, ran-lone, part-figures, ran-part, ran-added}
-use Rattle.numbering.proofs.legal.next_part.Statement.{statement}
-use Rattle.numbering.proofs.legal.next_part.Tie as tie
+use Rattle.numbering_whole.specs.Ran.{Ran}
+use Rattle.numbering_whole.proofs.Ran.{starts, ran-at, words-size, fits, some, lowest-node, size-is, part-given, levels-size, few, sums-fit, k-few, ran-lone, part-figures, ran-part, ran-added}
+use Rattle.numbering_whole.proofs.legal.next_part.Statement.{statement}
+use Rattle.numbering_whole.proofs.legal.next_part.Tie as tie
 
 -- where the run is, with the count of nodes as an index
 at : (c : tie.After-wide) → let known = c .before .before .before .before in let s = known .before .before .before in

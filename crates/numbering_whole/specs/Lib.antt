@@ -1,0 +1,3 @@
+pub mod Orders
+pub mod Figures
+pub mod Ran
