@@ -33,7 +33,7 @@ use Rattle.laws.proofs.Parts.{leaders-in, part-closed, parts-perm}
 pub closed-perm : {g : Graph} {a b : List ℕ} → Perm a b → Closed g b → Closed g a
 closed-perm p c = record { on = λ x y m e. perm-memb p y ∙ c .on x y (sym (perm-memb p x) ∙ m) e }
 
-closed-append : {g : Graph} {a b : List ℕ} → Closed g a → Closed g b → Closed g (a ++ b)
+pub closed-append : {g : Graph} {a b : List ℕ} → Closed g a → Closed g b → Closed g (a ++ b)
 closed-append {g} {a} {b} c d = record {
   on = λ x y m e.
       memb-append y a b

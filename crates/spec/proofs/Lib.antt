@@ -10,3 +10,5 @@ pub mod WrongStore
 pub mod WrongCalls
 pub mod CuthillTable
 pub mod WrongCuthill
+pub mod IdleTable
+pub mod WrongIdle

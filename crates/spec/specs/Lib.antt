@@ -18,3 +18,4 @@ pub mod CallsCuthill
 pub mod CallsMesh
 pub mod Claim
 pub mod ClaimCuthill
+pub mod NoIdle

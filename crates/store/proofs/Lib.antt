@@ -3,4 +3,5 @@ pub mod Counts
 pub mod Lent
 pub mod Answers
 pub mod TwoCalls
+pub mod NoIdle
 pub mod Runs
