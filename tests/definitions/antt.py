@@ -47,3 +47,7 @@ def one_number(values):
 
 def nothing(_):
     return 'tt'
+
+
+def truth(held):
+    return 'true' if held else 'false'

@@ -22,14 +22,18 @@ sys.path[:0] = [os.path.join(TOP, 'tests', 'reference'), HERE]
 
 import graphs
 import meshes
-from expected import of_file, of_graph, of_mesh
+from expected import of_file, of_graph, of_mesh, of_store
 
 HEAD = '''-- Made by compare.py. Assumes nothing.
 use Prim.Native.Nat.{ℕ}
+use mathlib.Core.Bool.{true, false}
 use mathlib.Core.Path.{_≡_, refl}
 use mathlib.Core.List.{List, [], _∷_, _++_}
 use lib.ListN.{replicate}
+use Rattle.spec.specs.Graph.{graphOf}
 use Rattle.spec.specs.Lent.{refused, accepted}
+use Rattle.spec.specs.Measures.{renumbered}
+use Rattle.spec.specs.NoIdle.{connected, lowerNeighbours, fullBytes, beforeTurning, turnedBack}
 use Rattle.spec.specs.Numbering.{Forward, Reversed}
 use Rattle.spec.specs.CallsLevels.{adjacencyAnswer, rootedAnswer, rootedLevels, rootedSizes, endsAnswer, endsScratch}
 use Rattle.spec.specs.CallsLevels.{combinedAnswer, combinedLevels, combinedScratch}
@@ -98,6 +102,10 @@ def run(folder, title, inputs, equations):
     return len(wrong)
 
 
+def of_graph_and_store(i):
+    return of_graph(i) + of_store(i)
+
+
 def main():
     parser = argparse.ArgumentParser(description=__doc__.split('\n')[0])
     parser.add_argument('--seed', type=int, default=1976)
@@ -107,9 +115,9 @@ def main():
     rng = graphs.seeded(asked.seed)
     with tempfile.TemporaryDirectory() as folder:
         repository(folder)
-        wrong = run(folder, 'all graphs of up to 4 nodes', graphs.all_small(rng, 4), of_graph)
-        wrong += run(folder, 'random graphs of 5 to 8 nodes', graphs.at_random(rng, asked.graphs * 2 // 3, 5, 8), of_graph)
-        wrong += run(folder, 'random graphs of 9 to 12 nodes', graphs.at_random(rng, asked.graphs // 3, 9, 12), of_graph)
+        wrong = run(folder, 'all graphs of up to 4 nodes', graphs.all_small(rng, 4), of_graph_and_store)
+        wrong += run(folder, 'random graphs of 5 to 8 nodes', graphs.at_random(rng, asked.graphs * 2 // 3, 5, 8), of_graph_and_store)
+        wrong += run(folder, 'random graphs of 9 to 12 nodes', graphs.at_random(rng, asked.graphs // 3, 9, 12), of_graph_and_store)
         wrong += run(folder, 'meshes', meshes.mesh_inputs(rng, asked.files), of_mesh)
         wrong += run(folder, 'files', meshes.file_inputs(rng, asked.files), of_file)
     print('%d differ' % wrong)

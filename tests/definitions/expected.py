@@ -2,8 +2,9 @@
 
 import calls
 from antt import (COMBINED_FIGURES, ELIMINATION_FIGURES, ENDS, FIGURES, LEVEL_FIGURES, MEASURE_FIGURES,
-                  PART_REPORT, figures, nothing, one_number, outcome, record, words)
+                  PART_REPORT, figures, nothing, one_number, outcome, record, truth, words)
 from graph import MOST_ENTRIES
+from idle_cases import is_connected, numbers_before_turning, store_of, without_lower
 from listing import nodes_of_file, words_after_header
 from program import text_for
 
@@ -58,6 +59,26 @@ def of_graph(i):
                   'eliminationAnswer', figures(ELIMINATION_FIGURES), ('eliminationScratch', 'eliminationBytes'))
         + of_call(calls.run_and_eliminate, lists, run + (i.bytes,),
                   'runEliminateAnswer', run_elimination, (None, None, None, None, 'runEliminateBytes')))
+
+
+def of_store(i):
+    """Equations for a legal adjacency: whether it is connected, A.3's numbers before turning, and of these and the given numbers the premise
+    of A.12; the bytes of the store that the first fill."""
+    graph = (i.starts, i.neighbours)
+    if calls.adjacency_test(*graph)[0] == 'refused':
+        return []
+    n, lists = len(i.starts) - 1, 'graphOf %s' % terms(*graph)
+    back = numbers_before_turning(graph)
+    places, _, _, bits = store_of(graph, back)
+    rows = [('connected (%s)' % lists, truth(is_connected(graph))), ('beforeTurning (%s)' % lists, words(back)),
+            ('fullBytes %d' % places, words(sum(bit << t for t, bit in enumerate(bits[at:at + 8])) for at in range(0, len(bits), 8)))]
+    for numbers in (back, i.numbering):
+        if sorted(numbers) == list(range(1, n + 1)):
+            rows.append(('lowerNeighbours (renumbered (%s) %s)' % (lists, words(numbers)), truth(not without_lower(graph, numbers))))
+    if is_connected(graph):
+        turned = called(calls.reverse_cuthill_mckee, graph, [[9] * n, [9] * n, [9] * n, [9] * calls.scratch_words(n)])[1][0]
+        rows.append(('turnedBack %s' % terms(n, turned), words(back)))
+    return rows
 
 
 def of_mesh(i):

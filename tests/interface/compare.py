@@ -6,8 +6,9 @@
   compare.py --replay FILE                           one case again that was saved
 
 Of each case the answer, every list given or lent, the figures among them, and eight elements behind each list are compared word by word, after
-each call where the run or reverse Cuthill-McKee, and then the elimination by its numbers, are called. A case that differs, or that ends the
-process, is saved in target/failed. All expected values come from tests/reference.
+each call where the run or reverse Cuthill-McKee, and then the elimination by its numbers, are called. Under the latter's numbers turned back the
+marks counted must also be as many as the profile. A case that differs, or that ends the process, is saved in target/failed. All expected values
+come from tests/reference.
 """
 
 import argparse

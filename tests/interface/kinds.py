@@ -1,13 +1,14 @@
 """Trials of each kind: the cases of tests/vectors with lists of figures short, exact and long, numbers that sixteen bits can't hold, full size."""
 
 import cases
+import idle_cases
 import paper
 import shapes
 from calls import reverse_cuthill_mckee, scratch_words, whole_run
 from cases import CALLS, Case, fields
-from graph import from_edges
+from graph import from_edges, small_graphs
 from library import FIGURES
-from trials import FILLS, FUNCTIONS, ONES, PAIRS, STAR, ZEROS, Trial
+from trials import FILLS, FUNCTIONS, ONES, PAIRS, STAR, TURNED_BACK, ZEROS, Trial
 
 
 def length_of_figures(draw, need):
@@ -95,6 +96,24 @@ def pairs(draw, count):
         yield Case('random graph', 'run and eliminate', *lists, [], 0, *sizes, cases.lent(draw, need))
 
 
+def to_turn_back(draw, count):
+    """A.12: all graphs of up to 4 nodes, worked ones, random ones that are connected and such as may have several parts, one of full size."""
+    yield from (('%d nodes' % n, lists) for n in range(1, 5) for lists in small_graphs(n))
+    yield from (('worked store', from_edges(*graph)) for _, graph, *_ in idle_cases.WORKED_STORES)
+    yield from (('connected graph', lists) for lists in cases.connected_graphs(draw, count))
+    yield from (('random graph', cases.random_graph(draw, 1 + draw.below(40))) for _ in range(count // 2))
+    yield 'full size', from_edges(*shapes.renamed(draw, *shapes.grid(512, 8, True)))
+
+
+def turned_back(draw, count):
+    """Reverse Cuthill-McKee, its numbers turned back, then measures and elimination; mark bytes short, exact and long, one scratch or two."""
+    for kind, lists in to_turn_back(draw, count):
+        n, need = len(lists[0]) - 1, cases.byte_count(lists, idle_cases.numbers_before_turning(lists))
+        sizes = [cases.enough(draw, size) for size in cases.run_lengths(lists)]
+        other = None if draw.chance(0.5) else cases.lent(draw, n)
+        yield trial(draw, kind, TURNED_BACK, list(lists), sizes + [other, cases.lent(draw, need)])
+
+
 def among_ones(draw, count):
     """Stores of a few bytes where all that is lent holds ones: the bytes behind the store stay so and are not counted."""
     for c in cases.store_sizes(draw, count):
@@ -135,6 +154,7 @@ def some(draw, count):
             yield from of_case(draw, c)
     yield from among_ones(draw, 12)
     yield from stars()
+    yield from turned_back(draw, count // 2)
 
 
 def more(draw, count):
@@ -143,3 +163,4 @@ def more(draw, count):
         for c in made:
             yield from of_case(draw, c)
     yield from among_ones(draw, 12)
+    yield from turned_back(draw, count // 2)

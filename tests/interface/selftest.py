@@ -1,5 +1,6 @@
 #!/usr/bin/env python3
-"""That the comparison can fail: a library that alters one word is reported, and its case is saved and found again; so is one that faults.
+"""That the comparison can fail: a library that alters one word is reported, and its case is saved and found again; so is one that faults, and
+an idle place where none may be.
 
 Altered in turn are the answer and, of every list of a call, the first word, the last and the last element behind it.
 """
@@ -16,7 +17,7 @@ from cases import CALLS, Case, fields
 from graph import from_edges
 from kinds import every_call
 from library import BEHIND, FIGURES, Library, Span
-from trials import FUNCTIONS, PAIRS, Trial, got
+from trials import FUNCTIONS, PAIRS, TURNED_BACK, Trial, difference, got
 
 
 class Altered:
@@ -52,12 +53,12 @@ class Faulting:
 
 
 def trials():
-    """Each call on three nodes, with one word more than it needs in every list that is lent; the pairs of calls with one scratch and with two."""
+    """Each call on three nodes, with one word more than it needs in every list that is lent; calls one after another with one scratch and two."""
     on_graph = list(every_call('self-test', from_edges(3, [(1, 2), (2, 3)]), 1, [1, 2, 3], 3))
     for c in on_graph + [Case('self-test', 'mesh', [], [], [1, 1, 2], 3, 4, 32768, 3)]:
         given, lent = fields(c, CALLS[c.call].given), [size + 1 for size in fields(c, CALLS[c.call].lent)]
-        paired = [(pair, lent[:4] + [other] + lent[4:]) for pair in PAIRS for other in (None, 4)]
-        for call, lengths in paired if c.call == 'run and eliminate' else [(c.call, lent)]:
+        chained = [(chain, lent[:4] + [other] + lent[4:]) for chain in (*PAIRS, TURNED_BACK) for other in (None, 4)]
+        for call, lengths in chained if c.call == 'run and eliminate' else [(c.call, lent)]:
             yield Trial(c.kind, call, given, lengths, [FIGURES[function] + 1 for function in FUNCTIONS[call] if FIGURES[function]], 0)
 
 
@@ -92,6 +93,13 @@ def fault_seen():
         return status and len(saved_in(folder)) == 1 and 'ended by signal' in printed.getvalue()
 
 
+def idle_seen(library):
+    """Whether marks that are not as many as the profile are reported, even if the independent program counted them so."""
+    trial = next(trial for trial in trials() if trial.call == TURNED_BACK)
+    was, idle = got(library, trial), got(Altered(library, 'eliminate', -1, 0), trial)
+    return not difference(trial, was, was) and ' must mark all ' in difference(trial, idle, idle)
+
+
 def main():
     library, tried, missed = Library(), 0, 0
     for trial in trials():
@@ -103,6 +111,9 @@ def main():
     if not fault_seen():
         missed += 1
         print('a fault is not seen')
+    if not idle_seen(library):
+        missed += 1
+        print('an idle place is not seen')
     print('%d words altered, %d not seen' % (tried, missed))
     return tried == 0 or missed > 0
 

@@ -1,7 +1,7 @@
 """A trial of the C interface: what a call is given and lent, and what the independent program says that it must answer and leave.
 
 A trial has one call, or the whole run or reverse Cuthill-McKee and then the elimination on the n numbers that it left, in the memory that it left
-them in.
+them in; or reverse Cuthill-McKee, and on its numbers, which the trial turns back in that memory, the measures and the elimination.
 """
 
 import json
@@ -9,6 +9,7 @@ from array import array
 from collections import namedtuple
 
 import calls
+import idle_cases
 import worked
 from cases import CALLS as CASE_CALLS
 from graph import adjacency_refusal, wrong_node_count
@@ -20,16 +21,20 @@ Trial = namedtuple('Trial', 'kind call given lent figures fill')
 # Lent to a pair: numbers, levels, passes and scratch to the first; to the elimination a scratch of its own, or None for the first's, and bytes.
 PAIRS = ('run, then eliminate', 'reverse Cuthill-McKee, then eliminate')
 LENT_TO_PAIR = ('numbers', 'levels', 'passes', 'scratch', 'other scratch', 'bytes')
+# A.12: lent as to a pair; the measures have the elimination's scratch.
+TURNED_BACK = 'reverse Cuthill-McKee turned back, then measures and eliminate'
+FIGURE_LISTS = ('figures', 'other figures', 'third figures')
 
 # The functions that a trial calls, one after the other.
 FUNCTIONS = {
     'adjacency test': ('test_adjacency',), 'rooted levels': ('rooted_levels',), 'ends': ('ends',), 'combined levels': ('combined_levels',),
     'measures': ('measures',), 'part report': ('part_report',), 'whole run': ('run',), 'reverse Cuthill-McKee': ('reverse_cuthill_mckee',),
     'elimination': ('eliminate',), PAIRS[0]: ('run', 'eliminate'), PAIRS[1]: ('reverse_cuthill_mckee', 'eliminate'), 'mesh': ('mesh',),
+    TURNED_BACK: ('reverse_cuthill_mckee', 'measures', 'eliminate'),
 }
 # Eliminations of a star whose centre has number 1, with enough of everything lent: by sums, where the reference would take hours.
 STAR = 'star, centre first'
-REFERENCE = {functions[0]: CASE_CALLS[call].reference for call, functions in FUNCTIONS.items() if call not in PAIRS}
+REFERENCE = {functions[0]: CASE_CALLS[call].reference for call, functions in FUNCTIONS.items() if len(functions) == 1}
 
 # What a lent list holds before the call, by place, below the modulus of its elements: falling from the top, zeros, ones, small numbers.
 FILLS = (lambda i: -1 - i % 5000, lambda i: 0, lambda i: -1, lambda i: 1 + i % 7)
@@ -44,7 +49,7 @@ def name_of(call):
 
 
 def code_of(name):
-    return CODE_OF[name.replace('other ', '')]
+    return CODE_OF[name.split()[-1]]
 
 
 def filled(fill, code, count):
@@ -57,8 +62,8 @@ def filled(fill, code, count):
 
 def before(trial):
     """Numbers and lists by name, as they are before the first call."""
-    if trial.call in PAIRS:
-        names = ('starts', 'neighbours') + LENT_TO_PAIR + ('figures', 'other figures')
+    if len(FUNCTIONS[trial.call]) > 1:
+        names = ('starts', 'neighbours') + LENT_TO_PAIR + FIGURE_LISTS
     else:
         names = [parameter.name for parameter in PARAMETERS[FUNCTIONS[trial.call][0]]]
     lengths = [length or 0 for length in list(trial.lent) + list(trial.figures)]
@@ -78,12 +83,21 @@ def whole(values, *names):
 
 def steps(trial, values):
     """The calls: a function, and the name of each argument with the length that the call is told."""
-    if trial.call not in PAIRS:
-        return [(FUNCTIONS[trial.call][0], whole(values, *values))]
+    first, *others = FUNCTIONS[trial.call]
+    if not others:
+        return [(first, whole(values, *values))]
     n = max(0, len(values['starts']) - 1)
     scratch = 'scratch' if trial.lent[LENT_TO_PAIR.index('other scratch')] is None else 'other scratch'
-    return [(FUNCTIONS[trial.call][0], whole(values, 'starts', 'neighbours', 'numbers', 'levels', 'passes', 'scratch', 'figures')),
-            ('eliminate', whole(values, 'starts', 'neighbours') + [('numbers', n)] + whole(values, scratch, 'bytes', 'other figures'))]
+    lent = {'measures': [scratch], 'eliminate': [scratch, 'bytes']}
+    return [(first, whole(values, 'starts', 'neighbours', 'numbers', 'levels', 'passes', 'scratch', 'figures'))] + [
+        (function, whole(values, 'starts', 'neighbours') + [('numbers', n)] + whole(values, *lent[function], figures))
+        for function, figures in zip(others, FIGURE_LISTS[1:])]
+
+
+def turn_back(trial, function, lists):
+    """What the trial itself does after a call that accepted: the numbers as they were before A.3's turning, in their place."""
+    if trial.call == TURNED_BACK and function == 'reverse_cuthill_mckee':
+        calls.put(lists['numbers'], idle_cases.turned_back(trial.given, lists['numbers']))
 
 
 # By the reference.
@@ -141,6 +155,7 @@ def wanted(trial):
         made.append((answer, list(in_memory(values).values())))
         if answer:
             break
+        turn_back(trial, function, values)
     return made
 
 
@@ -160,11 +175,21 @@ def got(library, trial):
         made.append((answer, [array(words.typecode, words) for words in memory.values()]))
         if answer:
             break
+        turn_back(trial, function, memory)
     return made
 
 
+def idle_place(trial, was):
+    """A.12, by the library's figures alone: under numbers turned back the marks are as many as the profile. What is wrong, or ''."""
+    if trial.call != TURNED_BACK or [answer for answer, _ in was] != [0, 0, 0]:
+        return ''
+    lists = dict(zip(in_memory(before(trial)), was[-1][1]))
+    profile, marks = lists['other figures'][1], lists['third figures'][0]
+    return '' if marks == profile else 'eliminate marked %d places, must mark all %d' % (marks, profile)
+
+
 def difference(trial, was, must):
-    """What differs first, or ''."""
+    """What differs first, or ''; where nothing does, whether a place is idle that may not be."""
     names = list(in_memory(before(trial)))
     for function, one, other in zip(FUNCTIONS[trial.call], was, must):
         if one[0] != other[0]:
@@ -173,7 +198,7 @@ def difference(trial, was, must):
             if words != due:
                 i = next(i for i in range(len(words)) if words[i] != due[i])
                 return 'after %s %s[%d] is %d, must be %d' % (function, name, i, words[i], due[i])
-    return ''
+    return idle_place(trial, was)
 
 
 def to_text(trial, text):

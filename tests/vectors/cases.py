@@ -10,6 +10,7 @@ from itertools import permutations
 import calls
 import cuthill_cases
 import elements
+import idle_cases
 import shapes
 import store
 import worked
@@ -475,6 +476,27 @@ def cuthill_stores(draw, count):
         at = draw.below(4)
         yield Case('store of an order', call, *lists, [], 0, *due[:at], due[at] - 1, *due[at + 1:], need)
         yield Case('store of an order', call, *damaged(draw, *lists), [], 0, *due, need)
+
+
+def connected_graphs(draw, count):
+    """Random graphs of 2 to 30 nodes."""
+    while count > 0:
+        lists = random_graph(draw, 2 + draw.below(29))
+        if idle_cases.is_connected(lists):
+            count -= 1
+            yield lists
+
+
+def full_stores(draw, count):
+    """A.12: the elimination by numbers worked with pencil, and by A.3's turned back, on connected graphs; bytes exact, long and one short."""
+    made = [('worked store', from_edges(*graph), numbers) for _, graph, numbers, *_ in idle_cases.WORKED_STORES]
+    made += [('full store', lists, idle_cases.numbers_before_turning(lists)) for lists in connected_graphs(draw, count)]
+    for kind, lists, numbering in made:
+        n, need = len(numbering), byte_count(lists, numbering)
+        yield Case(kind, 'elimination', *lists, numbering, 0, n, bytes=need)
+        yield Case(kind, 'elimination', *lists, numbering, 0, n + 1 + draw.below(9), 3, bytes=need + 1 + draw.below(9))
+        if need > 0:
+            yield Case(kind, 'elimination', *lists, numbering, 0, n, bytes=need - 1)
 
 
 def illegal(draw, count):

@@ -33,7 +33,8 @@ def selection():
             + list(cases.at_random(draw, 20, 3)) + list(cases.runs_at_random(draw, 16)) + list(cases.illegal(draw, 350))
             + list(cases.limits(draw)) + list(cases.of_many_parts()) + list(cases.meshes(draw, 250)) + list(cases.collapsed_meshes())
             + list(cases.full_meshes()) + list(cases.store_sizes(draw, 3)) + list(cases.scratch_sizes(draw)) + list(cases.level_sizes(draw))
-            + list(cases.pass_counts(draw, 30)) + list(cases.cuthill_orders(draw, 30)) + list(cases.cuthill_stores(draw, 30)))
+            + list(cases.pass_counts(draw, 30)) + list(cases.cuthill_orders(draw, 30)) + list(cases.cuthill_stores(draw, 30))
+            + list(cases.full_stores(draw, 16)))
 
 
 def many(count, seed):
@@ -44,7 +45,8 @@ def many(count, seed):
             + list(cases.illegal(draw, count)) + list(cases.limits(draw)) + list(cases.of_many_parts()) + list(cases.of_full_size(draw))
             + list(cases.meshes(draw, count)) + list(cases.collapsed_meshes()) + list(cases.full_meshes()) + list(cases.long_meshes())
             + list(cases.store_sizes(draw, count // 10)) + list(cases.scratch_sizes(draw)) + list(cases.level_sizes(draw))
-            + list(cases.pass_counts(draw, count)) + list(cases.cuthill_orders(draw, count // 10)) + list(cases.cuthill_stores(draw, count // 10)))
+            + list(cases.pass_counts(draw, count)) + list(cases.cuthill_orders(draw, count // 10)) + list(cases.cuthill_stores(draw, count // 10))
+            + list(cases.full_stores(draw, count // 10)))
 
 
 def report(made):
