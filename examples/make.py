@@ -1,5 +1,5 @@
 #!/usr/bin/env python3
-"""The example meshes: NAME.grd, the listing NAME.txt, the picture NAME.svg, and the table in README.md.
+"""The example meshes: NAME.grd, the listing NAME.txt, the picture NAME.svg, and the table in README.md; and docs/MEMORY.md with docs/store.svg.
 
   make.py            write them
   make.py --check    say whether the committed files are those that this script makes
@@ -18,6 +18,7 @@ sys.path[:0] = [os.path.join(TOP, 'tools'), os.path.join(TOP, 'tests', 'referenc
 
 import figures
 import grd
+import memory
 import picture
 import program
 import result
@@ -177,6 +178,12 @@ def two_parts():
     return plate + rim + pin
 
 
+def hanger():
+    """A small one, for the picture of a store: a flange, a plate around a hole, and a tab."""
+    plate = [(x, y) for x in (1, 2) for y in (1, 2, 3) if (x, y) != (1, 2)]
+    return [(QUADRILATERAL, square(*cell)) for cell in [(0, y) for y in range(5)] + plate + [(3, 2)]]
+
+
 # file name, drawing, what it is
 MESHES = [
     ('bracket', bracket, 'angle bracket with a rib and two bolt holes; bricks and wedges'),
@@ -211,7 +218,8 @@ an element counts once, so the graph and the listing are those of the same plate
     $ tools/grd.py examples/lug_plate.grd
     examples/lug_plate.grd: 118 nodes, 96 elements (quadrilateral 96; collapsed 12)
 
-`tools/README.md` says how a picture is made, and how meshes come from other formats.
+`tools/README.md` says how a picture is made, and how meshes come from other formats. [`docs/MEMORY.md`](../docs/MEMORY.md) says how full the stores of
+these meshes get by each order; `memory.py` makes it.
 
 `c`, `fortran` and `rust` have callers of the library: `bracket` renumbers a mesh file, says how many passes the search for the ends of each part
 took and in which level, counted from the node with number 1, it is thickest, eliminates by the new numbers and opens the store. It also says what
@@ -231,7 +239,7 @@ def table_row(name, what, mesh, listed):
 
 def all_files():
     """Pairs of a file name and its bytes."""
-    files, rows = [], []
+    files, rows, meshes = [], [], []
     for name, drawing, what in MESHES:
         mesh = numbered(drawing())
         data = grd.write(mesh)
@@ -240,7 +248,8 @@ def all_files():
         picture.test_match(mesh, listed)
         files += [(name + '.grd', data), (name + '.txt', text), (name + '.svg', picture.svg(name, mesh, listed).encode('utf-8'))]
         rows.append(table_row(name, what, mesh, listed))
-    return files + [('README.md', (PAGE % '\n'.join(rows)).encode('utf-8'))]
+        meshes.append((name, mesh))
+    return files + [('README.md', (PAGE % '\n'.join(rows)).encode('utf-8'))] + memory.files(meshes, numbered(hanger()))
 
 
 def stands(name, data):
@@ -261,7 +270,7 @@ def main(words):
         return 0
     wrong = [name for name, data in files if not stands(name, data)]
     for name in wrong:
-        print('examples/%s is not what examples/make.py makes' % name)
+        print('%s is not what examples/make.py makes' % os.path.normpath(os.path.join('examples', name)))
     print('%d files, %d wrong' % (len(files), len(wrong)))
     return 1 if wrong else 0
 
