@@ -48,8 +48,8 @@ extern "C" {
 #endif
 
 /* The version, that of the file VERSION, as a text and as 10000 a + 100 b + c for a.b.c; CHANGES.md says what each of the three numbers means. */
-#define WAGONEPOCH_VERSION "1.5.1"
-#define WAGONEPOCH_VERSION_NUMBER 10501
+#define WAGONEPOCH_VERSION "1.5.2"
+#define WAGONEPOCH_VERSION_NUMBER 10502
 
 /* The most nodes and neighbour entries. */
 #define WAGONEPOCH_NODES 4096
@@ -172,6 +172,9 @@ uint16_t wagonepoch_reverse_cuthill_mckee(const uint16_t *starts, size_t starts_
    After a run, or after wagonepoch_reverse_cuthill_mckee, on the same two lists and with its n numbers as it left them, only a short list is
    refused: 5, or 8 where the bytes are fewer than its profile asks for. The profile is its fourth figure, and the scratch may be the same. The
    numbers are read and not written, so after 8 all that it gave still stands, and this call can be made again with bytes enough.
+   Marks that are 1 are at most the profile, and the profile less these marks are idle places. None is idle where every number but 1 has a
+   neighbour with a lower number: then the marks are the profile, and the bytes are full. Of one part, n + 1 less each number of
+   wagonepoch_reverse_cuthill_mckee is such a numbering; docs/MEMORY.md says what it costs.
    Refusals: 1 to 5, and 7 and 8, which leave the first n scratch words 0. */
 uint16_t wagonepoch_eliminate(const uint16_t *starts, size_t starts_len,
                               const uint16_t *neighbours, size_t neighbours_len,
