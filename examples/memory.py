@@ -113,8 +113,9 @@ Number a connected mesh so that every number but 1 has a neighbour with a lower 
 used. That is a theorem here, for every such numbering with one unknown a node: [`SPEC.md`, A.12](SPEC.md#a12-store-with-no-idle-place).
 
 Cuthill and McKee's order is one of these: each node after the first gets its number as a neighbour of one that has a number. The call of reverse
-Cuthill-McKee hands it out turned end for end. To turn it back, take n + 1 − number. Where a mesh falls into several parts, as `two_parts` does, each
-part is turned back within its own consecutive numbers, and again no place is idle: that is proved too.
+Cuthill-McKee hands it out turned end for end. To turn it back, take n + 1 − number. Where a mesh falls into several parts, as `two_parts` does, the
+parts follow one another, each in its order, and again no place is idle: that is proved too. There each part is turned back within its own
+consecutive numbers.
 
 Neither the run's own order nor reverse Cuthill-McKee as handed out is free of idle places in general, though on some meshes they are. The smallest
 example is a triangle with one more node at each corner: both orders need 7 places and leave one of them idle, and before its turning
