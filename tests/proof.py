@@ -4,14 +4,16 @@ stands in rt's place, in a folder that has a copy of the tool and one crate.
 """
 
 import os
+import re
 import shutil
 import subprocess
 import sys
 import tempfile
 
 TOP = os.path.dirname(os.path.dirname(os.path.abspath(__file__)))
-sys.path.insert(0, os.path.join(TOP, 'tests', 'tools'))
+sys.path[:0] = [os.path.join(TOP, 'tests', 'tools'), os.path.join(TOP, 'tools', 'dev')]
 
+import naming
 from harness import Cases
 
 # What rt dev says where `total` has no file: a note, an error that follows, and the lines to write.
@@ -84,7 +86,8 @@ class Folder:
         self.proof = os.path.join(path, 'crates', 'sums', 'proofs', 'legal', 'total', 'Proof.antt')
         for part in ('bin', os.path.join('tools', 'dev'), os.path.join('crates', 'sums', 'src')):
             os.makedirs(os.path.join(path, part))
-        shutil.copy(os.path.join(TOP, 'tools', 'dev', 'proof'), os.path.join(path, 'tools', 'dev'))
+        for tool in ('proof', 'naming.py'):
+            shutil.copy(os.path.join(TOP, 'tools', 'dev', tool), os.path.join(path, 'tools', 'dev'))
         for name, text in {'missing': MISSING, 'refused': REFUSED, 'hole': HOLE, 'places': PLACES, 'bin/rt': RT, 'note.txt': 'c^2\n'}.items():
             self.write(os.path.join(path, name), text)
         os.chmod(os.path.join(path, 'bin', 'rt'), 0o755)
@@ -143,6 +146,44 @@ def expand_cases(c, folder):
     c.equal('expand left it', folder.read(os.path.join(folder.path, 'note.txt')), 'c^2\n')
 
 
+# Thirteen places in a row: the start, a call, five facts, a branch, five facts.
+ROW = ['Start', 'After-sum', *('After-known%d' % i for i in range(1, 6)), 'Then1', *('After-known%d' % i for i in range(6, 11))]
+RECORDS = {place: [('before', before), (place.replace('After-', '').replace('Then', 'if'), 'T')] for place, before in zip(ROW[1:], ROW)}
+RECORDS.update({place + '·own': [('given', 'T')] for place in ROW if 'known' in place}, Start=[('args', 'T'), ('pre', 'T')])
+NEEDS = {'Need-first': 'After-known10', 'Need-second': 'After-known9'}
+# proof files without and with names; c^7 stands for c and seven ' .before'
+STEPS = ('first : tie.Need-first\nfirst c = f (c^11 .sum) (c^5 .if1)\n',
+         'first : tie.Need-first\nfirst c =\n    let at-if1 = c^5 in\n    let at-known1 = at-if1^5 in\n    let at-sum = at-known1^1 in\n'
+         '    f (at-sum .sum) (at-if1 .if1)\n')
+SHARED = ('first : tie.Need-first\nfirst c κs = let s = c^12 in g s (s .args)\n\nsecond : tie.Need-second\nsecond c = c^11 .pre\n',
+          '-- where the function starts\nabbrev start-of : tie.Then1 → tie.Start\nstart-of c =\n    let at-known1 = c^5 in\n    at-known1^2\n\n'
+          'first : tie.Need-first\nfirst c κs =\n    let at-if1 = c^5 in\n    let start = start-of at-if1 in\n    g start (start .args)\n\n'
+          'second : tie.Need-second\nsecond c =\n    let at-if1 = c^4 in\n    let start = start-of at-if1 in\n    start .pre\n')
+ALIAS = ('first : tie.Need-first\nfirst c =\n    let e = c^3 in\n    h e (e^8 .sum) (law e .2)\n',
+         'first : tie.Need-first\nfirst c =\n    let at-if1 = c^5 in\n    let at-known1 = at-if1^5 in\n    let at-sum = at-known1^1 in\n'
+         '    h (c^3) (at-sum .sum) (law (c^3) .2)\n')
+TYPED = ('law : (c : tie.After-known5 I) → P (c^6 .args)\nlaw c = x\n',
+         '-- a place of `law`\nabbrev law-start : tie.After-known5 I → tie.Start I\nlaw-start c =\n    let at-sum = c^5 in\n    at-sum^1\n\n'
+         'law : (c : tie.After-known5 I) → P (law-start c .args)\nlaw c = x\n')
+SHORT = 'first : tie.Need-first\nfirst c = f (c^5 .if1)\n'
+UNKNOWN = 'other : tie.Need-other\nother c = c^9 .args\n\nlong : (d : D) → T\nlong d = d^8 .x\n'
+
+
+def name_cases(c):
+    def chained(text):
+        return re.sub(r'\^(\d+)', lambda match: ' .before' * int(match.group(1)), text)
+
+    def named(text):
+        return naming.renamed(chained(text), RECORDS, NEEDS)
+
+    for what, (text, wanted) in (('steps of at most five, with the names of the places', STEPS), ('two that go back to the start share the way', SHARED),
+                                 ('a place with a name of its own gets that of its field', ALIAS), ('a signature has an abbreviation', TYPED)):
+        c.equal(what, named(text), chained(wanted))
+        c.equal(what + ', and no more', named(wanted), chained(wanted))
+    c.equal('five are no long chain', named(SHORT), chained(SHORT))
+    c.equal('what has no known place is left', named(UNKNOWN), chained(UNKNOWN))
+
+
 def word_cases(c, folder):
     c.equal('no such crate', folder.run('dev', 'other'), (2, 'proof: no crate other\n'))
     c.equal('no rt', folder.run('dev', 'sums', path=''), (2, 'proof: the Rattle toolchain (rt) is not on the path\n'))
@@ -158,6 +199,8 @@ def main():
         new_cases(c, folder)
         view_cases(c, folder)
         expand_cases(c, folder)
+        name_cases(c)
+        c.equal('name has nothing to do', folder.run('name', 'sums'), (0, ''))
         word_cases(c, folder)
     return c.report()
 

@@ -31,19 +31,27 @@ returns-2 c =
     let W = now (c .before .before .before .before .before .args .file) in
     rw (good (c .before .before), eq-eqb (fileNodes W) 0 (sym (nodes (c .before)) ∙ c .if2 .taken))
 
+-- where the function starts
+abbrev start-of : tie.Else2 → tie.Start
+start-of c = c .before .before .before .before .before
+
 returns-3 : tie.Need-returns-3
 unfolding headerRefusal
 returns-3 c =
-    let W = now (c .before .before .before .before .before .before .args .file) in
+    let at-if2 = c .before in
+    let start = start-of at-if2 in
+    let W = now (start .args .file) in
     let e = nodes (c .before .before) in
-    rw (good (c .before .before .before), ne-eqb (fileNodes W) 0 (λ z. c .before .if2 .left (e ∙ z)), lt-ltb 4096 (fileNodes W) (omega (arith, e, c .if3 .taken)))
+    rw (good (c .before .before .before), ne-eqb (fileNodes W) 0 (λ z. at-if2 .if2 .left (e ∙ z)), lt-ltb 4096 (fileNodes W) (omega (arith, e, c .if3 .taken)))
 
 returns-4 : tie.Need-returns-4
 unfolding headerRefusal
 returns-4 c =
-    let W = now (c .before .before .before .before .before .before .args .file) in
+    let at-if2 = c .before in
+    let start = start-of at-if2 in
+    let W = now (start .args .file) in
     let e = nodes (c .before .before) in
-    rw (good (c .before .before .before), ne-eqb (fileNodes W) 0 (λ z. c .before .if2 .left (e ∙ z)), le-ltb 4096 (fileNodes W) (omega (arith, e, c .if3 .left)))
+    rw (good (c .before .before .before), ne-eqb (fileNodes W) 0 (λ z. at-if2 .if2 .left (e ∙ z)), le-ltb 4096 (fileNodes W) (omega (arith, e, c .if3 .left)))
 
 pub header-refusal-spec : {M : Type 1} → statement M
 header-refusal-spec = tie.close (tie.spec (λ c κs. search needs) returns word-at-requires returns-2 returns-3 returns-4)

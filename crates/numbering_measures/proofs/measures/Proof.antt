@@ -19,9 +19,15 @@ use Rattle.numbering_measures.proofs.Answers.{lists-refused, scratch-sh
 use Rattle.numbering_measures.proofs.measures.Statement.{statement}
 use Rattle.numbering_measures.proofs.measures.Tie as tie
 
+-- where the function starts
+abbrev start-of : tie.After-test-adjacency → tie.Start
+start-of c = c .before .before .before .before .before
+
 -- the two lists are legal
 abbrev entry : tie.After-enum-told → tie.Start
-entry c = c .before .before .before .before .before .before .before
+entry c =
+    let at-test-adjacency = c .before .before in
+    start-of at-test-adjacency
 
 legal : (c : tie.After-enum-told) → LegalLists (now (entry c .args .starts)) (now (entry c .args .neighbours))
 legal c = legal-lists (now (entry c .args .starts)) (now (entry c .args .neighbours)) (c .before .before .test-adjacency .ensures) (c .enum-told .given .1)
@@ -30,15 +36,23 @@ legal c = legal-lists (now (entry c .args .starts)) (now (entry c .args .neighbo
 room : (c : tie.After-numbered) → sizeOf (now (entry (c .before .before .before) .args .starts)) ≤ length (now (entry (c .before .before .before) .args .scratch))
 room c = c .before .before .if1 .left
 
+-- a place of `numbered`
+abbrev numbered-enum-told : tie.Then2 → tie.After-enum-told
+numbered-enum-told c =
+    let at-if1 = c .before .before .before .before .before in
+    at-if1 .before
+
 -- the numbering is one
-numbered : (c : tie.Then2) → isNumbering (sizeOf (now (entry (c .before .before .before .before .before .before) .args .starts))) (now (entry (c .before .before .before .before .before .before) .args .numbering)) ≡ true
+numbered : (c : tie.Then2) → isNumbering (sizeOf (now (entry (numbered-enum-told c) .args .starts))) (now (entry (numbered-enum-told c) .args .numbering)) ≡ true
 numbered c = sym (c .before .before .before .numbered .ensures .0) ∙ c .if2 .taken
 
 returns : tie.Need-returns
 returns c =
-    let a = c .before .before .before .before .before .before .before .before .args in
+    let at-test-adjacency = c .before .before .before in
+    let start = start-of at-test-adjacency in
+    let a = start .args in
     lists-refused (now (a .starts)) (now (a .neighbours)) (now (a .numbering)) (now (a .scratch))
-    (refused-lists (now (a .starts)) (now (a .neighbours)) (c .before .before .before .test-adjacency .ensures) (c .before .tested .given .1))
+    (refused-lists (now (a .starts)) (now (a .neighbours)) (at-test-adjacency .test-adjacency .ensures) (c .before .tested .given .1))
 
 sub-n : tie.Need-sub-n
 sub-n c = omega (arith, legal c .starts .count)
@@ -51,35 +65,49 @@ returns-2 c =
 numbered-requires : tie.Need-numbered-requires
 numbered-requires c κs = (legal (c .before .before) .starts .few, c .before .if1 .left)
 
+-- a place of `part`
+abbrev part-enum-told : tie.After-figures-arg → tie.After-enum-told
+part-enum-told c =
+    let at-if2 = c .before in
+    numbered-enum-told at-if2
+
 -- as many words as nodes are lent
-part : (c : tie.After-figures-arg) → length (take (sizeOf (now (entry (c .before .before .before .before .before .before .before) .args .starts))) (c .before .before .before .before .numbered .last .1 .1 .0)) ≡ sizeOf (now (entry (c .before .before .before .before .before .before .before) .args .starts))
+part : (c : tie.After-figures-arg) → length (take (sizeOf (now (entry (part-enum-told c) .args .starts))) (c .before .before .before .before .numbered .last .1 .1 .0)) ≡ sizeOf (now (entry (part-enum-told c) .args .starts))
 part c =
-    length-take-le (sizeOf (now (entry (c .before .before .before .before .before .before .before) .args .starts))) (c .before .before .before .before .numbered .last .1 .1 .0)
+    let at-enum-told = part-enum-told c in
+    length-take-le (sizeOf (now (entry at-enum-told .args .starts))) (c .before .before .before .before .numbered .last .1 .1 .0)
     (omega (arith, c .before .before .before .before .numbered .kept .1 .1 .0, room (c .before .before .before .before)))
 
 figures-requires : tie.Need-figures-requires
-figures-requires c κs = (legal (c .before .before .before .before .before .before .before), (numbered (c .before), part c))
+figures-requires c κs =
+    let at-enum-told = part-enum-told c in
+    (legal at-enum-told, (numbered (c .before), part c))
 
 returns-3 : tie.Need-returns-3
 returns-3 c =
-    let a = entry (c .before .before .before .before .before .before .before .before .before .before) .args in
+    let at-if2 = c .before .before .before .before in
+    let at-numbered = at-if2 .before .before .before in
+    let at-enum-told = at-numbered .before .before .before in
+    let a = entry at-enum-told .args in
     let S = now (a .starts) in
     let X = now (a .numbering) in
-    let ok = numbered (c .before .before .before .before) in
-    let r = measured S (now (a .neighbours)) X (now (a .scratch)) (legal (c .before .before .before .before .before .before .before .before .before .before)) (room (c .before .before .before .before .before .before .before)) ok in (
+    let ok = numbered at-if2 in
+    let r = measured S (now (a .neighbours)) X (now (a .scratch)) (legal at-enum-told) (room at-numbered) ok in (
       ap accepted (c .before .before .figures .ensures .0) ∙ r .0,
-      zeros-back (sizeOf S) (orderOf X) (now (a .scratch)) (c .before .before .figures .last .1 .1 .1 .0) (c .before .before .before .before .before .before .before .numbered .last .1 .1 .0)
+      zeros-back (sizeOf S) (orderOf X) (now (a .scratch)) (c .before .before .figures .last .1 .1 .1 .0) (at-numbered .numbered .last .1 .1 .0)
           (length-orderOf X ∙ numbering-length _ _ ok) (c .before .before .figures .ensures .1)
-          (c .before .before .before .before .before .before .before .numbered .ensures .1 ∙ ap (λ (t : Bool). cond t (overwrite (orderOf X) (now (a .scratch))) (zeroed (sizeOf S) (now (a .scratch)))) (c .before .before .before .before .if2 .taken))
+          (at-numbered .numbered .ensures .1 ∙ ap (λ (t : Bool). cond t (overwrite (orderOf X) (now (a .scratch))) (zeroed (sizeOf S) (now (a .scratch)))) (at-if2 .if2 .taken))
           ∙ r .1,
     )
 
 returns-4 : tie.Need-returns-4
 returns-4 c =
-    let a = entry (c .before .before .before .before .before .before) .args in
+    let at-if1 = c .before .before .before .before .before in
+    let at-enum-told = at-if1 .before in
+    let a = entry at-enum-told .args in
     let S = now (a .starts) in
     let X = now (a .numbering) in
-    let r = misnumbered S (now (a .neighbours)) X (now (a .scratch)) (legal (c .before .before .before .before .before .before)) (room (c .before .before .before)) (sym (c .before .before .before .numbered .ensures .0) ∙ c .if2 .left) in (
+    let r = misnumbered S (now (a .neighbours)) X (now (a .scratch)) (legal at-enum-told) (room (c .before .before .before)) (sym (c .before .before .before .numbered .ensures .0) ∙ c .if2 .left) in (
       r .0,
       c .before .before .before .numbered .ensures .1
           ∙ ap (λ (t : Bool). cond t (overwrite (orderOf X) (now (a .scratch))) (zeroed (sizeOf S) (now (a .scratch)))) (c .if2 .left)

@@ -22,11 +22,21 @@ enum-known-c c = search needs
 enum-told : tie.Need-enum-told
 enum-told c = search needs
 
+-- where the function starts
+abbrev start-of : tie.After-test-adjacency → tie.Start
+start-of c = c .before .before .before .before
+
+-- a place of `legal`
+abbrev legal-start : tie.After-enum-told → tie.Start
+legal-start c =
+    let at-test-adjacency = c .before .before in
+    start-of at-test-adjacency
+
 -- the two lists, where the adjacency test passed
-legal : (c : tie.After-enum-told) → let s = c .before .before .before .before .before .before in LegalLists (s .args .starts .now) (s .args .neighbours .now)
+legal : (c : tie.After-enum-told) → let s = (legal-start c) in LegalLists (s .args .starts .now) (s .args .neighbours .now)
 legal c =
-    let s = c .before .before .before .before .before .before in
-    legal-lists (s .args .starts .now) (s .args .neighbours .now) (c .before .before .test-adjacency .ensures) (c .enum-told .given .1)
+    let start = legal-start c in
+    legal-lists (start .args .starts .now) (start .args .neighbours .now) (c .before .before .test-adjacency .ensures) (c .enum-told .given .1)
 
 sub-n : tie.Need-sub-n
 sub-n c = omega (arith, legal c .starts .count)
@@ -36,48 +46,58 @@ mul-if1 c = omega (arith, legal c .starts .few)
 
 returns : tie.Need-returns
 returns c =
-    let s = c .before .before .before .before .before .before .before in
-    report-refused (s .args .starts .now) (s .args .neighbours .now) (s .args .node) (s .args .scratch .now)
-    (part-short (s .args .starts .now) (s .args .neighbours .now) (s .args .node) (s .args .scratch .now) (legal (c .before)) (c .if1 .taken))
+    let at-enum-told = c .before in
+    let start = legal-start at-enum-told in
+    report-refused (start .args .starts .now) (start .args .neighbours .now) (start .args .node) (start .args .scratch .now)
+    (part-short (start .args .starts .now) (start .args .neighbours .now) (start .args .node) (start .args .scratch .now) (legal at-enum-told) (c .if1 .taken))
 
 no-node-requires : tie.Need-no-node-requires
 no-node-requires c κs = search needs
 
 returns-2 : tie.Need-returns-2
 returns-2 c =
-    let e = c .before .before in
-    let s = e .before .before .before .before .before .before .before in
-    report-refused (s .args .starts .now) (s .args .neighbours .now) (s .args .node) (s .args .scratch .now)
-    (part-outside (s .args .starts .now) (s .args .neighbours .now) (s .args .node) (s .args .scratch .now) (legal (e .before)) (e .if1 .left)
+    let at-enum-told = c .before .before .before in
+    let start = legal-start at-enum-told in
+    report-refused (start .args .starts .now) (start .args .neighbours .now) (start .args .node) (start .args .scratch .now)
+    (part-outside (start .args .starts .now) (start .args .neighbours .now) (start .args .node) (start .args .scratch .now) (legal at-enum-told) (c .before .before .if1 .left)
     (sym (c .before .no-node .ensures) ∙ c .if2 .taken))
 
+-- a place of `inside`
+abbrev inside-start : tie.Else2 → tie.Start
+inside-start c =
+    let at-enum-told = c .before .before .before in
+    legal-start at-enum-told
+
 -- the node given is one
-inside : (c : tie.Else2) → let s = c .before .before .before .before .before .before .before .before .before in outside (sizeOf (s .args .starts .now)) (s .args .node) ≡ false
+inside : (c : tie.Else2) → let s = (inside-start c) in outside (sizeOf (s .args .starts .now)) (s .args .node) ≡ false
 inside c = sym (c .before .no-node .ensures) ∙ c .if2 .left
 
 find-report-requires : tie.Need-find-report-requires
 find-report-requires c κs =
-    let e = c .before .before .before in
-    let s = e .before .before .before .before .before .before .before in
-    (legal (e .before) .refusal, (node-inside (sizeOf (s .args .starts .now)) (s .args .node) (inside (c .before)), e .if1 .left))
+    let at-if2 = c .before in
+    let start = inside-start at-if2 in
+    (legal (c .before .before .before .before) .refusal, (node-inside (sizeOf (start .args .starts .now)) (start .args .node) (inside at-if2), c .before .before .before .if1 .left))
 
 returns-3 : tie.Need-returns-3
 returns-3 c =
-    let s = c .before .before .before .before .before .before .before in
-    report-refused (s .args .starts .now) (s .args .neighbours .now) (s .args .node) (s .args .scratch .now)
-    (part-lists (s .args .starts .now) (s .args .neighbours .now) (s .args .node) (s .args .scratch .now)
-    (refused-lists (s .args .starts .now) (s .args .neighbours .now) (c .before .before .before .test-adjacency .ensures) (c .before .c .given .1)))
+    let at-test-adjacency = c .before .before .before in
+    let start = start-of at-test-adjacency in
+    report-refused (start .args .starts .now) (start .args .neighbours .now) (start .args .node) (start .args .scratch .now)
+    (part-lists (start .args .starts .now) (start .args .neighbours .now) (start .args .node) (start .args .scratch .now)
+    (refused-lists (start .args .starts .now) (start .args .neighbours .now) (at-test-adjacency .test-adjacency .ensures) (c .before .c .given .1)))
 
 same-length : tie.Need-same-length
 same-length c = search needs
 
 returns-4 : tie.Need-returns-4
 returns-4 c =
-    let e = c .before .before .before .before .before .before in
-    let s = e .before .before .before .before .before .before .before in
+    let at-no-node = c .before .before .before .before .before in
+    let at-if1 = at-no-node .before in
+    let at-enum-told = at-if1 .before in
+    let start = legal-start at-enum-told in
     let o = inside (c .before .before .before .before) in
-    let R = report-accepted (s .args .starts .now) (s .args .neighbours .now) (s .args .node) (s .args .scratch .now)
-    (part-accepted (s .args .starts .now) (s .args .neighbours .now) (s .args .node) (s .args .scratch .now) (legal (e .before)) (e .if1 .left) o) in
+    let R = report-accepted (start .args .starts .now) (start .args .neighbours .now) (start .args .node) (start .args .scratch .now)
+    (part-accepted (start .args .starts .now) (start .args .neighbours .now) (start .args .node) (start .args .scratch .now) (legal at-enum-told) (at-if1 .if1 .left) o) in
     let w = c .before .before .find-report .ensures in
     (ap (λ (r : PartReport). accepted r) (w .0) ∙ R .0, w .1 ∙ R .1)
 

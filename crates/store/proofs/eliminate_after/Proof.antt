@@ -31,7 +31,9 @@ same-length-2 c = search needs
 -- src/lib.rt:49:1
 returns : tie.Need-returns
 returns c =
-    let v = c .before .before .before .before .before .before .before .eliminate in
+    let at-slice-known3 = c .before .before .before .before .before in
+    let at-eliminate = at-slice-known3 .before .before in
+    let v = at-eliminate .eliminate in
     (beside _ (v .ensures .0) (c .before .c .given .1) refl, v .ensures .1)
 
 -- src/lib.rt:49:1
@@ -45,7 +47,9 @@ same-length-4 c = search needs
 -- src/lib.rt:49:1
 returns-2 : tie.Need-returns-2
 returns-2 c =
-    let v = c .before .before .before .before .before .before .before .eliminate in
+    let at-slice-known3 = c .before .before .before .before .before in
+    let at-eliminate = at-slice-known3 .before .before in
+    let v = at-eliminate .eliminate in
     (beside _ (v .ensures .0) (c .before .counts .given .1) refl, v .ensures .1)
 
 pub eliminate-after-spec : {M : Type 1} → statement M

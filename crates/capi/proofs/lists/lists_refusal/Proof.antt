@@ -8,8 +8,10 @@ use Rattle.capi.proofs.lists.lists_refusal.Tie as tie
 
 returns : tie.Need-returns
 returns c =
-    let a = c .before .before .before .before .before .before .args in
-    sym (refused-lists (now (a .starts)) (now (a .neighbours)) (c .before .before .before .test-adjacency .ensures) (c .before .c .given .1) .refusal)
+    let at-test-adjacency = c .before .before .before in
+    let start = at-test-adjacency .before .before .before in
+    let a = start .args in
+    sym (refused-lists (now (a .starts)) (now (a .neighbours)) (at-test-adjacency .test-adjacency .ensures) (c .before .c .given .1) .refusal)
 
 returns-2 : tie.Need-returns-2
 returns-2 c =

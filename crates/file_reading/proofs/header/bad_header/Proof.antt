@@ -35,9 +35,11 @@ returns-3 c =
 returns-4 : tie.Need-returns-4
 unfolding badHeader
 returns-4 c =
-    let W = now (c .before .before .before .before .before .before .args .file) in
+    let at-if1 = c .before .before .before .before in
+    let start = at-if1 .before .before in
+    let W = now (start .args .file) in
     rw (
-      le-ltb 65535 (length W) (c .before .before .before .before .if1 .left),
+      le-ltb 65535 (length W) (at-if1 .if1 .left),
       le-ltb (length W) 9 (c .before .before .before .if2 .left),
       sym (c .before .before .has-mark .ensures) ∙ not-false (c .before .before .has-mark .result) (c .before .if3 .left),
     )

@@ -13,8 +13,15 @@ use Rattle.file_reading.proofs.Bytes.{body-length, body-at, pasted}
 use Rattle.file_reading.proofs.legal.decode.Statement.{statement}
 use Rattle.file_reading.proofs.legal.decode.Tie as tie
 
+-- the first i words are copied
+record Copied (file list₀ : List ℕ) (count : ℕ) (list : List ℕ) (i : ℕ) : Type 0 where
+  inside : i ≤ count
+  all : count ≡ length (body file)
+  same-length : length list ≡ length list₀
+  copied : list ≡ paste list₀ 0 (body file) i
+
 abbrev Inv-loop : tie.InvT-loop
-Inv-loop file list₀ count i₀ list i = (i ≤ count) × (count ≡ length (body file)) × (length list ≡ length list₀) × (list ≡ paste list₀ 0 (body file) i)
+Inv-loop file list₀ count i₀ list i = Copied file list₀ count list i
 
 abbrev μ-loop : tie.MeasureT-loop
 μ-loop file list₀ count i₀ list i = count - i
@@ -22,7 +29,12 @@ abbrev μ-loop : tie.MeasureT-loop
 loop-holds : tie.Need-loop-holds Inv-loop μ-loop
 loop-holds c =
     let a = c .before .before .args in
-    (omega arith, sym (body-length (now (a .file))), refl, paste-zero (now (a .list)) 0 (body (now (a .file))))
+    record {
+      inside = omega arith;
+      all = sym (body-length (now (a .file)));
+      same-length = refl;
+      copied = paste-zero (now (a .list)) 0 (body (now (a .file)));
+    }
 
 mul-word-at : tie.Need-mul-word-at Inv-loop μ-loop
 mul-word-at c = omega arith
@@ -37,7 +49,7 @@ mul-list : tie.Need-mul-list Inv-loop μ-loop
 mul-list c = omega arith
 
 slice-write-list : tie.Need-slice-write-list Inv-loop μ-loop
-slice-write-list c = let l = c .before .before in omega (arith, l .before .before .before .pre .1, l .loop .inv .2)
+slice-write-list c = let l = c .before .before in omega (arith, l .before .before .before .pre .1, l .loop .inv .same-length)
 
 loop-again : tie.Need-loop-again Inv-loop μ-loop
 loop-again c =
@@ -47,15 +59,16 @@ loop-again c =
     let D = now (s .args .list) in
     let i = l .loop .i in
     let h : i < length (body W) = omega (arith, body-length W) in
-    let e : 0 + i ≡ i = zero-add i in (
-      omega arith,
-      sym (body-length W),
-      length-set (l .loop .list) i (c .word-at .result) ∙ l .loop .inv .2,
-      ap₂ (λ (d : List ℕ) (v : ℕ). set d i v) (l .loop .inv .3) (c .word-at .ensures ∙ sym (body-at W i h))
+    let e : 0 + i ≡ i = zero-add i in
+    record {
+      inside = omega arith;
+      all = sym (body-length W);
+      same-length = length-set (l .loop .list) i (c .word-at .result) ∙ l .loop .inv .same-length;
+      copied = ap₂ (λ (d : List ℕ) (v : ℕ). set d i v) (l .loop .inv .copied) (c .word-at .ensures ∙ sym (body-at W i h))
           ∙ ap (λ (j : ℕ). set (paste D 0 (body W) i) j (getD (body W) i 0)) (sym e)
           ∙ paste-suc D 0 (body W) i 0 (omega (arith, s .pre .1)) h
-          ∙ ap (paste D 0 (body W)) (sym (add-one i)),
-    )
+          ∙ ap (paste D 0 (body W)) (sym (add-one i));
+    }
 
 returns : tie.Need-returns Inv-loop μ-loop
 returns c =
@@ -63,7 +76,7 @@ returns c =
     let a = l .before .before .before .args in
     let W = now (a .file) in
     let e : l .loop .i ≡ length (body W) = omega (arith, body-length W) in
-    (sym (body-length W), l .loop .inv .3 ∙ pasted (now (a .list)) (body W) (l .loop .i) e)
+    (sym (body-length W), l .loop .inv .copied ∙ pasted (now (a .list)) (body W) (l .loop .i) e)
 
 pub decode-spec : {M : Type 1} → statement M
 decode-spec =
@@ -81,5 +94,5 @@ decode-spec =
     (λ c. omega arith)
     (λ c. omega arith)
     loop-again
-    (λ c. c .before .loop .inv .2)
+    (λ c. c .before .loop .inv .same-length)
     returns)

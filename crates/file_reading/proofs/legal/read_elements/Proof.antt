@@ -24,14 +24,22 @@ nodes-requires c κs = c .before .before .pre .0
 word-at-requires : tie.Need-word-at-requires
 word-at-requires c κs = omega (arith, whole (c .before .before .before))
 
+-- where the function starts
+abbrev start-of : tie.After-wide → tie.Start
+start-of c = c .before .before .before .before .before
+
 decode-requires : tie.Need-decode-requires
-decode-requires c κs = let s = c .before .before .before .before .before .before in (whole s, s .pre .1)
+decode-requires c κs =
+    let at-wide = c .before in
+    let start = start-of at-wide in
+    (whole start, start .pre .1)
 
 -- as many words as the body are in the list
 room : (c : tie.After-decode) → c .decode .result ≤ length (c .decode .last .1 .0)
 room c =
-    let s = c .before .before .before .before .before .before .before in
-    omega (arith, c .decode .ensures .0, c .decode .kept .1 .0, s .pre .1)
+    let at-wide = c .before .before in
+    let start = start-of at-wide in
+    omega (arith, c .decode .ensures .0, c .decode .kept .1 .0, start .pre .1)
 
 slice-reshare-prefix-test-elements : tie.Need-slice-reshare-prefix-test-elements
 slice-reshare-prefix-test-elements c = room (c .before .before)
@@ -39,19 +47,29 @@ slice-reshare-prefix-test-elements c = room (c .before .before)
 slice-aggregate-test-elements : tie.Need-slice-aggregate-test-elements
 slice-aggregate-test-elements c = sym (length-take-le _ _ (room (c .before .before .before)))
 
+-- a place of `told`
+abbrev told-start : tie.After-test-elements → tie.Start
+told-start c =
+    let at-decode = c .before .before .before .before in
+    let at-wide = at-decode .before .before in
+    start-of at-wide
+
 -- what the test of the elements answers, of the file
 told : (c : tie.After-test-elements)
-    → let W = now (c .before .before .before .before .before .before .before .before .before .before .before .args .file) in
+    → let W = now (told-start c .args .file) in
     tested (c .test-elements .result) ≡ outcome (countedRefusal (fileElements W) (fileNodes W) (body W)) (wordsTaken (fileElements W) (body W))
 told c =
-    let d = c .before .before .before .before in
-    let s = d .before .before .before .before .before .before .before in
-    let W = now (s .args .file) in
-    let n = d .before .before .before .before .nodes .ensures in
-    let k = d .before .before .wide .ensures ∙ d .before .before .before .word-at .ensures ∙ sym (elements-is W (whole s)) in
-    let l = ap₂ take (d .decode .ensures .0) (d .decode .ensures .1) ∙ take-at (body W) (drop (length (body W)) (now (s .args .list))) (length (body W)) refl in
+    let at-decode = c .before .before .before .before in
+    let at-wide = at-decode .before .before in
+    let at-word-at = at-wide .before in
+    let at-nodes = at-word-at .before in
+    let start = at-nodes .before .before .before in
+    let W = now (start .args .file) in
+    let n = at-nodes .nodes .ensures in
+    let k = at-wide .wide .ensures ∙ at-word-at .word-at .ensures ∙ sym (elements-is W (whole start)) in
+    let l = ap₂ take (at-decode .decode .ensures .0) (at-decode .decode .ensures .1) ∙ take-at (body W) (drop (length (body W)) (now (start .args .list))) (length (body W)) refl in
     c .test-elements .ensures
-    ∙ ap₂ outcome (ap₂ (λ (x y : ℕ). countedRefusal x y (take (d .decode .result) (d .decode .last .1 .0))) k n ∙ ap (countedRefusal (fileElements W) (fileNodes W)) l)
+    ∙ ap₂ outcome (ap₂ (λ (x y : ℕ). countedRefusal x y (take (at-decode .decode .result) (at-decode .decode .last .1 .0))) k n ∙ ap (countedRefusal (fileElements W) (fileNodes W)) l)
     (ap₂ wordsTaken k l)
 
 enum-known-answer : tie.Need-enum-known-answer
@@ -60,48 +78,63 @@ enum-known-answer c = search needs
 enum-known-answer-2 : tie.Need-enum-known-answer-2
 enum-known-answer-2 c = search needs
 
+-- a place of `took`
+abbrev took-start : tie.After-known-told2 → tie.Start
+took-start c =
+    let at-test-elements = c .before .before .before in
+    told-start at-test-elements
+
 -- what the elements take
 took : (c : tie.After-known-told2)
-    → let W = now (c .before .before .before .before .before .before .before .before .before .before .before .before .before .before .args .file) in
+    → let W = now (took-start c .args .file) in
     accepted (c .before .answer2 .given .0 .0) ≡ outcome (countedRefusal (fileElements W) (fileNodes W) (body W)) (wordsTaken (fileElements W) (body W))
 took c = sym (ap tested (c .before .answer2 .given .1)) ∙ told (c .before .before .before)
 
 small : (c : tie.After-known-told2)
-    → c .before .answer2 .given .0 .0 ≤ length (body (now (c .before .before .before .before .before .before .before .before .before .before .before .before .before .before .args .file)))
+    → c .before .answer2 .given .0 .0 ≤ length (body (now (took-start c .args .file)))
 small c =
-    let W = now (c .before .before .before .before .before .before .before .before .before .before .before .before .before .before .args .file) in
+    let start = took-start c in
+    let W = now (start .args .file) in
     taken-small W (c .before .answer2 .given .0 .0) (took c)
 
 mul-if1 : tie.Need-mul-if1
 mul-if1 c =
-    let W = now (c .before .before .before .before .before .before .before .before .before .before .before .before .before .before .args .file) in
+    let start = took-start c in
+    let W = now (start .args .file) in
     omega (arith, small c, body-length W)
 
 add-if1 : tie.Need-add-if1
 add-if1 c =
-    let W = now (c .before .before .before .before .before .before .before .before .before .before .before .before .before .before .args .file) in
+    let start = took-start c in
+    let W = now (start .args .file) in
     omega (arith, small c, body-length W)
 
 returns : tie.Need-returns
 returns c =
-    let t = c .before .before .before in
-    let d = t .before .before .before .before in
-    let W = now (d .before .before .before .before .before .before .before .args .file) in
-    (by-element W (c .before .answer .given .0 .0) (sym (ap tested (c .before .answer .given .1)) ∙ told t), d .decode .ensures .1)
+    let at-test-elements = c .before .before .before in
+    let at-decode = at-test-elements .before .before .before .before in
+    let at-wide = at-decode .before .before in
+    let start = start-of at-wide in
+    let W = now (start .args .file) in
+    (by-element W (c .before .answer .given .0 .0) (sym (ap tested (c .before .answer .given .1)) ∙ told at-test-elements), at-decode .decode .ensures .1)
 
 returns-2 : tie.Need-returns-2
 returns-2 c =
-    let m = c .before in
-    let d = m .before .before .before .before .before .before .before in
-    let W = now (d .before .before .before .before .before .before .before .args .file) in
-    (by-left W (m .before .answer2 .given .0 .0) (took m) (c .if1 .taken), d .decode .ensures .1)
+    let at-test-elements = c .before .before .before .before in
+    let at-decode = at-test-elements .before .before .before .before in
+    let at-wide = at-decode .before .before in
+    let start = start-of at-wide in
+    let W = now (start .args .file) in
+    (by-left W (c .before .before .answer2 .given .0 .0) (took (c .before)) (c .if1 .taken), at-decode .decode .ensures .1)
 
 returns-3 : tie.Need-returns-3
 returns-3 c =
-    let m = c .before in
-    let d = m .before .before .before .before .before .before .before in
-    let W = now (d .before .before .before .before .before .before .before .args .file) in
-    (ap accepted (d .decode .ensures .0) ∙ by-none W (m .before .answer2 .given .0 .0) (took m) (c .if1 .left), d .decode .ensures .1)
+    let at-test-elements = c .before .before .before .before in
+    let at-decode = at-test-elements .before .before .before .before in
+    let at-wide = at-decode .before .before in
+    let start = start-of at-wide in
+    let W = now (start .args .file) in
+    (ap accepted (at-decode .decode .ensures .0) ∙ by-none W (c .before .before .answer2 .given .0 .0) (took (c .before)) (c .if1 .left), at-decode .decode .ensures .1)
 
 pub read-elements-spec : {M : Type 1} → statement M
 read-elements-spec =

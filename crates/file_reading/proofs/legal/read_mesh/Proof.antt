@@ -23,11 +23,22 @@ use Rattle.file_reading.proofs.legal.read_mesh.Tie as tie
 nodes-requires : tie.Need-nodes-requires
 nodes-requires c κs = c .before .before .before .before .before .pre .0 .0
 
+-- where the function starts
+abbrev start-of : tie.After-nodes → tie.Start
+start-of c =
+    let at-shared-slice-known = c .before .before .before .before .before in
+    at-shared-slice-known .before
+
 read-elements-requires : tie.Need-read-elements-requires
-read-elements-requires c κs = c .before .before .before .before .before .before .before .pre .0
+read-elements-requires c κs =
+    let at-nodes = c .before in
+    let start = start-of at-nodes in
+    start .pre .0
 
 abbrev start : tie.After-read-elements → tie.Start
-start r = r .before .before .before .before .before .before .before .before
+start r =
+    let at-nodes = r .before .before in
+    start-of at-nodes
 
 abbrev bytes : tie.After-read-elements → List ℕ
 bytes r = now (start r .args .file)
@@ -101,29 +112,30 @@ returns c =
 
 returns-2 : tie.Need-returns-2
 returns-2 c =
-    let d = c .before .before .before .before .before .before in
-    let k = d .before .before .before .before .before in
-    let s = start (read k) in
-    let W = bytes (read k) in
+    let at-starts = c .before .before .before .before .before in
+    let at-adjacency = at-starts .before in
+    let at-known-told2 = at-adjacency .before .before .before .before .before in
+    let s = start (read at-known-told2) in
+    let W = bytes (read at-known-told2) in
     let g = fileGraph W in
-    let G = ap₂ graphOfElements (nodes (read k)) (part k) ∙ sym (words-graph W (size k) (told k)) in
-    let passed = words-pass W (size k) (told k) ∙ ap (λ (h : Graph). refuse (refuses11 h) 11) (sym (words-graph W (size k) (told k))) in
+    let G = ap₂ graphOfElements (nodes (read at-known-told2)) (part at-known-told2) ∙ sym (words-graph W (size at-known-told2) (told at-known-told2)) in
+    let passed = words-pass W (size at-known-told2) (told at-known-told2) ∙ ap (λ (h : Graph). refuse (refuses11 h) 11) (sym (words-graph W (size at-known-told2) (told at-known-told2))) in
     let e = sym passed in (
-      d .adjacency .ensures .0
+      at-adjacency .adjacency .ensures .0
           ∙ ap (λ (h : Graph). outcome (refuse (refuses11 h) 11) (entryCount h)) G
           ∙ ap (λ (n : ℕ). outcome n (entryCount g)) e,
       (
-        read k .read-elements .ensures .1,
+        read at-known-told2 .read-elements .ensures .1,
         (
-          d .adjacency .ensures .1 .0
+          at-adjacency .adjacency .ensures .1 .0
               ∙ ap (λ (h : Graph). filled (refuse (refuses11 h) 11) (startList h) (now (s .args .starts))) G
               ∙ ap (λ (n : ℕ). filled n (startList g) (now (s .args .starts))) e,
           (
-            d .adjacency .ensures .1 .1 .0
+            at-adjacency .adjacency .ensures .1 .1 .0
                 ∙ ap (λ (h : Graph). filled (refuse (refuses11 h) 11) (neighbourList h) (now (s .args .neighbours))) G
                 ∙ ap (λ (n : ℕ). filled n (neighbourList g) (now (s .args .neighbours))) e,
-            d .adjacency .ensures .1 .1 .1
-                ∙ ap (λ (n : ℕ). zeroed n (now (s .args .scratch))) (nodes (read k))
+            at-adjacency .adjacency .ensures .1 .1 .1
+                ∙ ap (λ (n : ℕ). zeroed n (now (s .args .scratch))) (nodes (read at-known-told2))
                 ∙ scratch-zeroed (bodyRefusal W) (refuses11 g) (fileNodes W) (now (s .args .scratch)) passed,
           ),
         ),

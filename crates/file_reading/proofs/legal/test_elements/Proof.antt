@@ -43,29 +43,39 @@ returns-2 c =
     let a = l .before .before .args in
     testing-met (a .n) (now (a .list)) (a .count) (l .loop .left) (l .loop .at) (l .loop .inv) (omega arith) (omega arith) (r .element-refusal .result) (element r) (c .if2 .taken)
 
+-- a place of `good`
+abbrev good-loop : tie.Else2 Inv-loop μ-loop → tie.At-loop Inv-loop μ-loop
+good-loop c =
+    let at-loop-test = c .before .before .before .before .before in
+    at-loop-test .before
+
 -- the element is not refused
 good : (c : tie.Else2 Inv-loop μ-loop)
-    → let l = c .before .before .before .before .before .before in
+    → let l = (good-loop c) in
     let a = l .before .before .args in
     elementRefusal 12 (a .n) (getD (now (a .list)) (l .loop .at) 0) (drop (l .loop .at + 1) (now (a .list))) ≡ 0
 good c = sym (element (c .before)) ∙ c .if2 .left
 
 add-at-2 : tie.Need-add-at-2 Inv-loop μ-loop
 add-at-2 c =
-    let l = c .before .before .before .before .before .before .before in
-    let a = l .before .before .args in
+    let at-if2 = c .before in
+    let at-loop = good-loop at-if2 in
+    let start = at-loop .before .before in
+    let a = start .args in
     omega (
       arith,
       c .node-count .ensures,
-      testing-fits (a .n) (now (a .list)) (a .count) (l .loop .left) (l .loop .at) (l .loop .inv) (omega arith) (omega arith) (good (c .before)),
+      testing-fits (a .n) (now (a .list)) (a .count) (at-loop .loop .left) (at-loop .loop .at) (at-loop .loop .inv) (omega arith) (omega arith) (good at-if2),
     )
 
 loop-again : tie.Need-loop-again Inv-loop μ-loop
 loop-again c =
-    let l = c .before .before .before .before .before .before .before in
-    let a = l .before .before .args in
-    subst (λ (k : ℕ). Testing (a .n) (now (a .list)) (a .count) (l .loop .left - 1) (l .loop .at + 1 + k)) (sym (c .node-count .ensures))
-    (testing-step (a .n) (now (a .list)) (a .count) (l .loop .left) (l .loop .at) (l .loop .inv) (omega arith) (omega arith) (good (c .before)))
+    let at-if2 = c .before in
+    let at-loop = good-loop at-if2 in
+    let start = at-loop .before .before in
+    let a = start .args in
+    subst (λ (k : ℕ). Testing (a .n) (now (a .list)) (a .count) (at-loop .loop .left - 1) (at-loop .loop .at + 1 + k)) (sym (c .node-count .ensures))
+    (testing-step (a .n) (now (a .list)) (a .count) (at-loop .loop .left) (at-loop .loop .at) (at-loop .loop .inv) (omega arith) (omega arith) (good at-if2))
 
 returns-3 : tie.Need-returns-3 Inv-loop μ-loop
 returns-3 c =

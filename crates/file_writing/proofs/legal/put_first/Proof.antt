@@ -25,11 +25,23 @@ one : (c : tie.After-put-item) → Left (c .before .before .before .before) 1 (c
 unfolding item ascii
 one c = rest-step (all (c .before .before .before .before)) (c .put-item .ensures)
 
-two : (c : tie.After-put-item2) → Left (c .before .before .before .before .before .before .before .before .before) 2 (c .put-item2 .result) (c .put-item2 .last .1 .1 .0)
+-- a place of `two`
+abbrev two-start : tie.After-put-item2 → tie.Start
+two-start c =
+    let at-put-item = c .before .before .before .before .before in
+    at-put-item .before .before .before .before
+
+two : (c : tie.After-put-item2) → Left (two-start c) 2 (c .put-item2 .result) (c .put-item2 .last .1 .1 .0)
 unfolding item ascii
 two c = rest-step (one (c .before .before .before .before .before)) (c .put-item2 .ensures)
 
-three : (c : tie.After-put-item3) → Left (c .before .before .before .before .before .before .before .before .before .before .before .before .before .before) 3 (c .put-item3 .result) (c .put-item3 .last .1 .1 .0)
+-- a place of `three`
+abbrev three-start : tie.After-put-item3 → tie.Start
+three-start c =
+    let at-put-item2 = c .before .before .before .before .before in
+    two-start at-put-item2
+
+three : (c : tie.After-put-item3) → Left (three-start c) 3 (c .put-item3 .result) (c .put-item3 .last .1 .1 .0)
 unfolding item ascii
 three c = rest-step (two (c .before .before .before .before .before)) (c .put-item3 .ensures)
 
@@ -51,7 +63,10 @@ put-item-requires-4 c κs = rest-room (three (c .before .before .before .before)
 
 returns : tie.Need-returns
 unfolding item ascii
-returns c = rest-done (rest-step (three (c .before .before .before .before .before .before .before)) (c .before .before .put-item4 .ensures))
+returns c =
+    let at-put-item4 = c .before .before in
+    let at-put-item3 = at-put-item4 .before .before .before .before .before in
+    rest-done (rest-step (three at-put-item3) (at-put-item4 .put-item4 .ensures))
 
 pub put-first-spec : {M : Type 1} → statement M
 put-first-spec =

@@ -25,15 +25,33 @@ one : (c : tie.After-put-item) → Left (c .before .before .before .before) 1 (c
 unfolding item ascii
 one c = rest-step (all (c .before .before .before .before)) (c .put-item .ensures)
 
-two : (c : tie.After-put-item2) → Left (c .before .before .before .before .before .before .before .before .before) 2 (c .put-item2 .result) (c .put-item2 .last .1 .1 .0)
+-- a place of `two`
+abbrev two-start : tie.After-put-item2 → tie.Start
+two-start c =
+    let at-put-item = c .before .before .before .before .before in
+    at-put-item .before .before .before .before
+
+two : (c : tie.After-put-item2) → Left (two-start c) 2 (c .put-item2 .result) (c .put-item2 .last .1 .1 .0)
 unfolding item ascii
 two c = rest-step (one (c .before .before .before .before .before)) (c .put-item2 .ensures)
 
-three : (c : tie.After-put-item3) → Left (c .before .before .before .before .before .before .before .before .before .before .before .before .before .before) 3 (c .put-item3 .result) (c .put-item3 .last .1 .1 .0)
+-- a place of `three`
+abbrev three-start : tie.After-put-item3 → tie.Start
+three-start c =
+    let at-put-item2 = c .before .before .before .before .before in
+    two-start at-put-item2
+
+three : (c : tie.After-put-item3) → Left (three-start c) 3 (c .put-item3 .result) (c .put-item3 .last .1 .1 .0)
 unfolding item ascii
 three c = rest-step (two (c .before .before .before .before .before)) (c .put-item3 .ensures)
 
-four : (c : tie.After-put-item4) → Left (c .before .before .before .before .before .before .before .before .before .before .before .before .before .before .before .before .before .before .before) 4 (c .put-item4 .result) (c .put-item4 .last .1 .1 .0)
+-- a place of `four`
+abbrev four-start : tie.After-put-item4 → tie.Start
+four-start c =
+    let at-put-item3 = c .before .before .before .before .before in
+    three-start at-put-item3
+
+four : (c : tie.After-put-item4) → Left (four-start c) 4 (c .put-item4 .result) (c .put-item4 .last .1 .1 .0)
 unfolding item ascii
 four c = rest-step (three (c .before .before .before .before .before)) (c .put-item4 .ensures)
 
@@ -59,7 +77,10 @@ put-text-requires c κs = rest-room (four (c .before .before .before .before))
 
 returns : tie.Need-returns
 unfolding newline
-returns c = rest-done (rest-step (four (c .before .before .before .before .before .before .before)) (c .before .before .put-text .ensures))
+returns c =
+    let at-put-text = c .before .before in
+    let at-put-item4 = at-put-text .before .before .before .before .before in
+    rest-done (rest-step (four at-put-item4) (at-put-text .put-text .ensures))
 
 pub put-last-spec : {M : Type 1} → statement M
 put-last-spec =

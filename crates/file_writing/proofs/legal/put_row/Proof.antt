@@ -23,11 +23,23 @@ all s = rest-begin (rowItems (s .args .node) (s .args .number) (s .args .level))
 one : (c : tie.After-put-number) → Left (c .before .before .before) 1 (c .put-number .result) (c .put-number .last .1 .0)
 one c = rest-step (all (c .before .before .before)) (c .put-number .ensures)
 
-two : (c : tie.After-put-item) → Left (c .before .before .before .before .before .before .before .before) 2 (c .put-item .result) (c .put-item .last .1 .1 .0)
+-- a place of `two`
+abbrev two-start : tie.After-put-item → tie.Start
+two-start c =
+    let at-put-number = c .before .before .before .before .before in
+    at-put-number .before .before .before
+
+two : (c : tie.After-put-item) → Left (two-start c) 2 (c .put-item .result) (c .put-item .last .1 .1 .0)
 unfolding item ascii
 two c = rest-step (one (c .before .before .before .before .before)) (c .put-item .ensures)
 
-three : (c : tie.After-put-item2) → Left (c .before .before .before .before .before .before .before .before .before .before .before .before .before) 3 (c .put-item2 .result) (c .put-item2 .last .1 .1 .0)
+-- a place of `three`
+abbrev three-start : tie.After-put-item2 → tie.Start
+three-start c =
+    let at-put-item = c .before .before .before .before .before in
+    two-start at-put-item
+
+three : (c : tie.After-put-item2) → Left (three-start c) 3 (c .put-item2 .result) (c .put-item2 .last .1 .1 .0)
 unfolding item ascii
 three c = rest-step (two (c .before .before .before .before .before)) (c .put-item2 .ensures)
 
@@ -48,7 +60,10 @@ put-text-requires c κs = rest-room (three (c .before .before .before .before))
 
 returns : tie.Need-returns
 unfolding newline
-returns c = rest-done (rest-step (three (c .before .before .before .before .before .before .before)) (c .before .before .put-text .ensures))
+returns c =
+    let at-put-text = c .before .before in
+    let at-put-item2 = at-put-text .before .before .before .before .before in
+    rest-done (rest-step (three at-put-item2) (at-put-text .put-text .ensures))
 
 pub put-row-spec : {M : Type 1} → statement M
 put-row-spec =

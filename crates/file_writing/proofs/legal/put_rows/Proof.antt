@@ -18,10 +18,17 @@ loop-holds : tie.Need-loop-holds Inv-loop μ-loop
 loop-holds c = let a = c .before .before .before .args in listing-begin (now (a .numbers)) (now (a .levels)) (a .at) (now (a .out))
 
 put-row-requires : tie.Need-put-row-requires Inv-loop μ-loop
-put-row-requires c κs = listing-room (c .before .before .before .before .loop .inv) (c .before .before .before .loop-test .taken) (c .before .before .before .before .before .before .before .before .pre .1)
+put-row-requires c κs =
+    let at-loop = c .before .before .before .before in
+    let start = at-loop .before .before .before .before in
+    listing-room (at-loop .loop .inv) (c .before .before .before .loop-test .taken) (start .pre .1)
 
 loop-again : tie.Need-loop-again Inv-loop μ-loop
-loop-again c = listing-step (c .before .before .before .before .before .before .before .loop .inv) (c .before .before .before .before .before .before .loop-test .taken) (c .before .before .put-row .ensures)
+loop-again c =
+    let at-put-row = c .before .before in
+    let at-loop-test = at-put-row .before .before .before .before in
+    let at-loop = at-loop-test .before in
+    listing-step (at-loop .loop .inv) (at-loop-test .loop-test .taken) (at-put-row .put-row .ensures)
 
 returns : tie.Need-returns Inv-loop μ-loop
 returns c = listing-done (c .before .loop .inv) (c .loop-test .left)

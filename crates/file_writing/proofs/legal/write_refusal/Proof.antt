@@ -21,15 +21,31 @@ returns c =
     let a = c .before .before .before .args in
     tried-short (refusedLine (a .number)) (now (a .out)) (omega (arith, refused-length (a .number), c .before .digits .ensures, c .if1 .taken))
 
+-- a place of `whole`
+abbrev whole-start : tie.After-slice-known3 → tie.Start
+whole-start c =
+    let at-put-text = c .before .before in
+    let at-put-item = at-put-text .before .before .before .before .before in
+    let at-digits = at-put-item .before .before .before .before in
+    at-digits .before .before
+
 -- the line is put
-whole : (c : tie.After-slice-known3) → Put (refusedLine (c .before .before .before .before .before .before .before .before .before .before .before .before .before .args .number)) 0 (c .before .before .put-text .result) (now (c .before .before .before .before .before .before .before .before .before .before .before .before .before .args .out)) (c .before .before .put-text .last .1 .0)
+whole : (c : tie.After-slice-known3) → Put (refusedLine (whole-start c .args .number)) 0 (c .before .before .put-text .result) (now (whole-start c .args .out)) (c .before .before .put-text .last .1 .0)
 unfolding refusedLine item ascii newline
-whole c = put-then (c .before .before .before .before .before .before .before .put-item .ensures) (c .before .before .put-text .ensures)
+whole c =
+    let at-put-text = c .before .before in
+    let at-put-item = at-put-text .before .before .before .before .before in
+    put-then (at-put-item .put-item .ensures) (at-put-text .put-text .ensures)
 
 returns-2 : tie.Need-returns-2
 returns-2 c =
-    let a = c .before .before .before .before .before .before .before .before .before .before .before .before .before .args in
-    let h : length (refusedLine (a .number)) ≤ length (now (a .out)) = omega (arith, refused-length (a .number), c .before .before .before .before .before .before .before .before .before .before .before .digits .ensures, c .before .before .before .before .before .before .before .before .before .before .if1 .left) in
+    let at-put-text = c .before .before in
+    let at-put-item = at-put-text .before .before .before .before .before in
+    let at-if1 = at-put-item .before .before .before in
+    let at-digits = at-if1 .before in
+    let start = at-digits .before .before in
+    let a = start .args in
+    let h : length (refusedLine (a .number)) ≤ length (now (a .out)) = omega (arith, refused-length (a .number), at-digits .digits .ensures, at-if1 .if1 .left) in
     tried-room (refusedLine (a .number)) (now (a .out)) h (whole c)
 
 pub write-refusal-spec : {M : Type 1} → statement M

@@ -11,11 +11,15 @@ put-text-requires c κs = let a = c .before .before .before .args in room-front 
 
 put-number-requires : tie.Need-put-number-requires
 put-number-requires c κs =
-    let s = c .before .before .before .before .before .before .before in
-    room-then (now (s .args .label)) (decimal (s .args .x)) (s .pre) (c .before .before .before .put-text .ensures)
+    let at-put-text = c .before .before .before in
+    let start = at-put-text .before .before .before .before in
+    room-then (now (start .args .label)) (decimal (start .args .x)) (start .pre) (at-put-text .put-text .ensures)
 
 returns : tie.Need-returns
-returns c = put-then (c .before .before .before .before .before .before .put-text .ensures) (c .before .before .put-number .ensures)
+returns c =
+    let at-put-number = c .before .before in
+    let at-put-text = at-put-number .before .before .before .before in
+    put-then (at-put-text .put-text .ensures) (at-put-number .put-number .ensures)
 
 pub put-item-spec : {M : Type 1} → statement M
 put-item-spec = tie.close (tie.spec put-text-requires put-number-requires (λ c. search needs) returns)

@@ -31,11 +31,12 @@ row-first-requires c κs =
 
 returns : tie.Need-returns
 returns c =
-    let s = c .before .before .before .before .before .before in
-    let x = now (s .args .numbering) in
+    let at-number = c .before .before in
+    let start = at-number .before .before .before .before in
+    let x = now (start .args .numbering) in
     c .row-first .ensures
-    ∙ ap₂ (λ (m : ℕ) (r : List ℕ). least m (map (ofNode x) r)) (c .before .before .number .ensures) (c .before .row .ensures)
-    ∙ first-row (s .pre .1 .0) x (s .pre .1 .1 .0) (s .args .p) (s .pre .1 .1 .1)
+    ∙ ap₂ (λ (m : ℕ) (r : List ℕ). least m (map (ofNode x) r)) (at-number .number .ensures) (c .before .row .ensures)
+    ∙ first-row (start .pre .1 .0) x (start .pre .1 .1 .0) (start .args .p) (start .pre .1 .1 .1)
 
 pub first-spec : {M : Type 1} → statement M
 first-spec = tie.close (tie.spec number-requires (λ c κs. search needs) row-first-requires returns)

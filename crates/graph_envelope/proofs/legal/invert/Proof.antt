@@ -25,8 +25,9 @@ clear-requires c κs = omega (arith, long (c .before .before .before .before))
 
 returns-2 : tie.Need-returns-2
 returns-2 c =
-    let t = c .before .before .before .before .before .before .before in
-    (sym (c .before .before .before .before .if1 .left) ∙ t .settle .ensures .0, c .before .before .clear .ensures ∙ zeroed-all _ _ (long t))
+    let at-if1 = c .before .before .before .before in
+    let at-settle = at-if1 .before .before .before in
+    (sym (at-if1 .if1 .left) ∙ at-settle .settle .ensures .0, c .before .before .clear .ensures ∙ zeroed-all _ _ (long at-settle))
 
 pub invert-spec : {M : Type 1} → statement M
 invert-spec =

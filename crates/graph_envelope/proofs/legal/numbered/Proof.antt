@@ -13,36 +13,47 @@ use Rattle.graph_envelope.proofs.Lent.{misfit, lent-back}
 use Rattle.graph_envelope.proofs.legal.numbered.Statement.{statement}
 use Rattle.graph_envelope.proofs.legal.numbered.Tie as tie
 
+-- where the function starts
+abbrev start-of : tie.After-clear → tie.Start
+start-of c = c .before .before .before .before
+
 returns : tie.Need-returns
 returns c =
-    let a = c .before .before .before .before .before .before .before .args in
-    (sym (misfit (a .n) (now (a .numbering)) (c .if1 .taken)), c .before .before .before .clear .ensures)
+    let at-clear = c .before .before .before in
+    let start = start-of at-clear in
+    let a = start .args in
+    (sym (misfit (a .n) (now (a .numbering)) (c .if1 .taken)), at-clear .clear .ensures)
 
 slice-aggregate-invert : tie.Need-slice-aggregate-invert
 slice-aggregate-invert c =
-    let s = c .before .before .before .before .before .before .before .before in
-    let k = c .before .before .before .before .clear in
-    sym (length-take-le (s .args .n) (k .last .0) (omega (arith, k .kept .0, s .pre)))
+    let at-clear = c .before .before .before .before in
+    let start = start-of at-clear in
+    let k = at-clear .clear in
+    sym (length-take-le (start .args .n) (k .last .0) (omega (arith, k .kept .0, start .pre)))
 
 invert-requires : tie.Need-invert-requires
 invert-requires c κs =
-    let s = c .before .before .before .before .before .before .before .before in
-    let a = s .args in
+    let at-clear = c .before .before .before .before in
+    let start = start-of at-clear in
+    let a = start .args in
     let e : length (now (a .numbering)) ≡ a .n = c .before .if1 .left in (
       omega arith,
-      ap (take (a .n)) (c .before .before .before .before .clear .ensures)
+      ap (take (a .n)) (at-clear .clear .ensures)
           ∙ zeroed-front (a .n) (now (a .scratch))
           ∙ ap (λ (k : ℕ). replicate k 0) (sym e),
     )
 
 returns-2 : tie.Need-returns-2
 returns-2 c =
-    let a = c .before .before .before .before .before .before .before .before .before .before .before .args in
+    let at-if1 = c .before .before .before .before in
+    let at-clear = at-if1 .before .before .before in
+    let start = start-of at-clear in
+    let a = start .args in
     let v = c .before .before .invert in
-    let e : length (now (a .numbering)) ≡ a .n = c .before .before .before .before .if1 .left in (
+    let e : length (now (a .numbering)) ≡ a .n = at-if1 .if1 .left in (
       v .ensures .0 ∙ ap (λ (k : ℕ). isNumbering k (now (a .numbering))) e,
-      lent-back (a .n) (now (a .numbering)) (now (a .scratch)) (v .last .1 .0) (c .before .before .before .before .before .before .before .clear .last .0) (v .result) e
-          (c .before .before .before .before .before .before .before .clear .ensures) (v .ensures .1 ∙ ap (λ (k : ℕ). cond (v .result) (orderOf (now (a .numbering))) (replicate k 0)) e),
+      lent-back (a .n) (now (a .numbering)) (now (a .scratch)) (v .last .1 .0) (at-clear .clear .last .0) (v .result) e
+          (at-clear .clear .ensures) (v .ensures .1 ∙ ap (λ (k : ℕ). cond (v .result) (orderOf (now (a .numbering))) (replicate k 0)) e),
     )
 
 pub numbered-spec : {M : Type 1} → statement M

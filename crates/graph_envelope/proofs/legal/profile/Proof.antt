@@ -1,6 +1,7 @@
 -- `graph_envelope::legal::profile` meets its contract: the spans of the nodes passed are summed. Assumes nothing.
-use Prim.Native.Nat.{_+_, _-_, _*_, _≤_}
+use Prim.Native.Nat.{ℕ, _+_, _-_, _*_, _≤_}
 use mathlib.Core.Path.{_≡_, refl, ap, _∙_}
+use mathlib.Core.List.{List}
 use native.Mathlib.Omega.{arith}
 use denote.Ref.{now}
 use lib.ListN.{length}
@@ -11,9 +12,15 @@ use Rattle.graph_envelope.proofs.Envelope.{spans, spans-more, spans-all
 use Rattle.graph_envelope.proofs.legal.profile.Statement.{statement}
 use Rattle.graph_envelope.proofs.legal.profile.Tie as tie
 
+-- after p nodes of the n: the sum of their spans
+record Summed (g : Graph) (x : List ℕ) (n sum p : ℕ) : Type 0 where
+  inside : p ≤ length x
+  nodes : length x ≡ n
+  small : sum ≤ 4096 * p
+  sum-is : sum ≡ spans g x p
+
 abbrev Inv-loop : tie.InvT-loop
-Inv-loop starts neighbours numbering n sum₀ p₀ sum p =
-    (p ≤ length numbering) × (length numbering ≡ sizeOf starts) × (sum ≤ 4096 * p) × (sum ≡ spans (graphOf starts neighbours) numbering p)
+Inv-loop starts neighbours numbering n sum₀ p₀ sum p = Summed (graphOf starts neighbours) numbering (sizeOf starts) sum p
 
 abbrev μ-loop : tie.MeasureT-loop
 μ-loop starts neighbours numbering n sum₀ p₀ sum p = length numbering - p
@@ -36,7 +43,7 @@ short c =
     omega (arith, c .span .ensures, s .pre .0 .few, span-most (s .pre .1 .0) (now (s .args .numbering)) (s .pre .1 .1) (l .loop .p + 1) (next (c .before)))
 
 loop-holds : tie.Need-loop-holds Inv-loop μ-loop
-loop-holds c = (omega arith, numbering-length _ _ (c .before .before .before .pre .1 .1), omega arith, refl)
+loop-holds c = record { inside = omega arith; nodes = numbering-length _ _ (c .before .before .before .pre .1 .1); small = omega arith; sum-is = refl }
 
 span-requires : tie.Need-span-requires Inv-loop μ-loop
 span-requires c κs =
@@ -48,19 +55,20 @@ add-sum c = omega (arith, short c, entry (c .before .before) .pre .0 .few)
 
 loop-again : tie.Need-loop-again Inv-loop μ-loop
 loop-again c =
-    let l = c .before .before in (
-      omega arith,
-      l .loop .inv .1,
-      omega (arith, short c),
-      spans-more (graph l) (now (entry l .args .numbering)) (l .loop .p) (l .loop .inv .3) (c .span .ensures),
-    )
+    let l = c .before .before in
+    record {
+      inside = omega arith;
+      nodes = l .loop .inv .nodes;
+      small = omega (arith, short c);
+      sum-is = spans-more (graph l) (now (entry l .args .numbering)) (l .loop .p) (l .loop .inv .sum-is) (c .span .ensures);
+    }
 
 returns : tie.Need-returns Inv-loop μ-loop
 returns c =
     let l = c .before in
     let s = entry l in
     let e : l .loop .p ≡ sizeOf (now (s .args .starts)) = omega arith in
-    l .loop .inv .3 ∙ ap (spans (graph l) (now (s .args .numbering))) e ∙ spans-all (s .pre .1 .0) (now (s .args .numbering)) (s .pre .1 .1)
+    l .loop .inv .sum-is ∙ ap (spans (graph l) (now (s .args .numbering))) e ∙ spans-all (s .pre .1 .0) (now (s .args .numbering)) (s .pre .1 .1)
 
 pub profile-spec : {M : Type 1} → statement M
 profile-spec =

@@ -2,6 +2,7 @@
 use Prim.Native.Nat.{ℕ, _-_, _≤_}
 use mathlib.Core.Path.{_≡_, refl, sym, ap, _∙_, subst}
 use mathlib.Core.Bool.{false≢true}
+use mathlib.Core.List.{List}
 use native.Mathlib.Omega.{arith}
 use borrow.Author.Needs.{needs}
 use denote.Ref.{now}
@@ -11,9 +12,15 @@ use Rattle.graph_envelope.proofs.Settle.{settle-none, settle-more, sett
 use Rattle.graph_envelope.proofs.legal.settle.Statement.{statement}
 use Rattle.graph_envelope.proofs.legal.settle.Tie as tie
 
+-- the first i nodes stand at their numbers
+record Settling (x order₀ order : List ℕ) (i : ℕ) : Type 0 where
+  inside : i ≤ length x
+  same-length : length order ≡ length order₀
+  words : length order₀ ≡ length x
+  settled : Settled x order i
+
 abbrev Inv-loop : tie.InvT-loop
-Inv-loop numbering order₀ n i₀ order i =
-    (i ≤ length numbering) × (length order ≡ length order₀) × (length order₀ ≡ length numbering) × Settled numbering order i
+Inv-loop numbering order₀ n i₀ order i = Settling numbering order₀ order i
 
 abbrev μ-loop : tie.MeasureT-loop
 μ-loop numbering order₀ n i₀ order i = length numbering - i
@@ -21,7 +28,12 @@ abbrev μ-loop : tie.MeasureT-loop
 loop-holds : tie.Need-loop-holds Inv-loop μ-loop
 loop-holds c =
     let s = c .before .before in
-    (omega arith, refl, ap length (s .pre .1) ∙ length-replicate (length (now (s .args .numbering))) 0, settle-none _ _ (s .pre .1))
+    record {
+      inside = omega arith;
+      same-length = refl;
+      words = ap length (s .pre .1) ∙ length-replicate (length (now (s .args .numbering))) 0;
+      settled = settle-none _ _ (s .pre .1);
+    }
 
 returns : tie.Need-returns Inv-loop μ-loop
 returns c =
@@ -37,26 +49,29 @@ returns-2 c =
 
 returns-3 : tie.Need-returns-3 Inv-loop μ-loop
 returns-3 c =
-    let l = c .before .before .before .before .before .before .before in (
-      settle-taken _ (l .loop .order) (l .loop .i) _ (l .loop .inv .3) (omega arith) (c .before .before .before .before .wide .ensures) (omega arith) (omega arith) (λ z. absurd (omega (arith, z, c .if3 .taken))),
+    let at-wide = c .before .before .before .before in
+    let at-loop = at-wide .before .before .before in (
+      settle-taken _ (at-loop .loop .order) (at-loop .loop .i) _ (at-loop .loop .inv .settled) (omega arith) (at-wide .wide .ensures) (omega arith) (omega arith) (λ z. absurd (omega (arith, z, c .if3 .taken))),
       λ e. absurd (false≢true e),
     )
 
 loop-again : tie.Need-loop-again Inv-loop μ-loop
 loop-again c =
-    let l = c .before .before .before .before .before .before .before in (
-      omega arith,
-      length-set (l .loop .order) _ _ ∙ l .loop .inv .1,
-      l .loop .inv .2,
-      settle-more _ (l .loop .order) (l .loop .i) _ (l .loop .inv .3) (omega arith) (omega arith) (c .before .before .before .before .wide .ensures) (omega arith) (omega arith) (c .if3 .left),
-    )
+    let at-wide = c .before .before .before .before in
+    let at-loop = at-wide .before .before .before in
+    record {
+      inside = omega arith;
+      same-length = length-set (at-loop .loop .order) _ _ ∙ at-loop .loop .inv .same-length;
+      words = at-loop .loop .inv .words;
+      settled = settle-more _ (at-loop .loop .order) (at-loop .loop .i) _ (at-loop .loop .inv .settled) (omega arith) (omega arith) (at-wide .wide .ensures) (omega arith) (omega arith) (c .if3 .left);
+    }
 
 returns-4 : tie.Need-returns-4 Inv-loop μ-loop
 returns-4 c =
     let l = c .before in
     let x = now (l .before .before .before .args .numbering) in
     let e : l .loop .i ≡ length x = omega arith in
-    let s : Settled x (l .loop .order) (length x) = subst (λ (i : ℕ). Settled x (l .loop .order) i) e (l .loop .inv .3) in
+    let s : Settled x (l .loop .order) (length x) = subst (λ (i : ℕ). Settled x (l .loop .order) i) e (l .loop .inv .settled) in
     (sym (settle-passes x (l .loop .order) s), λ t. settle-order x (l .loop .order) s (omega arith))
 
 pub settle-spec : {M : Type 1} → statement M

@@ -12,13 +12,16 @@ use Rattle.numbering_measures.proofs.Swept.{take-more, word-ahead, word
 use Rattle.numbering_measures.proofs.fronts.sweep.Statement.{statement}
 use Rattle.numbering_measures.proofs.fronts.sweep.Tie as tie
 
+-- after i words of C: they are 0, their sum, and the greatest front so far
+record Swept (C counts : List ℕ) (live most i : ℕ) : Type 0 where
+  inside : i ≤ length C
+  same-length : length counts ≡ length C
+  cleared : counts ≡ replicate i 0 ++ drop i C
+  live-is : live ≡ sum (take i C)
+  most-is : most ≡ greatest (map (λ i. sum (take i C) - (i - 1)) (upFrom 1 i))
+
 abbrev Inv-loop : tie.InvT-loop
-Inv-loop counts₀ n live₀ most₀ i₀ counts live most i =
-    (i ≤ length counts₀)
-    × (length counts ≡ length counts₀)
-    × (counts ≡ replicate i 0 ++ drop i counts₀)
-    × (live ≡ sum (take i counts₀))
-    × (most ≡ greatest (map (λ i. sum (take i counts₀) - (i - 1)) (upFrom 1 i)))
+Inv-loop counts₀ n live₀ most₀ i₀ counts live most i = Swept counts₀ counts live most i
 
 abbrev μ-loop : tie.MeasureT-loop
 μ-loop counts₀ n live₀ most₀ i₀ counts live most i = length counts₀ - i
@@ -28,7 +31,7 @@ up : (c : tie.After-wide Inv-loop μ-loop) → c .before .before .before .loop .
 up c =
     let l = c .before .before .before in
     let C = now (l .before .before .args .counts) in
-    ap₂ _+_ (l .loop .inv .3) (c .wide .ensures ∙ word-ahead C (l .loop .counts) (l .loop .i) (l .loop .inv .2))
+    ap₂ _+_ (l .loop .inv .live-is) (c .wide .ensures ∙ word-ahead C (l .loop .counts) (l .loop .i) (l .loop .inv .cleared))
     ∙ sym (take-more C (l .loop .i) (omega arith))
 
 add-live : tie.Need-add-live Inv-loop μ-loop
@@ -45,22 +48,23 @@ sub-larger c =
 loop-again : tie.Need-loop-again Inv-loop μ-loop
 loop-again c =
     let l = c .before .before .before .before in
-    let C = now (l .before .before .args .counts) in (
-      omega arith,
-      length-set (l .loop .counts) _ _ ∙ l .loop .inv .1,
-      ap (λ (w : List ℕ). set w (l .loop .i) 0) (l .loop .inv .2) ∙ fill-more (l .loop .i) 0 C (omega arith),
-      up (c .before),
-      c .larger .ensures
-          ∙ ap₂ max (l .loop .inv .4) (ap (λ (k : ℕ). k - l .loop .i) (up (c .before)))
-          ∙ sym (sweep-more C (l .loop .i)),
-    )
+    let C = now (l .before .before .args .counts) in
+    record {
+      inside = omega arith;
+      same-length = length-set (l .loop .counts) _ _ ∙ l .loop .inv .same-length;
+      cleared = ap (λ (w : List ℕ). set w (l .loop .i) 0) (l .loop .inv .cleared) ∙ fill-more (l .loop .i) 0 C (omega arith);
+      live-is = up (c .before);
+      most-is = c .larger .ensures
+          ∙ ap₂ max (l .loop .inv .most-is) (ap (λ (k : ℕ). k - l .loop .i) (up (c .before)))
+          ∙ sym (sweep-more C (l .loop .i));
+    }
 
 returns : tie.Need-returns Inv-loop μ-loop
 returns c =
     let l = c .before in
     let C = now (l .before .before .args .counts) in
     let e : l .loop .i ≡ length C = omega arith in
-    (l .loop .inv .4 ∙ ap (λ (k : ℕ). greatest (map (λ i. sum (take i C) - (i - 1)) (upFrom 1 k))) e, words-passed C (l .loop .counts) (l .loop .i) e (l .loop .inv .2))
+    (l .loop .inv .most-is ∙ ap (λ (k : ℕ). greatest (map (λ i. sum (take i C) - (i - 1)) (upFrom 1 k))) e, words-passed C (l .loop .counts) (l .loop .i) e (l .loop .inv .cleared))
 
 pub sweep-spec : {M : Type 1} → statement M
 sweep-spec =
@@ -68,7 +72,7 @@ sweep-spec =
     (tie.spec
     Inv-loop
     μ-loop
-    (λ c. (omega arith, refl, refl, refl, refl))
+    (λ c. record { inside = omega arith; same-length = refl; cleared = refl; live-is = refl; most-is = refl })
     (λ c. omega arith)
     (λ c. omega arith)
     (λ c κs. search needs)

@@ -21,8 +21,16 @@ use Rattle.numbering_measures.proofs.legal.figures.Tie as tie
 long : (s : tie.Start) → length (now (s .args .numbering)) ≡ sizeOf (now (s .args .starts))
 long s = numbering-length _ _ (s .pre .1 .0)
 
+-- where the function starts
+abbrev start-of : tie.After-clear → tie.Start
+start-of c =
+    let at-shared-slice-known = c .before .before .before .before .before in
+    at-shared-slice-known .before
+
 abbrev entry : tie.After-walk → tie.Start
-entry c = c .before .before .before .before .before .before .before .before .before .before
+entry c =
+    let at-clear = c .before .before .before .before in
+    start-of at-clear
 
 abbrev counts : tie.After-walk → List ℕ
 counts c = c .walk .last .1 .1 .1 .0
@@ -40,19 +48,27 @@ clear-requires c κs =
 
 walk-requires : tie.Need-walk-requires
 walk-requires c κs =
-    let s = c .before .before .before .before .before .before .before .before .before in
-    let W = now (s .args .counts) in
-    (s .pre .0, (s .pre .1 .0, c .before .before .before .clear .ensures ∙ ap (λ (k : ℕ). zeroed k W) (long s) ∙ zeroed-all (sizeOf (now (s .args .starts))) W (s .pre .1 .1)))
+    let at-clear = c .before .before .before in
+    let start = start-of at-clear in
+    let W = now (start .args .counts) in
+    (start .pre .0, (start .pre .1 .0, at-clear .clear .ensures ∙ ap (λ (k : ℕ). zeroed k W) (long start) ∙ zeroed-all (sizeOf (now (start .args .starts))) W (start .pre .1 .1)))
+
+front-fits : tie.Need-cast-t15
+front-fits c =
+    let at-sweep = c .before .before in
+    let at-walk = at-sweep .before .before .before .before in
+    omega (arith, at-sweep .sweep .ensures .0, sweep-most (sweeps at-walk))
 
 returns : tie.Need-returns
 returns c =
-    let w = c .before .before .before .before .before .before in
-    let s = entry w in
+    let at-sweep = c .before .before in
+    let at-walk = at-sweep .before .before .before .before in
+    let s = entry at-walk in
     let x = now (s .args .numbering) in
-    let e = w .walk .ensures in (
+    let e = at-walk .walk .ensures in (
       the-three (renumbered (graphOf (now (s .args .starts)) (now (s .args .neighbours))) x) _ _ _ (e .0) (e .1 .0)
-          (c .before .before .sweep .ensures .0 ∙ front-swept (s .pre .0 .graph) x (s .pre .1 .0) (counts w) (e .1 .1)),
-      c .before .before .sweep .ensures .1 ∙ ap (λ (k : ℕ). replicate k 0) (opened-long (s .pre .0 .graph) x (s .pre .1 .0) (counts w) (e .1 .1)),
+          (at-sweep .sweep .ensures .0 ∙ front-swept (s .pre .0 .graph) x (s .pre .1 .0) (counts at-walk) (e .1 .1)),
+      at-sweep .sweep .ensures .1 ∙ ap (λ (k : ℕ). replicate k 0) (opened-long (s .pre .0 .graph) x (s .pre .1 .0) (counts at-walk) (e .1 .1)),
     )
 
 pub figures-spec : {M : Type 1} → statement M
@@ -62,6 +78,6 @@ figures-spec =
     clear-requires
     walk-requires
     (λ c κs. sweeps (c .before .before .before))
-    (λ c. omega (arith, c .before .before .sweep .ensures .0, sweep-most (sweeps (c .before .before .before .before .before .before))))
+    front-fits
     (λ c. search needs)
     returns)

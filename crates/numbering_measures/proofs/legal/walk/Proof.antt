@@ -17,16 +17,20 @@ use Rattle.numbering_measures.proofs.Widths.{spanOf, widest, widest-mor
 use Rattle.numbering_measures.proofs.legal.walk.Statement.{statement}
 use Rattle.numbering_measures.proofs.legal.walk.Tie as tie
 
+-- after p nodes of the n: the widest span, the sum of the spans, and how many rows begin at each number
+record Walked (g : Graph) (x counts₀ : List ℕ) (n : ℕ) (counts : List ℕ) (most sum p : ℕ) : Type 0 where
+  inside : p ≤ length x
+  nodes : length x ≡ n
+  room : length counts ≡ length counts₀
+  most-small : most ≤ 4096
+  sum-small : sum ≤ 4096 * p
+  most-is : most ≡ widest g x p
+  sum-is : sum ≡ spans g x p
+  counts-are : counts ≡ opened g x p
+
 abbrev Inv-loop : tie.InvT-loop
 Inv-loop starts neighbours numbering counts₀ n widest₀ sum₀ p₀ counts widest′ sum p =
-    (p ≤ length numbering)
-    × (length numbering ≡ sizeOf starts)
-    × (length counts ≡ length counts₀)
-    × (widest′ ≤ 4096)
-    × (sum ≤ 4096 * p)
-    × (widest′ ≡ widest (graphOf starts neighbours) numbering p)
-    × (sum ≡ spans (graphOf starts neighbours) numbering p)
-    × (counts ≡ opened (graphOf starts neighbours) numbering p)
+    Walked (graphOf starts neighbours) numbering counts₀ (sizeOf starts) counts widest′ sum p
 
 abbrev μ-loop : tie.MeasureT-loop
 μ-loop starts neighbours numbering counts₀ n widest₀ sum₀ p₀ counts widest′ sum p = length numbering - p
@@ -65,7 +69,7 @@ room c =
     let l = c .before .before in
     let s = entry l in
     let long : length (l .loop .counts) ≡ sizeOf (now (s .args .starts)) =
-    ap length (l .loop .inv .7) ∙ length-opened (graph l) (now (s .args .numbering)) (l .loop .p) in
+    ap length (l .loop .inv .counts-are) ∙ length-opened (graph l) (now (s .args .numbering)) (l .loop .p) in
     omega (arith, low c, high c, s .pre .0 .starts .few)
 
 -- its span, and that it is short
@@ -81,16 +85,17 @@ short c =
 
 loop-holds : tie.Need-loop-holds Inv-loop μ-loop
 loop-holds c =
-    let s = c .before .before .before .before in (
-      omega arith,
-      numbering-length _ _ (s .pre .1 .0),
-      refl,
-      omega arith,
-      omega arith,
-      refl,
-      refl,
-      s .pre .1 .1 ∙ sym (opened-none (graphOf (now (s .args .starts)) (now (s .args .neighbours))) (now (s .args .numbering))),
-    )
+    let s = c .before .before .before .before in
+    record {
+      inside = omega arith;
+      nodes = numbering-length _ _ (s .pre .1 .0);
+      room = refl;
+      most-small = omega arith;
+      sum-small = omega arith;
+      most-is = refl;
+      sum-is = refl;
+      counts-are = s .pre .1 .1 ∙ sym (opened-none (graphOf (now (s .args .starts)) (now (s .args .neighbours))) (now (s .args .numbering)));
+    }
 
 first-requires : tie.Need-first-requires Inv-loop μ-loop
 first-requires c κs =
@@ -114,7 +119,7 @@ add-counts c =
     let k : ℕ = f .first .result - 1 in
     omega (
       arith,
-      ap (λ (w : List ℕ). getD w k 0) (l .loop .inv .7),
+      ap (λ (w : List ℕ). getD w k 0) (l .loop .inv .counts-are),
       opened-most (graph l) (now (s .args .numbering)) (l .loop .p) k (omega (arith, low f, high f)),
       s .pre .0 .starts .few,
     )
@@ -125,17 +130,18 @@ loop-again c =
     let f = q .before in
     let l = f .before .before in
     let v : ℕ = f .first .result in
-    let x = now (entry l .args .numbering) in (
-      omega arith,
-      l .loop .inv .1,
-      length-set (l .loop .counts) _ _ ∙ l .loop .inv .2,
-      omega (arith, c .before .larger .ensures, short q),
-      omega (arith, short q),
-      widest-more (graph l) x (l .loop .p) (l .loop .inv .5) (span q) (c .before .larger .ensures),
-      spans-more (graph l) x (l .loop .p) (l .loop .inv .6) (span q),
-      ap (λ (w : List ℕ). set w (v - 1) (getD w (v - 1) 0 + 1)) (l .loop .inv .7)
-          ∙ opened-more (graph l) x (l .loop .p) v (f .first .ensures) (low f) (high f),
-    )
+    let x = now (entry l .args .numbering) in
+    record {
+      inside = omega arith;
+      nodes = l .loop .inv .nodes;
+      room = length-set (l .loop .counts) _ _ ∙ l .loop .inv .room;
+      most-small = omega (arith, c .before .larger .ensures, short q);
+      sum-small = omega (arith, short q);
+      most-is = widest-more (graph l) x (l .loop .p) (l .loop .inv .most-is) (span q) (c .before .larger .ensures);
+      sum-is = spans-more (graph l) x (l .loop .p) (l .loop .inv .sum-is) (span q);
+      counts-are = ap (λ (w : List ℕ). set w (v - 1) (getD w (v - 1) 0 + 1)) (l .loop .inv .counts-are)
+          ∙ opened-more (graph l) x (l .loop .p) v (f .first .ensures) (low f) (high f);
+    }
 
 returns : tie.Need-returns Inv-loop μ-loop
 returns c =
@@ -143,8 +149,8 @@ returns c =
     let s = entry l in
     let x = now (s .args .numbering) in
     let e : l .loop .p ≡ sizeOf (now (s .args .starts)) = omega arith in (
-      l .loop .inv .5 ∙ ap (widest (graph l) x) e ∙ widest-all (s .pre .0 .graph) x (s .pre .1 .0),
-      (l .loop .inv .6 ∙ ap (spans (graph l) x) e ∙ spans-all (s .pre .0 .graph) x (s .pre .1 .0), l .loop .inv .7 ∙ ap (opened (graph l) x) e),
+      l .loop .inv .most-is ∙ ap (widest (graph l) x) e ∙ widest-all (s .pre .0 .graph) x (s .pre .1 .0),
+      (l .loop .inv .sum-is ∙ ap (spans (graph l) x) e ∙ spans-all (s .pre .0 .graph) x (s .pre .1 .0), l .loop .inv .counts-are ∙ ap (opened (graph l) x) e),
     )
 
 pub walk-spec : {M : Type 1} → statement M

@@ -15,16 +15,23 @@ mul-clear c = search needs
 clear-requires : tie.Need-clear-requires
 clear-requires c κs = search needs
 
+-- where the function starts
+abbrev start-of : tie.After-clear → tie.Start
+start-of c = c .before .before .before .before .before
+
 gather-part-requires : tie.Need-gather-part-requires
 gather-part-requires c κs =
-    let s = c .before .before .before .before .before .before .before .before in
-    gather-ask (s .args .starts .now) (s .args .neighbours .now) (s .args .node) (s .args .scratch .now) (s .pre .0) (s .pre .1 .0) (s .pre .1 .1) (c .before .before .before .clear .ensures)
+    let at-clear = c .before .before .before in
+    let start = start-of at-clear in
+    gather-ask (start .args .starts .now) (start .args .neighbours .now) (start .args .node) (start .args .scratch .now) (start .pre .0) (start .pre .1 .0) (start .pre .1 .1) (at-clear .clear .ensures)
 
 combine-part-requires : tie.Need-combine-part-requires
 combine-part-requires c κs =
-    let s = c .before .before .before .before .before .before .before .before .before .before .before .before in
-    let w = c .before .before .before .gather-part .ensures in
-    part-ask (s .args .starts .now) (s .args .neighbours .now) (s .args .node) (s .args .scratch .now) (s .pre .0) (s .pre .1 .0) (s .pre .1 .1) (c .before .before .before .before .before .before .before .clear .ensures) (w .0) (w .1)
+    let at-gather-part = c .before .before .before in
+    let at-clear = at-gather-part .before .before .before .before in
+    let start = start-of at-clear in
+    let w = at-gather-part .gather-part .ensures in
+    part-ask (start .args .starts .now) (start .args .neighbours .now) (start .args .node) (start .args .scratch .now) (start .pre .0) (start .pre .1 .0) (start .pre .1 .1) (at-clear .clear .ensures) (w .0) (w .1)
 
 mul-sequence : tie.Need-mul-sequence
 mul-sequence c = search needs
@@ -34,42 +41,65 @@ mul-sequence-2 c = search needs
 
 sequence-requires : tie.Need-sequence-requires
 sequence-requires c κs =
-    let s = c .before .before .before .before .before .before .before .before .before .before .before .before .before .before .before .before in
-    let w = c .before .before .before .before .before .before .before .gather-part .ensures in
-    let y = c .before .before .before .combine-part .ensures in
-    sequence-ask (s .args .starts .now) (s .args .neighbours .now) (s .args .node) (s .args .scratch .now) (s .pre .0) (s .pre .1 .0) (s .pre .1 .1) (c .before .before .before .before .before .before .before .before .before .before .before .clear .ensures) (w .0) (w .1) (y .0) (y .1)
+    let at-combine-part = c .before .before .before in
+    let at-gather-part = at-combine-part .before .before .before .before in
+    let at-clear = at-gather-part .before .before .before .before in
+    let start = start-of at-clear in
+    let w = at-gather-part .gather-part .ensures in
+    let y = at-combine-part .combine-part .ensures in
+    sequence-ask (start .args .starts .now) (start .args .neighbours .now) (start .args .node) (start .args .scratch .now) (start .pre .0) (start .pre .1 .0) (start .pre .1 .1) (at-clear .clear .ensures) (w .0) (w .1) (y .0) (y .1)
 
 mul-clear-2 : tie.Need-mul-clear-2
-mul-clear-2 c = let s = c .before .before .before .before .before .before .before .before .before .before .before .before .before .before .before .before .before .before .before .before in omega (arith, s .pre .1 .1)
+mul-clear-2 c =
+    let at-sequence = c .before .before .before in
+    let at-combine-part = at-sequence .before .before .before .before in
+    let at-gather-part = at-combine-part .before .before .before .before in
+    let at-clear = at-gather-part .before .before .before .before in
+    let start = start-of at-clear in
+    omega (arith, start .pre .1 .1)
 
 clear-requires-2 : tie.Need-clear-requires-2
 clear-requires-2 c κs =
-    let s = c .before .before .before .before .before .before .before .before .before .before .before .before .before .before .before .before .before .before .before .before in
-    let w = c .before .before .before .before .before .before .before .before .before .before .before .gather-part .ensures in
-    let y = c .before .before .before .before .before .before .before .combine-part .ensures in
-    room-still (s .args .starts .now) (s .args .neighbours .now) (s .args .node) (s .args .scratch .now) (s .pre .0) (s .pre .1 .0) (s .pre .1 .1) (c .before .before .before .before .before .before .before .before .before .before .before .before .before .before .before .clear .ensures) (w .0) (w .1) (y .0) (y .1) (c .before .before .before .sequence .ensures .1)
+    let at-sequence = c .before .before .before in
+    let at-combine-part = at-sequence .before .before .before .before in
+    let at-gather-part = at-combine-part .before .before .before .before in
+    let at-clear = at-gather-part .before .before .before .before in
+    let start = start-of at-clear in
+    let w = at-gather-part .gather-part .ensures in
+    let y = at-combine-part .combine-part .ensures in
+    room-still (start .args .starts .now) (start .args .neighbours .now) (start .args .node) (start .args .scratch .now) (start .pre .0) (start .pre .1 .0) (start .pre .1 .1) (at-clear .clear .ensures) (w .0) (w .1) (y .0) (y .1) (at-sequence .sequence .ensures .1)
 
 report-requires : tie.Need-report-requires
 report-requires c κs = search needs
 
 same-length : tie.Need-same-length
 same-length c =
-    let s = c .before .before .before .before .before .before .before .before .before .before .before .before .before .before .before .before .before .before .before .before .before .before .before .before in
-    let z = c .before .before .before .before .before .before .before .before .before .before .before .before .before .before .before .before .before .before .before .clear .ensures in
-    let w = c .before .before .before .before .before .before .before .before .before .before .before .before .before .before .before .gather-part .ensures in
-    let y = c .before .before .before .before .before .before .before .before .before .before .before .combine-part .ensures in
-    let x = c .before .before .before .before .before .before .before .sequence .ensures in
-    size-found (s .args .starts .now) (s .args .neighbours .now) (s .args .node) (s .args .scratch .now) (s .pre .0) (s .pre .1 .0) (s .pre .1 .1) z (w .0) (w .1) (y .0) (y .1) (x .1) (c .before .before .before .clear2 .ensures)
+    let at-clear2 = c .before .before .before in
+    let at-sequence = at-clear2 .before .before .before .before in
+    let at-combine-part = at-sequence .before .before .before .before in
+    let at-gather-part = at-combine-part .before .before .before .before in
+    let at-clear = at-gather-part .before .before .before .before in
+    let start = start-of at-clear in
+    let z = at-clear .clear .ensures in
+    let w = at-gather-part .gather-part .ensures in
+    let y = at-combine-part .combine-part .ensures in
+    let x = at-sequence .sequence .ensures in
+    size-found (start .args .starts .now) (start .args .neighbours .now) (start .args .node) (start .args .scratch .now) (start .pre .0) (start .pre .1 .0) (start .pre .1 .1) z (w .0) (w .1) (y .0) (y .1) (x .1) (at-clear2 .clear2 .ensures)
 
 returns : tie.Need-returns
 returns c =
-    let s = c .before .before .before .before .before .before .before .before .before .before .before .before .before .before .before .before .before .before .before .before .before .before .before .before in
-    let z = c .before .before .before .before .before .before .before .before .before .before .before .before .before .before .before .before .before .before .before .clear .ensures in
-    let w = c .before .before .before .before .before .before .before .before .before .before .before .before .before .before .before .gather-part .ensures in
-    let y = c .before .before .before .before .before .before .before .before .before .before .before .combine-part .ensures in
-    let x = c .before .before .before .before .before .before .before .sequence .ensures in (
-      report-found (s .args .starts .now) (s .args .neighbours .now) (s .args .node) (s .args .scratch .now) (s .pre .0) (s .pre .1 .0) (s .pre .1 .1) z (w .0) (w .1) (y .0) (y .1) (x .0) (c .report .ensures),
-      words-found (s .args .starts .now) (s .args .neighbours .now) (s .args .node) (s .args .scratch .now) (s .pre .0) (s .pre .1 .0) (s .pre .1 .1) z (w .0) (w .1) (y .0) (y .1) (x .1) (c .before .before .before .clear2 .ensures),
+    let at-clear2 = c .before .before .before in
+    let at-sequence = at-clear2 .before .before .before .before in
+    let at-combine-part = at-sequence .before .before .before .before in
+    let at-gather-part = at-combine-part .before .before .before .before in
+    let at-clear = at-gather-part .before .before .before .before in
+    let start = start-of at-clear in
+    let z = at-clear .clear .ensures in
+    let w = at-gather-part .gather-part .ensures in
+    let y = at-combine-part .combine-part .ensures in
+    let x = at-sequence .sequence .ensures in (
+      report-found (start .args .starts .now) (start .args .neighbours .now) (start .args .node) (start .args .scratch .now) (start .pre .0) (start .pre .1 .0) (start .pre .1 .1) z (w .0) (w .1) (y .0) (y .1) (x .0) (c .report .ensures),
+      words-found (start .args .starts .now) (start .args .neighbours .now) (start .args .node) (start .args .scratch .now) (start .pre .0) (start .pre .1 .0) (start .pre .1 .1) z (w .0) (w .1) (y .0) (y .1) (x .1) (at-clear2 .clear2 .ensures),
     )
 
 pub find-report-spec : {M : Type 1} → statement M

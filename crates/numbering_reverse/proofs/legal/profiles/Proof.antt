@@ -17,33 +17,41 @@ put-places-requires c κs =
     let s = c .before .before .before .before in
     (ready-small (s .args .n) (s .args .m) (now (s .args .work)) (s .pre .0 .0) (s .pre .0 .1) (s .pre .1 .0), ready-listed (s .args .n) (s .args .m) (now (s .args .work)) (s .pre .0 .0) (s .pre .0 .1) (s .pre .1 .0))
 
+-- where the function starts
+abbrev start-of : tie.After-put-places → tie.Start
+start-of c = c .before .before .before .before .before
+
 spans-requires : tie.Need-spans-requires
 spans-requires c κs =
-    let s = c .before .before .before .before .before .before .before .before in
-    let p = c .before .before .before .put-places in (
-      (s .pre .0 .0, fit-after (s .args .n) (s .args .m) (now (s .args .work)) (s .pre .0 .0) (s .pre .0 .1) (s .pre .1 .0) (p .last .0) (p .ensures)),
-      (part-after (s .args .n) (s .args .m) (now (s .args .work)) (s .pre .0 .0) (s .pre .0 .1) (s .pre .1 .0) (p .last .0) (p .ensures), placed-after (s .args .n) (s .args .m) (now (s .args .work)) (s .pre .0 .0) (s .pre .0 .1) (s .pre .1 .0) (p .last .0) (p .ensures)),
+    let at-put-places = c .before .before .before in
+    let start = start-of at-put-places in
+    let p = at-put-places .put-places in (
+      (start .pre .0 .0, fit-after (start .args .n) (start .args .m) (now (start .args .work)) (start .pre .0 .0) (start .pre .0 .1) (start .pre .1 .0) (p .last .0) (p .ensures)),
+      (part-after (start .args .n) (start .args .m) (now (start .args .work)) (start .pre .0 .0) (start .pre .0 .1) (start .pre .1 .0) (p .last .0) (p .ensures), placed-after (start .args .n) (start .args .m) (now (start .args .work)) (start .pre .0 .0) (start .pre .0 .1) (start .pre .1 .0) (p .last .0) (p .ensures)),
     )
 
 wipe-requires : tie.Need-wipe-requires
 wipe-requires c κs =
-    let s = c .before .before .before .before .before .before .before .before .before .before in
-    let p = c .before .before .before .before .before .put-places in
-    let r = ready-small (s .args .n) (s .args .m) (now (s .args .work)) (s .pre .0 .0) (s .pre .0 .1) (s .pre .1 .0) in (
-      (r .0, r .1, fit-after (s .args .n) (s .args .m) (now (s .args .work)) (s .pre .0 .0) (s .pre .0 .1) (s .pre .1 .0) (p .last .0) (p .ensures)),
-      (listed-after (s .args .n) (s .args .m) (now (s .args .work)) (s .pre .0 .0) (s .pre .0 .1) (s .pre .1 .0) (p .last .0) (p .ensures), clean-after (s .args .n) (s .args .m) (now (s .args .work)) (s .pre .0 .0) (s .pre .0 .1) (s .pre .1 .0) (p .last .0) (p .ensures) (s .pre .1 .1)),
+    let at-put-places = c .before .before .before .before .before in
+    let start = start-of at-put-places in
+    let p = at-put-places .put-places in
+    let r = ready-small (start .args .n) (start .args .m) (now (start .args .work)) (start .pre .0 .0) (start .pre .0 .1) (start .pre .1 .0) in (
+      (r .0, r .1, fit-after (start .args .n) (start .args .m) (now (start .args .work)) (start .pre .0 .0) (start .pre .0 .1) (start .pre .1 .0) (p .last .0) (p .ensures)),
+      (listed-after (start .args .n) (start .args .m) (now (start .args .work)) (start .pre .0 .0) (start .pre .0 .1) (start .pre .1 .0) (p .last .0) (p .ensures), clean-after (start .args .n) (start .args .m) (now (start .args .work)) (start .pre .0 .0) (start .pre .0 .1) (start .pre .1 .0) (p .last .0) (p .ensures) (start .pre .1 .1)),
     )
 
 returns : tie.Need-returns
 returns c =
-    let s = c .before .before .before .before .before .before .before .before .before .before .before .before .before in
-    let p = c .before .before .before .before .before .before .before .before .put-places in
-    let g = graphOf (now (s .args .starts)) (now (s .args .neighbours)) in
-    let o = segment (s .args .n) (s .args .m) (now (s .args .work)) in
-    let e = order-kept (s .args .n) (s .args .m) (now (s .args .work)) (s .pre .0 .0) (s .pre .0 .1) (s .pre .1 .0) (p .last .0) (p .ensures) in
-    let r = c .before .before .before .before .spans .ensures in (
+    let at-spans = c .before .before .before .before in
+    let at-put-places = at-spans .before .before .before .before in
+    let start = start-of at-put-places in
+    let p = at-put-places .put-places in
+    let g = graphOf (now (start .args .starts)) (now (start .args .neighbours)) in
+    let o = segment (start .args .n) (start .args .m) (now (start .args .work)) in
+    let e = order-kept (start .args .n) (start .args .m) (now (start .args .work)) (start .pre .0 .0) (start .pre .0 .1) (start .pre .1 .0) (p .last .0) (p .ensures) in
+    let r = at-spans .spans .ensures in (
       profile-same g o e (r .0),
-      (profile-same g (reverse o) (ap reverse e) (r .1), c .before .before .wipe .ensures ∙ ap (λ (l : List ℕ). replicate (s .args .n) 0 ++ l) (p .ensures .behind)),
+      (profile-same g (reverse o) (ap reverse e) (r .1), c .before .before .wipe .ensures ∙ ap (λ (l : List ℕ). replicate (start .args .n) 0 ++ l) (p .ensures .behind)),
     )
 
 pub profiles-spec : {M : Type 1} → statement M

@@ -41,15 +41,24 @@ row-requires c κs =
 part : (s : tie.Start) → length (take (s .args .n) (now (s .args .work))) ≡ s .args .n
 part s = length-take-le (s .args .n) (now (s .args .work)) (omega arith)
 
+-- where the function starts
+abbrev start-of : tie.After-row → tie.Start
+start-of c =
+    let at-wide = c .before in
+    at-wide .before .before .before .before .before
+
 ends-requires : tie.Need-ends-requires
 ends-requires c κs =
-    let s = c .before .before .before .before .before .before .before in
-    let W = take (s .args .n) (now (s .args .work)) in
-    subst (λ (r : List ℕ). Words (length W) r) (sym (c .before .row .ensures))
-    (row-words (s .pre .1 .0 .graph) (c .before .before .wide .result) (length W) (sym (part s ∙ s .pre .0 .0)))
+    let at-row = c .before in
+    let start = start-of at-row in
+    let W = take (start .args .n) (now (start .args .work)) in
+    subst (λ (r : List ℕ). Words (length W) r) (sym (at-row .row .ensures))
+    (row-words (start .pre .1 .0 .graph) (c .before .before .wide .result) (length W) (sym (part start ∙ start .pre .0 .0)))
 
 abbrev entry : tie.After-ends → tie.Start
-entry c = c .before .before .before .before .before .before .before .before
+entry c =
+    let at-row = c .before .before in
+    start-of at-row
 
 -- the order reversed
 abbrev reversed : tie.Start → Graph
@@ -86,6 +95,11 @@ above c =
     let s = entry c in
     omega (arith, backward c, span-most (reversed s) (s .args .m - s .args .a), small s)
 
+places-length : tie.Need-slice-aggregate-ends
+places-length c =
+    let at-wide = c .before .before in
+    sym (part (at-wide .before .before .before .before .before))
+
 pub span-spec : {M : Type 1} → statement M
 span-spec =
     tie.close
@@ -96,7 +110,7 @@ span-spec =
     (λ c κs. search needs)
     row-requires
     (λ c. search needs)
-    (λ c. sym (part (c .before .before .before .before .before .before .before)))
+    places-length
     ends-requires
     (λ c. low (c .before))
     (λ c. high (c .before .before))

@@ -13,13 +13,16 @@ use Rattle.numbering_reverse.proofs.Spans.{spansTo, spansBack, spans-mo
 use Rattle.numbering_reverse.proofs.legal.spans.Statement.{statement}
 use Rattle.numbering_reverse.proofs.legal.spans.Tie as tie
 
+-- after a of the order's m places: the spans passed, by the order and by the order reversed
+record Summed (g : Graph) (order : List ℕ) (m forward backward a : ℕ) : Type 0 where
+  inside : a ≤ m
+  forward-small : forward ≤ 4096 * a
+  backward-small : backward ≤ 4096 * a
+  forward-is : forward ≡ spansTo (inOrder g order) a
+  backward-is : backward ≡ spansBack (inOrder g (reverse order)) m a
+
 abbrev Inv-loop : tie.InvT-loop
-Inv-loop starts neighbours work n m forward₀ backward₀ a₀ forward backward a =
-    (a ≤ m)
-    × (forward ≤ 4096 * a)
-    × (backward ≤ 4096 * a)
-    × (forward ≡ spansTo (inOrder (graphOf starts neighbours) (segment n m work)) a)
-    × (backward ≡ spansBack (inOrder (graphOf starts neighbours) (reverse (segment n m work))) m a)
+Inv-loop starts neighbours work n m forward₀ backward₀ a₀ forward backward a = Summed (graphOf starts neighbours) (segment n m work) m forward backward a
 
 abbrev μ-loop : tie.MeasureT-loop
 μ-loop starts neighbours work n m forward₀ backward₀ a₀ forward backward a = m - a
@@ -53,13 +56,14 @@ loop-again : tie.Need-loop-again Inv-loop μ-loop
 loop-again c =
     let r = c .before .before in
     let l = r .before .before in
-    let s = entry l in (
-      omega arith,
-      omega (arith, short r),
-      omega (arith, short r),
-      spans-more (inOrder (graph s) (order s)) (l .loop .a) (l .loop .inv .3) (r .span .ensures .0),
-      spans-back (inOrder (graph s) (reverse (order s))) (s .args .m) (l .loop .a) (omega arith) (l .loop .inv .4) (r .span .ensures .1),
-    )
+    let s = entry l in
+    record {
+      inside = omega arith;
+      forward-small = omega (arith, short r);
+      backward-small = omega (arith, short r);
+      forward-is = spans-more (inOrder (graph s) (order s)) (l .loop .a) (l .loop .inv .forward-is) (r .span .ensures .0);
+      backward-is = spans-back (inOrder (graph s) (reverse (order s))) (s .args .m) (l .loop .a) (omega arith) (l .loop .inv .backward-is) (r .span .ensures .1);
+    }
 
 returns : tie.Need-returns Inv-loop μ-loop
 returns c =
@@ -68,8 +72,8 @@ returns c =
     let a : l .loop .a ≡ s .args .m = omega arith in
     let e : l .loop .a ≡ length (order s) = omega (arith, long s) in
     let b : s .args .m ≡ length (reverse (order s)) = omega (arith, long s, length-reverse (order s)) in (
-      l .loop .inv .3 ∙ ap (spansTo (inOrder (graph s) (order s))) e ∙ spans-all (graph s) (order s),
-      l .loop .inv .4
+      l .loop .inv .forward-is ∙ ap (spansTo (inOrder (graph s) (order s))) e ∙ spans-all (graph s) (order s),
+      l .loop .inv .backward-is
           ∙ spans-back-all (inOrder (graph s) (reverse (order s))) (s .args .m) (l .loop .a) a
           ∙ ap (spansTo (inOrder (graph s) (reverse (order s)))) b
           ∙ spans-all (graph s) (reverse (order s)),
@@ -81,7 +85,7 @@ spans-spec =
     (tie.spec
     Inv-loop
     μ-loop
-    (λ c. (omega arith, omega arith, omega arith, refl, refl))
+    (λ c. record { inside = omega arith; forward-small = omega arith; backward-small = omega arith; forward-is = refl; backward-is = refl })
     (λ c κs. let s = entry (c .before) in ((s .pre .0 .0, s .pre .0 .1, c .loop-test .taken), s .pre .1))
     (λ c. omega (arith, short (c .before), small (entry (c .before .before .before))))
     (λ c. omega (arith, short (c .before .before), small (entry (c .before .before .before .before))))

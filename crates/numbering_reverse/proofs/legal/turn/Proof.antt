@@ -33,11 +33,12 @@ after c =
 
 returns : tie.Need-returns
 returns c =
-    let p = c .before .before .before .before .before .before .before .before in
-    let s = p .before .before .before .before .before in
+    let at-if1 = c .before .before .before .before in
+    let at-profiles = at-if1 .before .before .before .before in
+    let start = at-profiles .before .before .before .before .before in
     let r = c .before .before .reverse in (
-      turns-yes (graph s) (order s) (p .profiles .ensures .1 .0) (p .profiles .ensures .0) (c .before .before .before .before .if1 .taken),
-      laid-turned (s .args .n) (s .args .m) (order s) (rest s) (p .profiles .last .1 .1 .0) (long s) (after p) (r .last .0) (r .ensures),
+      turns-yes (graph start) (order start) (at-profiles .profiles .ensures .1 .0) (at-profiles .profiles .ensures .0) (at-if1 .if1 .taken),
+      laid-turned (start .args .n) (start .args .m) (order start) (rest start) (at-profiles .profiles .last .1 .1 .0) (long start) (after at-profiles) (r .last .0) (r .ensures),
     )
 
 returns-2 : tie.Need-returns-2

@@ -18,22 +18,29 @@ forward-requires c κs =
     let N = s .args .neighbours .now in
     (s .pre .0, (s .pre .1 .areas .zeros, (named-behind S N (s .pre .0) (s .pre .1), named-starting S N (s .pre .0) (s .pre .1))))
 
+-- where the function starts
+abbrev start-of : tie.After-forward → tie.Start
+start-of c = c .before .before .before .before .before
+
 turn-requires : tie.Need-turn-requires
 turn-requires c κs =
-    let s = c .before .before .before .before .before .before .before .before in
-    arranged-turn (s .args .starts .now) (s .args .neighbours .now) (s .pre .0) (s .pre .1) (c .before .before .before .forward .ensures)
+    let at-forward = c .before .before .before in
+    let start = start-of at-forward in
+    arranged-turn (start .args .starts .now) (start .args .neighbours .now) (start .pre .0) (start .pre .1) (at-forward .forward .ensures)
 
 same-length : tie.Need-same-length
 same-length c = search needs
 
 returns : tie.Need-returns
 returns c =
-    let s = c .before .before .before .before .before .before .before .before .before .before .before in
-    let S = s .args .starts .now in
-    let N = s .args .neighbours .now in
-    let f = c .before .before .before .before .before .before .forward .ensures in
-    let t = c .before .before .turn .ensures in
-    (arranged-turns S N (s .pre .0) (s .pre .1) f (t .0), arranged-words S N (s .pre .0) (s .pre .1) f (t .0) (t .1))
+    let at-turn = c .before .before in
+    let at-forward = at-turn .before .before .before .before in
+    let start = start-of at-forward in
+    let S = start .args .starts .now in
+    let N = start .args .neighbours .now in
+    let f = at-forward .forward .ensures in
+    let t = at-turn .turn .ensures in
+    (arranged-turns S N (start .pre .0) (start .pre .1) f (t .0), arranged-words S N (start .pre .0) (start .pre .1) f (t .0) (t .1))
 
 pub arrange-spec : {M : Type 1} → statement M
 arrange-spec = tie.close (tie.spec sub-n forward-requires turn-requires same-length returns)

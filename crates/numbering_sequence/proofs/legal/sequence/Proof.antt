@@ -20,29 +20,43 @@ sub-n c =
     let s = c .before .before .before .before .before in
     omega (arith, starts-of (passed (s .args .starts .now) (s .args .neighbours .now) (s .pre .0)) .count)
 
+-- where the function starts
+abbrev start-of : tie.After-renames → tie.Start
+start-of c = c .before .before .before .before
+
 mirror-requires : tie.Need-mirror-requires
 mirror-requires c κs =
-    let s = c .before .before .before .before .before .before in
-    sequence-mirrorable (s .args .starts .now) (s .args .neighbours .now) (s .pre .0) (s .pre .1)
+    let at-renames = c .before .before in
+    let start = start-of at-renames in
+    sequence-mirrorable (start .args .starts .now) (start .args .neighbours .now) (start .pre .0) (start .pre .1)
+
+-- a place of `changed`
+abbrev changed-start : tie.After-mirror → tie.Start
+changed-start c =
+    let at-renames = c .before .before .before in
+    start-of at-renames
 
 -- the names have changed
 changed : (c : tie.After-mirror)
-    → Renamed (graphOf (now (c .before .before .before .before .before .before .before .args .starts)) (now (c .before .before .before .before .before .before .before .args .neighbours))) (c .before .before .before .before .before .before .before .args .at) (c .before .before .before .before .before .before .before .args .from) (now (c .before .before .before .before .before .before .before .args .work)) (c .before .before .before .before .before .before .before .args .u) (c .before .before .before .before .before .before .before .args .v) (c .mirror .last .0)
+    → Renamed (graphOf (now (changed-start c .args .starts)) (now (changed-start c .args .neighbours))) (changed-start c .args .at) (changed-start c .args .from) (now (changed-start c .args .work)) (changed-start c .args .u) (changed-start c .args .v) (c .mirror .last .0)
 changed c =
-    let s = c .before .before .before .before .before .before .before in
-    let S = s .args .starts .now in
-    let N = s .args .neighbours .now in
-    names-changed S N (s .pre .0) (s .pre .1) (names-tested S N (s .pre .0) (s .pre .1) (c .before .before .before .renames .ensures) (c .before .before .if1 .taken)) (c .mirror .ensures)
+    let start = changed-start c in
+    let S = start .args .starts .now in
+    let N = start .args .neighbours .now in
+    names-changed S N (start .pre .0) (start .pre .1) (names-tested S N (start .pre .0) (start .pre .1) (c .before .before .before .renames .ensures) (c .before .before .if1 .taken)) (c .mirror .ensures)
 
 arrange-requires : tie.Need-arrange-requires
 arrange-requires c κs =
-    let s = c .before .before .before .before .before .before .before .before .before .before in
-    (s .pre .0, renamed-named (s .args .starts .now) (s .args .neighbours .now) (s .pre .0) (s .pre .1) (changed (c .before .before .before)))
+    let at-mirror = c .before .before .before in
+    let start = changed-start at-mirror in
+    (start .pre .0, renamed-named (start .args .starts .now) (start .args .neighbours .now) (start .pre .0) (start .pre .1) (changed at-mirror))
 
 returns : tie.Need-returns
 returns c =
-    let s = c .before .before .before .before .before .before .before .before .before .before .before .before .before in
-    sequenced (s .args .starts .now) (s .args .neighbours .now) (s .pre .0) (s .pre .1) (changed (c .before .before .before .before .before .before)) (c .before .before .arrange .ensures)
+    let at-arrange = c .before .before in
+    let at-mirror = at-arrange .before .before .before .before in
+    let start = changed-start at-mirror in
+    sequenced (start .args .starts .now) (start .args .neighbours .now) (start .pre .0) (start .pre .1) (changed at-mirror) (at-arrange .arrange .ensures)
 
 -- the names stay
 kept : (c : tie.Else1)
@@ -55,13 +69,15 @@ kept c =
 
 arrange-requires-2 : tie.Need-arrange-requires-2
 arrange-requires-2 c κs =
-    let s = c .before .before .before .before .before .before in
-    (s .pre .0, renamed-named (s .args .starts .now) (s .args .neighbours .now) (s .pre .0) (s .pre .1) (kept (c .before)))
+    let at-renames = c .before .before in
+    let start = start-of at-renames in
+    (start .pre .0, renamed-named (start .args .starts .now) (start .args .neighbours .now) (start .pre .0) (start .pre .1) (kept (c .before)))
 
 returns-2 : tie.Need-returns-2
 returns-2 c =
-    let s = c .before .before .before .before .before .before .before .before .before in
-    sequenced (s .args .starts .now) (s .args .neighbours .now) (s .pre .0) (s .pre .1) (kept (c .before .before .before .before)) (c .before .before .arrange2 .ensures)
+    let at-renames = c .before .before .before .before .before in
+    let start = start-of at-renames in
+    sequenced (start .args .starts .now) (start .args .neighbours .now) (start .pre .0) (start .pre .1) (kept (c .before .before .before .before)) (c .before .before .arrange2 .ensures)
 
 pub sequence-spec : {M : Type 1} → statement M
 sequence-spec =

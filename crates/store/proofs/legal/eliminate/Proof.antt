@@ -12,33 +12,53 @@ use Rattle.store.proofs.Lent.{short-bytes, long-bytes, front-zeroed}
 use Rattle.store.proofs.legal.eliminate.Statement.{statement}
 use Rattle.store.proofs.legal.eliminate.Tie as tie
 
+-- where the function starts
+abbrev start-of : tie.After-byte-count → tie.Start
+start-of c =
+    let at-shared-slice-known = c .before .before .before .before .before in
+    at-shared-slice-known .before
+
 returns : tie.Need-returns
 returns c =
-    let a = c .before .before .before .before .before .before .before .before .before .before .before .args in
+    let at-byte-count = c .before .before .before .before .before in
+    let start = start-of at-byte-count in
+    let a = start .args in
     let h = newGraph (now (a .starts)) (now (a .neighbours)) (now (a .numbering)) in
-    let s = short-bytes h (now (a .bytes)) (eliminationFigures h) (omega (arith, c .before .before .before .before .if1 .taken, c .before .before .before .before .before .byte-count .ensures)) in
+    let s = short-bytes h (now (a .bytes)) (eliminationFigures h) (omega (arith, c .before .before .before .before .if1 .taken, at-byte-count .byte-count .ensures)) in
     (s .0, c .before .before .clear .ensures, s .1)
 
 slice-aggregate-mark : tie.Need-slice-aggregate-mark
-slice-aggregate-mark c = sym (length-take-le (c .before .before .before .before .before .before .before .before .args .n) (now (c .before .before .before .before .before .before .before .before .args .scratch)) (c .before .before .before .before .before .before .before .before .pre .2))
+slice-aggregate-mark c =
+    let at-byte-count = c .before .before in
+    let start = start-of at-byte-count in
+    sym (length-take-le (start .args .n) (now (start .args .scratch)) (start .pre .2))
 
 slice-aggregate-mark-2 : tie.Need-slice-aggregate-mark-2
-slice-aggregate-mark-2 c = sym (length-take-le (c .before .before .before .byte-count .result) (now (c .before .before .before .before .before .before .before .before .before .args .bytes)) (c .before .before .if1 .left))
+slice-aggregate-mark-2 c =
+    let at-byte-count = c .before .before .before in
+    let start = start-of at-byte-count in
+    sym (length-take-le (at-byte-count .byte-count .result) (now (start .args .bytes)) (c .before .before .if1 .left))
 
 mark-requires : tie.Need-mark-requires
 mark-requires c κs =
-    let k = c .before .before .before .before .before .before .before .before .before .pre in
-    (k .0, k .3, length-take-le (c .before .before .before .byte-count .result) (now (c .before .before .before .before .before .before .before .before .before .args .bytes)) (c .before .before .if1 .left) ∙ c .before .before .before .byte-count .ensures)
+    let at-byte-count = c .before .before .before in
+    let start = start-of at-byte-count in
+    let k = start .pre in
+    (k .0, k .3, length-take-le (at-byte-count .byte-count .result) (now (start .args .bytes)) (c .before .before .if1 .left) ∙ at-byte-count .byte-count .ensures)
 
 returns-2 : tie.Need-returns-2
 returns-2 c =
-    let a = c .before .before .before .before .before .before .before .before .before .before .before .before .before .before .args in
+    let at-mark = c .before .before .before .before in
+    let at-if1 = at-mark .before .before .before in
+    let at-byte-count = at-if1 .before in
+    let start = start-of at-byte-count in
+    let a = start .args in
     let h = newGraph (now (a .starts)) (now (a .neighbours)) (now (a .numbering)) in
-    let e = c .before .before .before .before .mark .ensures in
+    let e = at-mark .mark .ensures in
     let l =
-    long-bytes h (now (a .bytes)) (eliminationFigures h) (figuresOf (c .before .before .before .before .mark .result)) (c .before .before .before .before .before .before .before .before .byte-count .result) _
-    (c .before .before .before .before .before .before .before .before .byte-count .ensures) (c .before .before .before .before .before .before .before .if1 .left) (e .0) (e .2) in
-    (l .0, front-zeroed (a .n) (sizeOf (now (a .starts))) _ (now (a .scratch)) (e .1) (c .before .before .before .before .before .before .before .before .before .before .before .before .before .before .pre .1), l .1)
+    long-bytes h (now (a .bytes)) (eliminationFigures h) (figuresOf (at-mark .mark .result)) (at-byte-count .byte-count .result) _
+    (at-byte-count .byte-count .ensures) (at-if1 .if1 .left) (e .0) (e .2) in
+    (l .0, front-zeroed (a .n) (sizeOf (now (a .starts))) _ (now (a .scratch)) (e .1) (start .pre .1), l .1)
 
 pub eliminate-spec : {M : Type 1} → statement M
 eliminate-spec =

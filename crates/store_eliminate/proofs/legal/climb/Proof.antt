@@ -18,10 +18,16 @@ abbrev μ-loop : tie.MeasureT-loop
 loop-holds : tie.Need-loop-holds Inv-loop μ-loop
 loop-holds c = (refl, refl, λ h o due R w. w)
 
+-- where the function starts
+abbrev start-of : tie.Then1 Inv-loop μ-loop → tie.Start Inv-loop μ-loop
+start-of c = c .before .before .before .before .before
+
 joined-requires : tie.Need-joined-requires Inv-loop μ-loop
 joined-requires c κs =
-    let k = c .before .before .before .before .before .before .pre in
-    room (k .3) (c .before .before .before .loop .inv .2 (k .0) (k .1) (k .2) (k .3) (k .4)) (c .before .if1 .taken)
+    let at-if1 = c .before in
+    let start = start-of at-if1 in
+    let k = start .pre in
+    room (k .3) (c .before .before .before .loop .inv .2 (k .0) (k .1) (k .2) (k .3) (k .4)) (at-if1 .if1 .taken)
 
 returns : tie.Need-returns Inv-loop μ-loop
 returns c =
@@ -30,14 +36,20 @@ returns c =
 
 rise-requires : tie.Need-rise-requires Inv-loop μ-loop
 rise-requires c κs =
-    let k = c .before .before .before .before .before .before .before .before .before .before .pre in
-    let i = c .before .before .before .before .before .before .before .loop .inv in
-    ((k .0, k .1, k .2, k .3, i .2 (k .0) (k .1) (k .2) (k .3) (k .4)), c .before .before .before .before .before .if1 .taken)
+    let at-if1 = c .before .before .before .before .before in
+    let at-loop = at-if1 .before .before in
+    let start = at-loop .before .before .before in
+    let k = start .pre in
+    let i = at-loop .loop .inv in
+    ((k .0, k .1, k .2, k .3, i .2 (k .0) (k .1) (k .2) (k .3) (k .4)), at-if1 .if1 .taken)
 
 loop-again : tie.Need-loop-again Inv-loop μ-loop
 loop-again c =
-    let i = c .before .before .before .before .before .before .before .before .before .before .before .before .loop .inv in
-    let r = c .before .before .before .before .rise .ensures in
+    let at-rise = c .before .before .before .before in
+    let at-joined = at-rise .before .before .before .before in
+    let at-loop = at-joined .before .before .before .before in
+    let i = at-loop .loop .inv in
+    let r = at-rise .rise .ensures in
     (search needs, search needs, λ h o due R w. r .2 h o due R (i .2 h o due R w))
 
 returns-2 : tie.Need-returns-2 Inv-loop μ-loop

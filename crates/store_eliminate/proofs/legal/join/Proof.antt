@@ -10,7 +10,10 @@ set-requires : tie.Need-set-requires
 set-requires c κs = rw (c .place .ensures) (c .before .before .before .pre .fits)
 
 returns : tie.Need-returns
-returns c = c .before .before .set .ensures ∙ ap (withMark (now (c .before .before .before .before .before .before .args .bytes))) (c .before .before .before .place .ensures)
+returns c =
+    let at-place = c .before .before .before in
+    let start = at-place .before .before .before in
+    c .before .before .set .ensures ∙ ap (withMark (now (start .args .bytes))) (at-place .place .ensures)
 
 pub join-spec : {M : Type 1} → statement M
 join-spec = tie.close (tie.spec (λ c κs. search needs) set-requires (λ c. search needs) returns)

@@ -10,22 +10,35 @@ use Rattle.store_eliminate.proofs.legal.mark.Statement.{statement}
 use Rattle.store_eliminate.proofs.legal.mark.Tie as tie
 use Rattle.laws.proofs.Lent.{zeroed-all}
 
+-- where the function starts
+abbrev start-of : tie.After-clear → tie.Start
+start-of c =
+    let at-shared-slice-known2 = c .before .before .before .before .before in
+    at-shared-slice-known2 .before .before
+
 pass-and-count-requires : tie.Need-pass-and-count-requires
 pass-and-count-requires c κs =
-    let k = c .before .before .before .before .before .before .before .before .before .before .before .pre in
-    let b = c .before .before .before .before .before .before .before .before .before .before .before .args .bytes .now in
-    let e = c .before .before .before .before .clear .ensures ∙ zeroed-all _ b refl in
+    let at-clear = c .before .before .before .before in
+    let start = start-of at-clear in
+    let k = start .pre in
+    let b = start .args .bytes .now in
+    let e = at-clear .clear .ensures ∙ zeroed-all _ b refl in
     let w = rows-none (k .0) _ _ (k .1) (e ∙ ap (λ (m : ℕ). replicate m 0) (k .2)) in
     ((k .0, w), bytes-few w)
 
 returns : tie.Need-returns
 returns c =
-    let k = c .before .before .before .before .before .before .before .before .before .before .before .before .before .before .before .before .before .before .before .before .pre in
-    let e = c .before .before .before .before .before .before .before .before .pass-and-count .ensures in (
+    let at-clear2 = c .before .before in
+    let at-scratch = at-clear2 .before .before .before .before .before in
+    let at-pass-and-count = at-scratch .before in
+    let at-clear = at-pass-and-count .before .before .before .before .before in
+    let start = start-of at-clear in
+    let k = start .pre in
+    let e = at-pass-and-count .pass-and-count .ensures in (
       e .0,
       (
         rows-bytes (k .0) (e .1) (λ i. omega (arith, c .before .before .before .before .slice-known5 .given i)),
-        c .before .before .clear2 .ensures ∙ zeroed-all _ (c .before .before .before .before .before .before .before .before .pass-and-count .last .1 .1 .1 .0) refl ∙ ap (λ (m : ℕ). replicate m 0) (rows-words (k .0) (e .1)),
+        at-clear2 .clear2 .ensures ∙ zeroed-all _ (at-pass-and-count .pass-and-count .last .1 .1 .1 .0) refl ∙ ap (λ (m : ℕ). replicate m 0) (rows-words (k .0) (e .1)),
       ),
     )
 

@@ -1,6 +1,7 @@
 -- `store_eliminate::legal::pass` meets its contract: the rows up to `done` are eliminated, `start` says where the next one starts. Assumes nothing.
 use mathlib.Core.Path.{_≡_, refl, sym}
-use Prim.Native.Nat.{suc, _-_, _≤_}
+use mathlib.Core.List.{List}
+use Prim.Native.Nat.{ℕ, suc, _-_, _≤_}
 use native.Mathlib.Numerals.{add-one}
 use native.Mathlib.Omega.{arith}
 use borrow.Author.Needs.{needs}
@@ -13,34 +14,49 @@ use Rattle.store_eliminate.proofs.Rows.{start-none}
 use Rattle.store_eliminate.proofs.legal.pass.Statement.{statement}
 use Rattle.store_eliminate.proofs.legal.pass.Tie as tie
 
+-- after so many rows: where the next one starts, and what is done
+record Passed (S N x C B : List ℕ) (n : ℕ) (C′ B′ : List ℕ) (next rows : ℕ) : Type 0 where
+  inside : rows ≤ n
+  words : length C′ ≡ length C
+  bytes : length B′ ≡ length B
+  starts-at : next ≡ startOf (newGraph S N x) (suc rows)
+  done : Done S N x C B 0 → Done S N x C′ B′ rows
+
 abbrev Inv-loop : tie.InvT-loop
-Inv-loop starts neighbours numbering scratch₀ bytes₀ n start₀ done₀ scratch bytes start done =
-    (done ≤ n) × (length scratch ≡ length scratch₀) × (length bytes ≡ length bytes₀)
-    × (start ≡ startOf (newGraph starts neighbours numbering) (suc done))
-    × (Done starts neighbours numbering scratch₀ bytes₀ 0 → Done starts neighbours numbering scratch bytes done)
+Inv-loop starts neighbours numbering scratch₀ bytes₀ n start₀ done₀ scratch bytes start done = Passed starts neighbours numbering scratch₀ bytes₀ n scratch bytes start done
 
 abbrev μ-loop : tie.MeasureT-loop
 μ-loop starts neighbours numbering scratch₀ bytes₀ n start₀ done₀ scratch bytes start done = n - done
 
 loop-holds : tie.Need-loop-holds Inv-loop μ-loop
-loop-holds c = (omega arith, refl, refl, sym (start-none _), λ w. w)
+loop-holds c = record { inside = omega arith; words = refl; bytes = refl; starts-at = sym (start-none _); done = λ w. w }
+
+-- where the function starts
+abbrev start-of : tie.At-loop Inv-loop μ-loop → tie.Start Inv-loop μ-loop
+start-of c =
+    let at-shared-slice-known = c .before .before .before .before .before in
+    at-shared-slice-known .before
 
 eliminate-row-requires : tie.Need-eliminate-row-requires Inv-loop μ-loop
 eliminate-row-requires c κs =
-    let k = c .before .before .before .before .before .before .before .before .before .pre in
-    let i = c .before .before .before .loop .inv in
-    (k .0, i .4 (k .1), omega (arith, c .before .before .loop-test .taken, numbering-length _ _ (k .0 .numbering)), i .3)
+    let at-loop = c .before .before .before in
+    let start = start-of at-loop in
+    let k = start .pre in
+    let i = at-loop .loop .inv in
+    (k .0, i .done (k .1), omega (arith, c .before .before .loop-test .taken, numbering-length _ _ (k .0 .numbering)), i .starts-at)
 
 loop-again : tie.Need-loop-again Inv-loop μ-loop
 loop-again c =
     let e = c .before .before .before .before .eliminate-row .ensures in
-    (omega arith, search needs, search needs, rw add-one (e .0), λ w. rw add-one (e .1))
+    record { inside = omega arith; words = search needs; bytes = search needs; starts-at = rw add-one (e .0); done = λ w. rw add-one (e .1) }
 
 returns : tie.Need-returns Inv-loop μ-loop
 returns c =
-    let k = c .before .before .before .before .before .before .before .pre in
-    let e : c .before .loop .done ≡ sizeOf (c .before .before .before .before .before .before .before .args .starts .now) = omega (arith, numbering-length _ _ (k .0 .numbering)) in
-    rw e at (c .before .loop .inv .4 (k .1))
+    let at-loop = c .before in
+    let start = start-of at-loop in
+    let k = start .pre in
+    let e : at-loop .loop .done ≡ sizeOf (start .args .starts .now) = omega (arith, numbering-length _ _ (k .0 .numbering)) in
+    rw e at (at-loop .loop .inv .done (k .1))
 
 pub pass-spec : {M : Type 1} → statement M
 pass-spec =
