@@ -37,50 +37,76 @@ sub-blank c = let s = c .before .before .before .before in omega (arith, s .pre 
 blank-requires : tie.Need-blank-requires
 blank-requires c κs = let s = c .before .before .before .before in blank-in (s .args .scratch .now) (G s) (few s) (s .pre .1)
 
+-- where the function starts
+abbrev start-of : tie.After-blank → tie.Start
+start-of c = c .before .before .before .before .before
+
 mul-level : tie.Need-mul-level
-mul-level c = let s = c .before .before .before .before .before .before .before in omega (arith, few s)
+mul-level c =
+    let at-blank = c .before .before in
+    let start = start-of at-blank in
+    omega (arith, few start)
 
 slice-relend-prefix-level : tie.Need-slice-relend-prefix-level
-slice-relend-prefix-level c = let s = c .before .before .before .before .before .before .before in level-room (s .args .scratch .now) (G s) (few s) (s .pre .1) (c .before .before .blank .ensures)
+slice-relend-prefix-level c =
+    let at-blank = c .before .before in
+    let start = start-of at-blank in
+    level-room (start .args .scratch .now) (G start) (few start) (start .pre .1) (at-blank .blank .ensures)
 
 slice-aggregate-level : tie.Need-slice-aggregate-level
 slice-aggregate-level c =
-    let s = c .before .before .before .before .before .before .before .before in
-    let b = c .before .before .before .blank in
-    sym (length-take-le (6 * sizeOf (s .args .starts .now)) (b .last .0) (level-room (s .args .scratch .now) (G s) (few s) (s .pre .1) (b .ensures)))
+    let at-blank = c .before .before .before in
+    let start = start-of at-blank in
+    let b = at-blank .blank in
+    sym (length-take-le (6 * sizeOf (start .args .starts .now)) (b .last .0) (level-room (start .args .scratch .now) (G start) (few start) (start .pre .1) (b .ensures)))
 
 level-requires : tie.Need-level-requires
 level-requires c κs =
-    let s = c .before .before .before .before .before .before .before .before in
-    let X = s .args .scratch .now in
-    let q = c .before .before .before .blank .ensures in
-    (s .pre .0, (level-ok X (G s) (few s) (s .pre .1) q, (depth-ok X (G s) (few s) (s .pre .1) q, narrow-ok X (G s) (few s) (s .pre .1) q)))
+    let at-blank = c .before .before .before in
+    let start = start-of at-blank in
+    let X = start .args .scratch .now in
+    let q = at-blank .blank .ensures in
+    (start .pre .0, (level-ok X (G start) (few start) (start .pre .1) q, (depth-ok X (G start) (few start) (start .pre .1) q, narrow-ok X (G start) (few start) (start .pre .1) q)))
 
 wide-requires : tie.Need-wide-requires
 wide-requires c κs = search needs
 
 -- the slice once the part is levelled, and what is known of it
 back : (c : tie.After-level) → List ℕ
-back c = let s = c .before .before .before .before .before .before .before .before .before in c .level .last .1 .1 .0 ++ drop (6 * sizeOf (s .args .starts .now)) (c .before .before .before .before .blank .last .0)
+back c =
+    let at-blank = c .before .before .before .before in
+    let start = start-of at-blank in
+    c .level .last .1 .1 .0 ++ drop (6 * sizeOf (start .args .starts .now)) (at-blank .blank .last .0)
 
 widest-requires : tie.Need-widest-requires
 widest-requires c κs =
-    let s = c .before .before .before .before .before .before .before .before .before .before .before .before .before in
-    let l = c .before .before .before .before .level in
-    let w = widest-ok (s .args .scratch .now) (G s) (few s) (s .pre .1) (c .before .before .before .before .before .before .before .before .blank .ensures) (l .last .1 .1 .0) (l .ensures) in
+    let at-level = c .before .before .before .before in
+    let at-blank = at-level .before .before .before .before in
+    let start = start-of at-blank in
+    let l = at-level .level in
+    let w = widest-ok (start .args .scratch .now) (G start) (few start) (start .pre .1) (at-blank .blank .ensures) (l .last .1 .1 .0) (l .ensures) in
     (w .0, omega (arith, w .1, c .wide .ensures), w .2)
 
+-- a place of `width`
+abbrev width-start : tie.After-widest → tie.Start
+width-start c =
+    let at-level = c .before .before .before .before .before in
+    let at-blank = at-level .before .before .before .before in
+    start-of at-blank
+
 -- the greatest count
-width : (c : tie.After-widest) → let s = c .before .before .before .before .before .before .before .before .before .before .before .before .before .before in let g = graphOf (s .args .starts .now) (s .args .neighbours .now) in
+width : (c : tie.After-widest) → let s = (width-start c) in let g = graphOf (s .args .starts .now) (s .args .neighbours .now) in
     c .widest .result ≡ widthOf (s .args .k) (combined g (endsOf g (s .args .from) (wordsOf (sizeOf (s .args .starts .now)) (s .args .scratch .now))))
 unfolding back
 width c =
-    let s = c .before .before .before .before .before .before .before .before .before .before .before .before .before .before in
-    let b = c .before .before .before .before .before .before .before .before .before .blank in
-    let l = c .before .before .before .before .before .level in
-    let n = sizeOf (s .args .starts .now) in
-    width-ok (s .args .scratch .now) (G s) (few s) (s .pre .1) (b .ensures) (l .last .1 .1 .0) (l .ensures)
-    (c .widest .ensures ∙ ap (λ (x : ℕ). greatest (map (countOf n (workOf n (back (c .before .before .before .before .before)))) (upFrom 1 x))) (c .before .wide .ensures))
+    let at-level = c .before .before .before .before .before in
+    let at-blank = at-level .before .before .before .before in
+    let start = start-of at-blank in
+    let b = at-blank .blank in
+    let l = at-level .level in
+    let n = sizeOf (start .args .starts .now) in
+    width-ok (start .args .scratch .now) (G start) (few start) (start .pre .1) (b .ensures) (l .last .1 .1 .0) (l .ensures)
+    (c .widest .ensures ∙ ap (λ (x : ℕ). greatest (map (countOf n (workOf n (back at-level))) (upFrom 1 x))) (c .before .wide .ensures))
 
 wide-requires-2 : tie.Need-wide-requires-2
 wide-requires-2 c κs = search needs
@@ -88,29 +114,41 @@ wide-requires-2 c κs = search needs
 tidy-requires : tie.Need-tidy-requires
 unfolding back
 tidy-requires c κs =
-    let s = c .before .before .before .before .before .before .before .before .before .before .before .before .before .before .before .before in
-    let b = c .before .before .before .before .before .before .before .before .before .before .before .blank in
-    let l = c .before .before .before .before .before .before .before .level in
-    let n = sizeOf (s .args .starts .now) in (
-      tidy-room (s .args .scratch .now) (G s) (few s) (s .pre .1) (b .ensures) (l .last .1 .1 .0) (l .ensures),
-      subst (λ (x : ℕ). Clearable n (s .args .from) (s .args .to) x (workOf n (back (c .before .before .before .before .before .before .before)))) (sym (c .wide2 .ensures)) (tidy-ok (s .args .scratch .now) (G s) (few s) (s .pre .1) (b .ensures) (l .last .1 .1 .0) (l .ensures)),
+    let at-wide = c .before .before .before in
+    let at-level = at-wide .before .before .before .before in
+    let at-blank = at-level .before .before .before .before in
+    let start = start-of at-blank in
+    let b = at-blank .blank in
+    let l = at-level .level in
+    let n = sizeOf (start .args .starts .now) in (
+      tidy-room (start .args .scratch .now) (G start) (few start) (start .pre .1) (b .ensures) (l .last .1 .1 .0) (l .ensures),
+      subst (λ (x : ℕ). Clearable n (start .args .from) (start .args .to) x (workOf n (back at-level))) (sym (c .wide2 .ensures)) (tidy-ok (start .args .scratch .now) (G start) (few start) (start .pre .1) (b .ensures) (l .last .1 .1 .0) (l .ensures)),
     )
 
 move-levels-requires : tie.Need-move-levels-requires
 unfolding back
 move-levels-requires c κs =
-    let s = c .before .before .before .before .before .before .before .before .before .before .before .before .before .before .before .before .before .before .before .before in
-    let b = c .before .before .before .before .before .before .before .before .before .before .before .before .before .before .before .blank in
-    let l = c .before .before .before .before .before .before .before .before .before .before .before .level in
+    let at-wide2 = c .before .before .before .before in
+    let at-wide = at-wide2 .before .before .before in
+    let at-level = at-wide .before .before .before .before in
+    let at-blank = at-level .before .before .before .before in
+    let start = start-of at-blank in
+    let b = at-blank .blank in
+    let l = at-level .level in
     let t = c .before .before .before .tidy in
-    move-ok (s .args .scratch .now) (G s) (few s) (s .pre .1) (b .ensures) (l .last .1 .1 .0) (l .ensures) (t .last .0) (t .kept .0) (t .ensures)
+    move-ok (start .args .scratch .now) (G start) (few start) (start .pre .1) (b .ensures) (l .last .1 .1 .0) (l .ensures) (t .last .0) (t .kept .0) (t .ensures)
 
 cast-result : tie.Need-cast-result
 cast-result c =
-    let s = c .before .before .before .before .before .before .before .before .before .before .before .before .before .before .before .before .before .before .before .before .before .before .before in
-    let b = c .before .before .before .before .before .before .before .before .before .before .before .before .before .before .before .before .before .before .blank in
-    let l = c .before .before .before .before .before .before .before .before .before .before .before .before .before .before .level in
-    omega (arith, width (c .before .before .before .before .before .before .before .before .before), width-most (s .args .scratch .now) (G s) (few s) (s .pre .1) (b .ensures) (l .last .1 .1 .0) (l .ensures))
+    let at-move-levels = c .before .before in
+    let at-wide2 = at-move-levels .before .before .before .before .before in
+    let at-widest = at-wide2 .before .before in
+    let at-level = at-widest .before .before .before .before .before in
+    let at-blank = at-level .before .before .before .before in
+    let start = start-of at-blank in
+    let b = at-blank .blank in
+    let l = at-level .level in
+    omega (arith, width at-widest, width-most (start .args .scratch .now) (G start) (few start) (start .pre .1) (b .ensures) (l .last .1 .1 .0) (l .ensures))
 
 same-length : tie.Need-same-length
 same-length c = search needs
@@ -118,11 +156,16 @@ same-length c = search needs
 returns : tie.Need-returns
 unfolding back
 returns c =
-    let s = c .before .before .before .before .before .before .before .before .before .before .before .before .before .before .before .before .before .before .before .before .before .before .before in
-    let b = c .before .before .before .before .before .before .before .before .before .before .before .before .before .before .before .before .before .before .blank in
-    let l = c .before .before .before .before .before .before .before .before .before .before .before .before .before .before .level in
-    let t = c .before .before .before .before .before .before .tidy in
-    (width (c .before .before .before .before .before .before .before .before .before), combined-is (s .args .scratch .now) (G s) (few s) (s .pre .1) (b .ensures) (l .last .1 .1 .0) (l .ensures) (t .last .0) (t .kept .0) (t .ensures) (c .before .before .move-levels .ensures))
+    let at-move-levels = c .before .before in
+    let at-tidy = at-move-levels .before .before .before .before in
+    let at-widest = at-tidy .before .before .before in
+    let at-level = at-widest .before .before .before .before .before in
+    let at-blank = at-level .before .before .before .before in
+    let start = start-of at-blank in
+    let b = at-blank .blank in
+    let l = at-level .level in
+    let t = at-tidy .tidy in
+    (width at-widest, combined-is (start .args .scratch .now) (G start) (few start) (start .pre .1) (b .ensures) (l .last .1 .1 .0) (l .ensures) (t .last .0) (t .kept .0) (t .ensures) (at-move-levels .move-levels .ensures))
 
 pub combine-spec : {M : Type 1} → statement M
 combine-spec =

@@ -104,9 +104,12 @@ loop-less c = omega arith
 
 loop-again : tie.Need-loop-again Inv-loop μ-loop
 loop-again c =
-    let l = c .before .before .before .before .before .before .loop in
-    let n = c .before .before .before .before .before .before .before .before .args .n in
-    let h = c .before .before .before .before .before .loop-test .taken in
+    let at-loop-test = c .before .before .before .before .before in
+    let at-loop = at-loop-test .before in
+    let start = at-loop .before .before in
+    let l = at-loop .loop in
+    let n = start .args .n in
+    let h = at-loop-test .loop-test .taken in
     let e = ap (settledAt n (l .scratch)) (sym (c .before .before .before .wide .ensures)) in
     ⊎-elim
     (λ w. rw (w .1, w .2) (gather-take (l .inv) h refl (e ∙ eq-eqb _ _ (w .0 .taken))))

@@ -12,50 +12,69 @@ sub-n c = let s = c .before .before .before in omega (arith, starts-of (passed (
 mirror-requires : tie.Need-mirror-requires
 mirror-requires c κs = let s = c .before .before .before .before in mirror-in (s .args .scratch .now) (s .pre .1 .0) (s .pre .1 .1 .0)
 
+-- where the function starts
+abbrev start-of : tie.After-mirror → tie.Start
+start-of c = c .before .before .before .before .before
+
 gather-requires : tie.Need-gather-requires
 gather-requires c κs =
-    let s = c .before .before .before .before .before .before .before .before in
-    let r = c .before .before .before .mirror in
-    gather-in (s .args .scratch .now) (s .pre .1 .0) (s .pre .1 .1 .0) (r .last .0) (r .ensures)
+    let at-mirror = c .before .before .before in
+    let start = start-of at-mirror in
+    let r = at-mirror .mirror in
+    gather-in (start .args .scratch .now) (start .pre .1 .0) (start .pre .1 .1 .0) (r .last .0) (r .ensures)
 
 settle-requires : tie.Need-settle-requires
 settle-requires c κs =
-    let s = c .before .before .before .before .before .before .before .before .before .before .before .before in
-    let r = c .before .before .before .before .before .before .before .mirror in
-    let g = c .before .before .before .gather in
-    settle-in (s .args .scratch .now) (s .pre .1 .0) (s .pre .1 .1 .0) (r .last .0) (r .ensures) (g .last .0) (g .ensures .0) (g .ensures .1)
+    let at-gather = c .before .before .before in
+    let at-mirror = at-gather .before .before .before .before in
+    let start = start-of at-mirror in
+    let r = at-mirror .mirror in
+    let g = at-gather .gather in
+    settle-in (start .args .scratch .now) (start .pre .1 .0) (start .pre .1 .1 .0) (r .last .0) (r .ensures) (g .last .0) (g .ensures .0) (g .ensures .1)
 
 find-requires : tie.Need-find-requires
 find-requires c κs =
-    let s = c .before .before .before .before .before .before .before .before .before .before .before .before .before .before .before .before in
-    let r = c .before .before .before .before .before .before .before .before .before .before .before .mirror in
-    let g = c .before .before .before .before .before .before .before .gather in
-    let t = c .before .before .before .settle in
-    (s .pre .0, find-in (s .args .scratch .now) (s .pre .1 .0) (s .pre .1 .1 .0) (r .last .0) (r .ensures) (g .last .0) (g .ensures .0) (g .ensures .1) (t .last .0) (t .ensures .0) (t .ensures .1))
+    let at-settle = c .before .before .before in
+    let at-gather = at-settle .before .before .before .before in
+    let at-mirror = at-gather .before .before .before .before in
+    let start = start-of at-mirror in
+    let r = at-mirror .mirror in
+    let g = at-gather .gather in
+    let t = at-settle .settle in
+    (start .pre .0, find-in (start .args .scratch .now) (start .pre .1 .0) (start .pre .1 .1 .0) (r .last .0) (r .ensures) (g .last .0) (g .ensures .0) (g .ensures .1) (t .last .0) (t .ensures .0) (t .ensures .1))
 
 place-all-requires : tie.Need-place-all-requires
 place-all-requires c κs =
-    let s = c .before .before .before .before .before .before .before .before .before .before .before .before .before .before .before .before .before .before .before .before in
-    let r = c .before .before .before .before .before .before .before .before .before .before .before .before .before .before .before .mirror in
-    let g = c .before .before .before .before .before .before .before .before .before .before .before .gather in
-    let t = c .before .before .before .before .before .before .before .settle in
-    let f = c .before .before .before .find in
-    place-in (s .args .scratch .now) (s .pre .1 .0) (s .pre .1 .1 .0) (r .last .0) (r .ensures) (g .last .0) (g .ensures .0) (g .ensures .1) (t .last .0) (t .ensures .0) (t .ensures .1)
-    (f .last .1 .1 .0) (f .ensures) (s .pre .1 .1 .1)
+    let at-find = c .before .before .before in
+    let at-settle = at-find .before .before .before .before in
+    let at-gather = at-settle .before .before .before .before in
+    let at-mirror = at-gather .before .before .before .before in
+    let start = start-of at-mirror in
+    let r = at-mirror .mirror in
+    let g = at-gather .gather in
+    let t = at-settle .settle in
+    let f = at-find .find in
+    place-in (start .args .scratch .now) (start .pre .1 .0) (start .pre .1 .1 .0) (r .last .0) (r .ensures) (g .last .0) (g .ensures .0) (g .ensures .1) (t .last .0) (t .ensures .0) (t .ensures .1)
+    (f .last .1 .1 .0) (f .ensures) (start .pre .1 .1 .1)
 
 same-length : tie.Need-same-length
 same-length c = search needs
 
 returns : tie.Need-returns
 returns c =
-    let s = c .before .before .before .before .before .before .before .before .before .before .before .before .before .before .before .before .before .before .before .before .before .before .before in
-    let r = c .before .before .before .before .before .before .before .before .before .before .before .before .before .before .before .before .before .before .mirror in
-    let g = c .before .before .before .before .before .before .before .before .before .before .before .before .before .before .gather in
-    let t = c .before .before .before .before .before .before .before .before .before .before .settle in
-    let f = c .before .before .before .before .before .before .find in
-    let a = c .before .before .place-all in
-    level-in (s .args .scratch .now) (s .pre .1 .0) (s .pre .1 .1 .0) (r .last .0) (r .ensures) (g .last .0) (g .ensures .0) (g .ensures .1) (t .last .0) (t .ensures .0) (t .ensures .1)
-    (f .last .1 .1 .0) (f .ensures) (s .pre .1 .1 .1) (a .last .0) (a .ensures .0) (a .ensures .1)
+    let at-place-all = c .before .before in
+    let at-find = at-place-all .before .before .before .before in
+    let at-settle = at-find .before .before .before .before in
+    let at-gather = at-settle .before .before .before .before in
+    let at-mirror = at-gather .before .before .before .before in
+    let start = start-of at-mirror in
+    let r = at-mirror .mirror in
+    let g = at-gather .gather in
+    let t = at-settle .settle in
+    let f = at-find .find in
+    let a = at-place-all .place-all in
+    level-in (start .args .scratch .now) (start .pre .1 .0) (start .pre .1 .1 .0) (r .last .0) (r .ensures) (g .last .0) (g .ensures .0) (g .ensures .1) (t .last .0) (t .ensures .0) (t .ensures .1)
+    (f .last .1 .1 .0) (f .ensures) (start .pre .1 .1 .1) (a .last .0) (a .ensures .0) (a .ensures .1)
 
 pub level-spec : {M : Type 1} → statement M
 level-spec = tie.close (tie.spec sub-n mirror-requires gather-requires settle-requires find-requires place-all-requires same-length returns)

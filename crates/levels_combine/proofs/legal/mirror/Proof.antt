@@ -93,11 +93,12 @@ loop-less c = omega arith
 
 loop-again : tie.Need-loop-again Inv-loop μ-loop
 loop-again c =
-    let a = c .before in
-    let I = a .before .before .before .loop .inv in
-    let h = a .before .before .loop-test .taken in
-    let k = c .before .before .before .before .before .before .args .k in
-    (I .0, store-step (I .1) h (a .wide .ensures) (ap (λ (x : ℕ). k + 1 - x) (z-word (I .1) h (a .wide .ensures))))
+    let at-loop = c .before .before .before .before in
+    let start = at-loop .before .before in
+    let I = at-loop .loop .inv in
+    let h = c .before .before .before .loop-test .taken in
+    let k = start .args .k in
+    (I .0, store-step (I .1) h (c .before .wide .ensures) (ap (λ (x : ℕ). k + 1 - x) (z-word (I .1) h (c .before .wide .ensures))))
 
 same-length : tie.Need-same-length Inv-loop μ-loop
 same-length c = store-size (c .before .loop .inv .1)

@@ -55,18 +55,31 @@ add-t : tie.Need-add-t Inv-loop μ-loop
 add-t c = let I = c .before .before .before .before .before .loop .inv in omega (arith, end-fits I (c .before .before .before .before .loop-test .taken) (start-is (c .before .before)) (c .size-at .ensures), I .few)
 
 place-requires : tie.Need-place-requires Inv-loop μ-loop
-place-requires c κs = now-placeable (c .before .before .before .before .before .before .loop .inv) (c .before .before .before .before .before .loop-test .taken) (start-is (c .before .before .before)) (c .before .size-at .ensures)
+place-requires c κs =
+    let at-loop-test = c .before .before .before .before .before in
+    let at-loop = at-loop-test .before in
+    now-placeable (at-loop .loop .inv) (at-loop-test .loop-test .taken) (start-is (c .before .before .before)) (c .before .size-at .ensures)
 
 add-i : tie.Need-add-i Inv-loop μ-loop
-add-i c = omega (arith, c .before .before .before .before .before .before .before .before .loop-test .taken)
+add-i c =
+    let at-size-at = c .before .before .before .before in
+    let at-loop-test = at-size-at .before .before .before .before in
+    omega (arith, at-loop-test .loop-test .taken)
 
 loop-less : tie.Need-loop-less Inv-loop μ-loop
-loop-less c = omega (arith, c .before .before .before .before .before .before .before .before .loop-test .taken)
+loop-less c =
+    let at-size-at = c .before .before .before .before in
+    let at-loop-test = at-size-at .before .before .before .before in
+    omega (arith, at-loop-test .loop-test .taken)
 
 loop-again : tie.Need-loop-again Inv-loop μ-loop
 loop-again c =
+    let at-size-at = c .before .before .before .before in
+    let at-wide = at-size-at .before .before in
+    let at-loop-test = at-wide .before .before in
+    let at-loop = at-loop-test .before in
     let p = c .before .before .place .ensures in
-    place-step (c .before .before .before .before .before .before .before .before .before .loop .inv) (c .before .before .before .before .before .before .before .before .loop-test .taken) (start-is (c .before .before .before .before .before .before)) (c .before .before .before .before .size-at .ensures) (p .0) (p .1)
+    place-step (at-loop .loop .inv) (at-loop-test .loop-test .taken) (start-is at-wide) (at-size-at .size-at .ensures) (p .0) (p .1)
 
 same-length : tie.Need-same-length Inv-loop μ-loop
 same-length c = size (c .before)

@@ -74,22 +74,36 @@ fresh-requires c κs =
     let N = z-node (I .on) h (c .wide .ensures ∙ read I h) in
     (I .few, I .words, N .low, omega (arith, N .high, I .on .ask .is))
 
+-- where the function starts
+abbrev start-of : tie.After-fresh Inv-loop μ-loop → tie.Start Inv-loop μ-loop
+start-of c =
+    let at-loop = c .before .before .before .before .before in
+    at-loop .before .before .before .before
+
 -- what the test says of the node
-fresh-is : (c : tie.After-fresh Inv-loop μ-loop) → let l = c .before .before .before .before .before .loop in let n = sizeOf (c .before .before .before .before .before .before .before .before .before .args .starts .now) in
+fresh-is : (c : tie.After-fresh Inv-loop μ-loop) → let l = c .before .before .before .before .before .loop in let n = sizeOf (start-of c .args .starts .now) in
     freshAt n (workOf n (l .scratch)) (heldOf n (l .scratch)) (getD (l .scratch) (4 * n + l .i) 0) ≡ c .fresh .result
 fresh-is c =
+    let start = start-of c in
     let l = c .before .before .before .before .before .loop in
-    let n = sizeOf (c .before .before .before .before .before .before .before .before .before .args .starts .now) in
+    let n = sizeOf (start .args .starts .now) in
     sym (ap (freshAt n (workOf n (l .scratch)) (heldOf n (l .scratch))) (c .before .wide .ensures)) ∙ sym (c .fresh .ensures)
 
 grow-requires : tie.Need-grow-requires Inv-loop μ-loop
 grow-requires c κs =
-    let I = c .before .before .before .before .before .before .before .loop .inv in
-    let h = c .before .before .before .before .before .before .loop-test .taken in
-    (c .before .before .before .before .before .before .before .before .before .before .before .pre .0, (I .on .seek, (z-node (I .on) h (read I h), (fresh-is (c .before .before) ∙ c .before .if1 .taken, shut-now (I .on)))))
+    let at-wide = c .before .before .before in
+    let at-loop-test = at-wide .before .before .before in
+    let at-loop = at-loop-test .before in
+    let start = at-loop .before .before .before .before in
+    let I = at-loop .loop .inv in
+    let h = at-loop-test .loop-test .taken in
+    (start .pre .0, (I .on .seek, (z-node (I .on) h (read I h), (fresh-is (c .before .before) ∙ c .before .if1 .taken, shut-now (I .on)))))
 
 add-m : tie.Need-add-m Inv-loop μ-loop
-add-m c = let I = c .before .before .before .before .before .before .before .before .before .before .loop .inv in omega (arith, I .few, I .count)
+add-m c =
+    let at-fresh = c .before .before .before .before .before in
+    let at-loop = at-fresh .before .before .before .before .before in
+    let I = at-loop .loop .inv in omega (arith, I .few, I .count)
 
 add-i : tie.Need-add-i Inv-loop μ-loop
 add-i c = omega arith
@@ -99,12 +113,15 @@ loop-less c = omega arith
 
 loop-again : tie.Need-loop-again Inv-loop μ-loop
 loop-again c =
-    let I = c .before .before .before .before .before .before .loop .inv in
-    let h = c .before .before .before .before .before .loop-test .taken in
-    let X₀ = c .before .before .before .before .before .before .before .before .before .before .args .scratch .now in
+    let at-loop-test = c .before .before .before .before .before in
+    let at-loop = at-loop-test .before in
+    let start = at-loop .before .before .before .before in
+    let I = at-loop .loop .inv in
+    let h = at-loop-test .loop-test .taken in
+    let X₀ = start .args .scratch .now in
     ⊎-elim
     (λ w. rw (w .5, w .6, w .7) (loop-of X₀ (w .2 .last .1 .1 .0) (finding-take (I .on) h (read I h) (fresh-is (c .before) ∙ w .0 .taken) (w .2 .ensures))))
-    (λ w. rw (w .1, w .2, w .3) (loop-of X₀ (c .before .before .before .before .before .before .loop .scratch) (finding-skip (I .on) h (read I h) (fresh-is (c .before) ∙ w .0 .left))))
+    (λ w. rw (w .1, w .2, w .3) (loop-of X₀ (at-loop .loop .scratch) (finding-skip (I .on) h (read I h) (fresh-is (c .before) ∙ w .0 .left))))
     (c .if1 .came)
 
 same-length : tie.Need-same-length Inv-loop μ-loop

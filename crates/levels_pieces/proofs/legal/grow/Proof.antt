@@ -138,38 +138,71 @@ slice-read-wide c = let h = c .before .loop-test .taken in omega (arith, room (c
 wide-requires-2 : tie.Need-wide-requires-2 Inv-loop μ-loop
 wide-requires-2 c κs = search needs
 
+-- where the function starts
+abbrev start-of : tie.At-loop Inv-loop μ-loop → tie.Start Inv-loop μ-loop
+start-of c = c .before .before .before .before .before
+
+-- a place of `node-is`
+abbrev node-is-start : tie.After-wide2 Inv-loop μ-loop → tie.Start Inv-loop μ-loop
+node-is-start c =
+    let at-loop = c .before .before .before in
+    start-of at-loop
+
 -- the node that is read, in the words
-node-is : (c : tie.After-wide2 Inv-loop μ-loop) → let l = c .before .before .before .loop in let n = sizeOf (c .before .before .before .before .before .before .before .before .args .starts .now) in c .wide2 .result ≡ getD (workOf n (l .scratch)) (n + l .h) 0
-node-is c = c .wide2 .ensures ∙ spread-read (c .before .before .before .before .before .before .before .before .args .scratch .now) (c .before .before .before .loop .scratch) (on (c .before .before .before)) (c .before .before .loop-test .taken)
+node-is : (c : tie.After-wide2 Inv-loop μ-loop) → let l = c .before .before .before .loop in let n = sizeOf (node-is-start c .args .starts .now) in c .wide2 .result ≡ getD (workOf n (l .scratch)) (n + l .h) 0
+node-is c =
+    let start = node-is-start c in
+    c .wide2 .ensures ∙ spread-read (start .args .scratch .now) (c .before .before .before .loop .scratch) (on (c .before .before .before)) (c .before .before .loop-test .taken)
 
 row-requires : tie.Need-row-requires Inv-loop μ-loop
 row-requires c κs =
-    let s = c .before .before .before .before .before .before .before .before in
-    (c .before .before .before .loop .inv .1, subst (Node (graphOf (s .args .starts .now) (s .args .neighbours .now))) (sym (node-is c)) (next-node (on (c .before .before .before)) (c .before .before .loop-test .taken)))
+    let start = node-is-start c in
+    (c .before .before .before .loop .inv .1, subst (Node (graphOf (start .args .starts .now) (start .args .neighbours .now))) (sym (node-is c)) (next-node (on (c .before .before .before)) (c .before .before .loop-test .taken)))
+
+-- a place of `row-is`
+abbrev row-is-start : tie.After-row Inv-loop μ-loop → tie.Start Inv-loop μ-loop
+row-is-start c =
+    let at-wide2 = c .before in
+    node-is-start at-wide2
 
 -- what `row` returns is the row of that node
-row-is : (c : tie.After-row Inv-loop μ-loop) → let s = c .before .before .before .before .before .before .before .before .before in let l = c .before .before .before .before .loop in let n = sizeOf (s .args .starts .now) in
+row-is : (c : tie.After-row Inv-loop μ-loop) → let s = (row-is-start c) in let l = c .before .before .before .before .loop in let n = sizeOf (s .args .starts .now) in
     c .row .result .now ≡ rowOf (s .args .starts .now) (s .args .neighbours .now) (getD (workOf n (l .scratch)) (n + l .h) 0)
-row-is c = let s = c .before .before .before .before .before .before .before .before .before in c .row .ensures ∙ ap (rowOf (s .args .starts .now) (s .args .neighbours .now)) (node-is (c .before))
+row-is c =
+    let start = row-is-start c in
+    c .row .ensures ∙ ap (rowOf (start .args .starts .now) (start .args .neighbours .now)) (node-is (c .before))
 
 visit-requires : tie.Need-visit-requires Inv-loop μ-loop
 visit-requires c κs =
+    let at-row = c .before in
+    let start = row-is-start at-row in
     let I = on (c .before .before .before .before .before) in
-    let n = sizeOf (c .before .before .before .before .before .before .before .before .before .before .args .starts .now) in
-    (I .seek, subst (Nodes n) (sym (row-is (c .before))) (row-nodes (I .ask .graph) (I .ask .is) (getD (workOf n (c .before .before .before .before .before .loop .scratch)) (n + c .before .before .before .before .before .loop .h) 0)))
+    let n = sizeOf (start .args .starts .now) in
+    (I .seek, subst (Nodes n) (sym (row-is at-row)) (row-nodes (I .ask .graph) (I .ask .is) (getD (workOf n (c .before .before .before .before .before .loop .scratch)) (n + c .before .before .before .before .before .loop .h) 0)))
 
 add-h : tie.Need-add-h Inv-loop μ-loop
-add-h c = omega (arith, t-most (on (c .before .before .before .before .before .before .before .before)), c .before .before .before .before .before .before .before .loop-test .taken, c .before .before .before .before .before .before .before .before .loop .inv .3)
+add-h c =
+    let at-wide2 = c .before .before .before .before .before in
+    let at-loop-test = at-wide2 .before .before in
+    let at-loop = at-loop-test .before in
+    omega (arith, t-most (on at-loop), at-loop-test .loop-test .taken, at-loop .loop .inv .3)
 
 loop-less : tie.Need-loop-less Inv-loop μ-loop
-loop-less c = omega (arith, t-most (on (c .before .before .before .before .before .before .before .before)), c .before .before .before .before .before .before .before .loop-test .taken)
+loop-less c =
+    let at-wide2 = c .before .before .before .before .before in
+    let at-loop-test = at-wide2 .before .before in
+    let at-loop = at-loop-test .before in
+    omega (arith, t-most (on at-loop), at-loop-test .loop-test .taken)
 
 loop-again : tie.Need-loop-again Inv-loop μ-loop
 loop-again c =
-    let I = c .before .before .before .before .before .before .before .before .loop .inv in
-    let h = c .before .before .before .before .before .before .before .loop-test .taken in
+    let at-wide2 = c .before .before .before .before .before in
+    let at-loop-test = at-wide2 .before .before in
+    let at-loop = at-loop-test .before in
+    let I = at-loop .loop .inv in
+    let h = at-loop-test .loop-test .taken in
     let P = rw (row-is (c .before .before .before .before)) at (c .before .before .visit .ensures) in
-    (I .0, I .1, λ A B S. spread-step (I .2 A B S) h P, I .3, t-most (spread-step (on (c .before .before .before .before .before .before .before .before)) h P))
+    (I .0, I .1, λ A B S. spread-step (I .2 A B S) h P, I .3, t-most (spread-step (on at-loop) h P))
 
 sub-scratch : tie.Need-sub-scratch Inv-loop μ-loop
 sub-scratch c = omega (arith, on (c .before) .end)
@@ -185,15 +218,19 @@ slice-write-scratch-3 c = let F = first (c .before .before) in omega (arith, roo
 
 same-length : tie.Need-same-length Inv-loop μ-loop
 same-length c =
-    let l = c .before .loop in
-    let s = c .before .before .before .before .before .before .args in
-    length-set (l .scratch) (3 * (length (s .starts .now) - 1) + c .before .before .wide .result - 1) (l .t - s .s) ∙ spread-same (s .scratch .now) (l .scratch) (on (c .before))
+    let at-loop = c .before in
+    let start = start-of at-loop in
+    let l = at-loop .loop in
+    let s = start .args in
+    length-set (l .scratch) (3 * (length (s .starts .now) - 1) + c .before .before .wide .result - 1) (l .t - s .s) ∙ spread-same (s .scratch .now) (l .scratch) (on at-loop)
 
 returns : tie.Need-returns Inv-loop μ-loop
 returns c =
-    let l = c .before .loop in
-    let s = c .before .before .before .before .before .before .args in
-    spread-done-in (s .scratch .now) (l .scratch) (on (c .before)) (c .loop-test .left)
+    let at-loop = c .before in
+    let start = start-of at-loop in
+    let l = at-loop .loop in
+    let s = start .args in
+    spread-done-in (s .scratch .now) (l .scratch) (on at-loop) (c .loop-test .left)
     (set (l .scratch) (3 * sizeOf (s .starts .now) + c .before .before .wide .result - 1) (l .t - s .s)) (ap (λ (x : ℕ). set (l .scratch) x (l .t - s .s)) (l .inv .0))
 
 pub grow-spec : {M : Type 1} → statement M

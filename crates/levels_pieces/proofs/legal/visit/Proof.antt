@@ -28,21 +28,39 @@ record Read (n : ℕ) (X : List ℕ) (t v : ℕ) : Type 0 where
   high : v ≤ n
   room : freshAt n (workOf n X) (heldOf n X) v ≡ true → t + 1 ≤ n
 
-read : (c : tie.After-wide Inv-loop μ-loop) → let l = c .before .before .before in let s = c .before .before .before .before .before .before in Read (s .args .n) (l .loop .scratch) (l .loop .t) (c .wide .result)
+-- where the function starts
+abbrev start-of : tie.After-wide Inv-loop μ-loop → tie.Start Inv-loop μ-loop
+start-of c =
+    let at-loop = c .before .before .before in
+    at-loop .before .before .before
+
+read : (c : tie.After-wide Inv-loop μ-loop) → let l = c .before .before .before in let s = (start-of c) in Read (s .args .n) (l .loop .scratch) (l .loop .t) (c .wide .result)
 read c =
-    let l = c .before .before .before in
-    let I = l .loop .inv in
+    let start = start-of c in
+    let I = c .before .before .before .loop .inv in
     let h = c .before .before .loop-test .taken in
     let e = c .wide .ensures in
     record {
       few = I .ask .few;
-      words = visit-room (c .before .before .before .before .before .before .args .scratch .now) (l .loop .scratch) I;
+      words = visit-room (start .args .scratch .now) (c .before .before .before .loop .scratch) I;
       low = v-low I h e;
       high = v-high I h e;
       room = t-in I h e;
     }
 
-room : (c : tie.Then1 Inv-loop μ-loop) → c .before .before .before .before .before .before .loop .t + 1 ≤ c .before .before .before .before .before .before .before .before .before .args .n
+-- a place of `room`
+abbrev room-loop : tie.Then1 Inv-loop μ-loop → tie.At-loop Inv-loop μ-loop
+room-loop c =
+    let at-loop-test = c .before .before .before .before .before in
+    at-loop-test .before
+
+-- a place of `room`
+abbrev room-start : tie.Then1 Inv-loop μ-loop → tie.Start Inv-loop μ-loop
+room-start c =
+    let at-loop = room-loop c in
+    at-loop .before .before .before
+
+room : (c : tie.Then1 Inv-loop μ-loop) → (room-loop c) .loop .t + 1 ≤ (room-start c) .args .n
 room c = read (c .before .before .before) .room (sym (c .before .fresh .ensures) ∙ c .if1 .taken)
 
 loop-holds : tie.Need-loop-holds Inv-loop μ-loop
@@ -79,7 +97,10 @@ mul-scratch-3 : tie.Need-mul-scratch-3 Inv-loop μ-loop
 mul-scratch-3 c = search needs
 
 shared-slice-read-scratch : tie.Need-shared-slice-read-scratch Inv-loop μ-loop
-shared-slice-read-scratch c = c .before .before .before .before .before .before .loop-test .taken
+shared-slice-read-scratch c =
+    let at-wide = c .before .before .before .before in
+    let at-loop-test = at-wide .before .before in
+    at-loop-test .loop-test .taken
 
 add-scratch-2 : tie.Need-add-scratch-2 Inv-loop μ-loop
 add-scratch-2 c = let R = read (c .before .before .before .before) in let q = room (c .before) in omega arith
@@ -89,9 +110,12 @@ mul-scratch-4 c = let R = read (c .before .before .before .before) in let q = ro
 
 slice-write-scratch-2 : tie.Need-slice-write-scratch-2 Inv-loop μ-loop
 slice-write-scratch-2 c =
-    let R = read (c .before .before .before .before) in
+    let at-wide = c .before .before .before .before in
+    let at-loop = at-wide .before .before .before in
+    let start = at-loop .before .before .before in
+    let R = read at-wide in
     let q = room (c .before) in
-    omega (arith, length-set (c .before .before .before .before .before .before .before .loop .scratch) (3 * c .before .before .before .before .before .before .before .before .before .before .args .n + c .before .before .before .before .wide .result - 1) 1)
+    omega (arith, length-set (at-loop .loop .scratch) (3 * start .args .n + at-wide .wide .result - 1) 1)
 
 add-t : tie.Need-add-t Inv-loop μ-loop
 add-t c = let R = read (c .before .before .before .before) in let q = room (c .before) in omega arith
@@ -104,10 +128,13 @@ loop-less c = omega arith
 
 loop-again : tie.Need-loop-again Inv-loop μ-loop
 loop-again c =
-    let l = c .before .before .before .before .before .before .loop in
-    let s = c .before .before .before .before .before .before .before .before .before .args in
+    let at-loop-test = c .before .before .before .before .before in
+    let at-loop = at-loop-test .before in
+    let start = at-loop .before .before .before in
+    let l = at-loop .loop in
+    let s = start .args in
     let I = l .inv in
-    let h = c .before .before .before .before .before .loop-test .taken in
+    let h = at-loop-test .loop-test .taken in
     let e = c .before .before .before .wide .ensures in
     let v = c .before .before .before .wide .result in
     let marked : List ℕ = set (l .scratch) (3 * s .n + v - 1) 1 in

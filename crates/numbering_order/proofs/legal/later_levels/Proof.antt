@@ -24,9 +24,11 @@ add-i c = omega (arith, c .loop-test .taken)
 
 level-requires : tie.Need-level-requires Inv-loop μ-loop
 level-requires c κs =
-    let A = c .before .before .before .before .before .before .pre in
+    let at-loop = c .before .before in
+    let start = at-loop .before .before .before .before in
+    let A = start .pre in
     let Q = A .1 .1 .1 .1 in
-    let I = c .before .before .loop .inv (Q .0) (Q .1) in
+    let I = at-loop .loop .inv (Q .0) (Q .1) in
     let K = I .walk in
     (K .ok, (K .sized, (walk-open K, (omega (arith, c .before .loop-test .taken, A .1 .1 .1 .0 .1), (Q .0, (advance-standing I, advance-levelled I))))))
 

@@ -10,11 +10,16 @@ wide-requires c κs = search needs
 is-free-requires : tie.Need-is-free-requires
 is-free-requires c κs = search needs
 
+-- where the function starts
+abbrev start-of : tie.Then1 → tie.Start
+start-of c = c .before .before .before .before .before
+
 push-requires : tie.Need-push-requires
 push-requires c κs =
-    let s = c .before .before .before .before .before .before in
-    let P = s .pre in
-    (P .0, (P .1 .1, free-unseen (P .0) (s .args .at) (s .args .q) (s .args .i) (P .1 .1) (c .before .before .before .wide .ensures) (c .before .before .is-free .ensures) (c .before .if1 .taken)))
+    let at-if1 = c .before in
+    let start = start-of at-if1 in
+    let P = start .pre in
+    (P .0, (P .1 .1, free-unseen (P .0) (start .args .at) (start .args .q) (start .args .i) (P .1 .1) (c .before .before .before .wide .ensures) (c .before .before .is-free .ensures) (at-if1 .if1 .taken)))
 
 add-result : tie.Need-add-result
 add-result c = search needs
@@ -24,10 +29,12 @@ same-length c = search needs
 
 returns : tie.Need-returns
 returns c =
-    let s = c .before .before .before .before .before .before .before .before .before in
-    let P = s .pre in
-    let f = free-read (P .0) (s .args .at) (s .args .q) (s .args .i) (P .1 .1) (c .before .before .before .before .before .before .wide .ensures) (c .before .before .before .before .before .is-free .ensures) (c .before .before .before .before .if1 .taken) in
-    offer-new (P .0) (s .args .at) (s .args .q) (s .args .i) f (c .before .before .push .ensures)
+    let at-is-free = c .before .before .before .before .before in
+    let at-wide = at-is-free .before in
+    let start = at-wide .before .before .before in
+    let P = start .pre in
+    let f = free-read (P .0) (start .args .at) (start .args .q) (start .args .i) (P .1 .1) (at-wide .wide .ensures) (at-is-free .is-free .ensures) (c .before .before .before .before .if1 .taken) in
+    offer-new (P .0) (start .args .at) (start .args .q) (start .args .i) f (c .before .before .push .ensures)
 
 same-length-2 : tie.Need-same-length-2
 same-length-2 c = search needs

@@ -31,8 +31,10 @@ same-length c = search needs
 
 returns : tie.Need-returns
 returns c =
-    let P = c .before .before .before .before .before .before .pre in
-    λ N A. tail-done (P .1 .1 .0) (c .before .before .before .before .before .before .args .t) (P .1 .1 .1) (graphOf (c .before .before .before .before .before .before .args .starts .now) N) (c .before .before .by-e .last .1 .0) (c .before .before .by-e .ensures N A)
+    let at-by-e = c .before .before in
+    let start = at-by-e .before .before .before .before in
+    let P = start .pre in
+    λ N A. tail-done (P .1 .1 .0) (start .args .t) (P .1 .1 .1) (graphOf (start .args .starts .now) N) (at-by-e .by-e .last .1 .0) (at-by-e .by-e .ensures N A)
 
 pub sort-tail-spec : {M : Type 1} → statement M
 sort-tail-spec =

@@ -31,13 +31,22 @@ extend-requires c κs =
     (K .ok, (K .sized, (walk-open K, (walk-far K, walk-range K (c .before .before .before .loop .h) (c .before .before .loop-test .taken)))))
 
 add-h : tie.Need-add-h Inv-loop μ-loop
-add-h c = omega (arith, c .before .before .before .before .before .loop-test .taken, at-most (c .before .before .before .before .before .before .loop .inv .walk .now))
+add-h c =
+    let at-loop-test = c .before .before .before .before .before in
+    let at-loop = at-loop-test .before in
+    omega (arith, at-loop-test .loop-test .taken, at-most (at-loop .loop .inv .walk .now))
 
 loop-less : tie.Need-loop-less Inv-loop μ-loop
-loop-less c = omega (arith, c .before .before .before .before .before .loop-test .taken, at-most (c .before .before .before .before .before .before .loop .inv .walk .now))
+loop-less c =
+    let at-loop-test = c .before .before .before .before .before in
+    let at-loop = at-loop-test .before in
+    omega (arith, at-loop-test .loop-test .taken, at-most (at-loop .loop .inv .walk .now))
 
 loop-again : tie.Need-loop-again Inv-loop μ-loop
-loop-again c = spread-step (c .before .before .before .before .before .before .loop .inv) (c .before .before .before .before .before .loop-test .taken) (c .before .before .extend .kept .1 .1 .0) (c .before .before .extend .ensures)
+loop-again c =
+    let at-loop-test = c .before .before .before .before .before in
+    let at-loop = at-loop-test .before in
+    spread-step (at-loop .loop .inv) (at-loop-test .loop-test .taken) (c .before .before .extend .kept .1 .1 .0) (c .before .before .extend .ensures)
 
 same-length : tie.Need-same-length Inv-loop μ-loop
 same-length c = c .before .loop .inv .walk .size
