@@ -24,7 +24,7 @@ use levels_ends::legal::ends_from;
 use levels_ends::legal::first_in_e;
 use levels_search::legal::wipe;
 use levels_sizes::legal::width_of;
-use numbering_order::rooted::from_root;
+use numbering_order::legal::rooted::from_root;
 use numbering_part::legal::give_levels;
 use numbering_part::legal::give_numbers;
 use numbering_part::shape::PartFigures;

@@ -16,6 +16,9 @@ ghost use Rattle.laws.specs.Scratch.{membersArea};
 ghost use Rattle.levels_sort.specs.Nodes.{Nodes};
 ghost use Rattle.numbering_stacks.specs.Part.{membersIn, Behind};
 ghost use Rattle.numbering_order.specs.Model.{stand, orderIn, Open, Became, Far, free, isFree, foundBy, addBy, Spreads, tailSorted, levelsIn, Starting, Fills, Follows, Opens, RestNumbered, LevelNumbered, LevelsNumbered, forwardIn, ordered};
+
+pub mod rooted;
+
 use graph_words::wide;
 use numbering_stacks::legal::rank;
 use numbering_stacks::legal::unmarked;
@@ -34,7 +37,7 @@ fn is_free(work: &[u16], at: usize, q: usize, i: u16) -> bool
 }
 
 // The node z gets the next number.
-pub(crate) fn push(work: &mut [u16], n: usize, t: usize, z: u16)
+fn push(work: &mut [u16], n: usize, t: usize, z: u16)
     requires { ⌜ Open n t (now work) ⌝ }
     requires { ⌜ (1 ≤ z) × (z ≤ n) ⌝ }
     requires { ⌜ memb z (orderIn n t (now work)) ≡ false ⌝ }
@@ -113,7 +116,7 @@ fn extend(
 }
 
 // "for the nodes of the level before, by number": those that stand in the order from a up to b, not including b, where it ends.
-pub(crate) fn from_before(
+fn from_before(
     starts: &[u16],
     neighbours: &[u16],
     work: &mut [u16],
@@ -247,7 +250,7 @@ fn level(
 }
 
 // Sets the marks of the t nodes of the order to 0 again.
-pub(crate) fn wipe(work: &mut [u16], n: usize, t: usize)
+fn wipe(work: &mut [u16], n: usize, t: usize)
     requires { ⌜ Open n t (now work) ⌝ }
     ensures { λ _. ⌜ left work ≡ replicate n 0 ++ drop n (was work) ⌝ }
 {

@@ -1,4 +1,4 @@
--- `numbering_order::rooted::from_root` meets its contract. Assumes nothing.
+-- `numbering_order::legal::rooted::from_root` meets its contract. Assumes nothing.
 use mathlib.Core.Path.{refl}
 use native.Mathlib.Omega.{arith}
 use denote.Ref.{now}
@@ -6,8 +6,8 @@ use Rattle.laws.proofs.Refused.{passed, starts-of}
 use Rattle.numbering_order.proofs.Walk.{walk-open, walk-far}
 use Rattle.numbering_order.proofs.Rooting.{root-open, root-range, root-walk, root-levelled, root-all, root-done}
 use borrow.Author.Needs.{needs}
-use Rattle.numbering_order.proofs.rooted.from_root.Statement.{statement}
-use Rattle.numbering_order.proofs.rooted.from_root.Tie as tie
+use Rattle.numbering_order.proofs.legal.rooted.from_root.Statement.{statement}
+use Rattle.numbering_order.proofs.legal.rooted.from_root.Tie as tie
 
 -- v is numbered, and before that the start; all levels are numbered, and before that v
 abbrev start : tie.After-push → tie.Start

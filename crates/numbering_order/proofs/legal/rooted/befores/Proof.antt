@@ -1,10 +1,10 @@
--- `numbering_order::rooted::befores` meets its contract. The invariant: the levels still to come number as from level 2 on. Assumes nothing.
+-- `numbering_order::legal::rooted::befores` meets its contract. The invariant: the levels still to come number as from level 2 on. Assumes nothing.
 use Prim.Native.Nat.{_-_}
 use native.Mathlib.Omega.{arith}
 use Rattle.numbering_order.proofs.Walk.{walk-open, walk-far}
 use Rattle.numbering_order.proofs.Rooting.{Rooting, rooting-begin, rooting-inside, rooting-step, rooting-done}
-use Rattle.numbering_order.proofs.rooted.befores.Statement.{statement}
-use Rattle.numbering_order.proofs.rooted.befores.Tie as tie
+use Rattle.numbering_order.proofs.legal.rooted.befores.Statement.{statement}
+use Rattle.numbering_order.proofs.legal.rooted.befores.Tie as tie
 
 abbrev Inv-loop : tie.InvT-loop
 Inv-loop starts neighbours work₀ n at k a₀ b₀ i₀ work a b i = Rooting starts neighbours n at work₀ k work a b i

@@ -6,9 +6,9 @@ ghost use Rattle.spec.specs.Graph.{graphRefusal};
 ghost use Rattle.laws.specs.Handed.{graphNow, graphWas, sizeNow, sizeWas};
 ghost use Rattle.numbering_order.specs.Model.{orderIn, Open, Became, Far, Levelled, ordered};
 ghost use Rattle.numbering_order.specs.Root.{levelsFrom, beforesIn, rootOrder, Rooted};
-use crate::legal::from_before;
-use crate::legal::push;
-use crate::legal::wipe;
+use super::from_before;
+use super::push;
+use super::wipe;
 
 // The levels 2 to k, one after the other, where the order has level 1, which is one node.
 fn befores(
