@@ -47,6 +47,11 @@ pub no-call-bytes : Fills (path .starts) (path .neighbours) (1 ∷ 2 ∷ 3 ∷ 4
 unfolding computes
 no-call-bytes C = let z : _≡_ {A = ℕ} 11 15 = ap (λ (l : List ℕ). getD l 0 0) (C .bytes (replicate 4 0) (0 ∷ []) _ refl) in absurd (omega (arith, z))
 
+-- and words that are no numbering, whatever the call would make of them
+pub no-numbering : Fills (path .starts) (path .neighbours) (1 ∷ 1 ∷ 3 ∷ 4 ∷ []) → ⊥
+unfolding computes
+no-numbering C = false≢true (C .numbering)
+
 -- ---- weaker premises
 
 -- any numbering of a connected graph
