@@ -11,12 +11,14 @@ use lib.Dec.{eqb}
 use borrow.Author.Tests.{ne-eqb}
 use Rattle.basis.specs.Lists.{filterb, countb, memb, upFrom}
 use Rattle.basis.specs.Perm.{times, Once}
+use Rattle.basis.specs.Stored.{stored}
 use Rattle.basis.proofs.Count.{count-cong, count-map, count-filter, count-length, length-filter}
 use Rattle.basis.proofs.Index.{getD-map-upFrom, memb-getD}
 use Rattle.basis.proofs.Lists.{filter-in, filter-make, map-cong, map-map, memb-map, upFrom-make, length-upFrom}
 use Rattle.basis.proofs.Logic.{by-test, eqb-sym}
 use Rattle.basis.proofs.Rise.{rise-once}
 use Rattle.basis.proofs.Next.{sets-before, sets-behind, sets-at}
+use Rattle.basis.proofs.Stored.{length-stored, stored-at, stored-other}
 use Rattle.spec.specs.Combined.{LevelPairs, mirrored, levelPairs, settled, settledLevels, countAt}
 use Rattle.spec.specs.Ends.{Ends, depthAt}
 use Rattle.spec.specs.Graph.{Graph, nodes, ofNode}
@@ -31,11 +33,11 @@ use Rattle.levels_laws.specs.Model.{nodeAt, queued, numberAt, countOf, s
 use Rattle.levels_laws.proofs.Counting.{slot-low, slot-high, slots-inside, tally-front, tally-behind}
 use Rattle.levels_laws.proofs.Tally.{getD-tally, length-tally}
 use Rattle.levels_laws.specs.Given.{Entry}
-use Rattle.levels_laws.specs.Members.{Members, Mirrorable, settledAt, stored, mirroredAt}
+use Rattle.levels_laws.specs.Members.{Members, Mirrorable, settledAt, mirroredAt}
 use Rattle.levels_laws.specs.Seek.{at}
 use Rattle.levels_laws.specs.Starts.{membersOf}
 use Rattle.levels_laws.proofs.Laying.{named-by}
-use Rattle.levels_laws.proofs.Storing.{length-stored, stored-at, stored-other, members-on}
+use Rattle.levels_laws.proofs.Storing.{members-on}
 use Rattle.levels_laws.proofs.Stores.{written-at}
 
 count-settled : (g : Graph) (pr : LevelPairs) (i : ℕ) → countAt (settledLevels g pr) i ≡ countb (λ y. eqb i (cond (settled pr y) (ofNode (pr .firsts) y) 0)) (nodes g)

@@ -8,13 +8,15 @@ use native.Mathlib.Omega.{arith}
 use lib.ListN.{length, getD, set, drop, replicate, length-replicate, getD-replicate, length-append, length-drop, replicate-append-replicate}
 use lib.Seq.{sets, length-sets, ext-getD, getD-drop}
 use Rattle.basis.specs.Lists.{memb}
+use Rattle.basis.specs.Stored.{stored, nought}
 use Rattle.basis.proofs.Logic.{by-test, lt-or-le}
 use Rattle.basis.proofs.Next.{sets-append, sets-before, sets-behind, sets-at}
+use Rattle.basis.proofs.Stored.{length-stored, stored-at, stored-other}
 use Rattle.spec.specs.Lent.{zeroed}
 use Rattle.laws.proofs.Lent.{zeroed-at, zeroed-is, zeroed-behind}
-use Rattle.levels_laws.specs.Members.{Members, Clearable, stored, nought}
+use Rattle.levels_laws.specs.Members.{Members, Clearable}
 use Rattle.levels_laws.specs.Starts.{membersOf}
-use Rattle.levels_laws.proofs.Storing.{length-stored, stored-at, stored-other, member-range, members-same, members-on}
+use Rattle.levels_laws.proofs.Storing.{member-range, members-same, members-on}
 
 -- ---- a run of words set to 0
 

@@ -8,8 +8,10 @@ use lib.ListN.{length, getD, length-map}
 use lib.Seq.{sets}
 use lib.Dec.{ltb}
 use Rattle.basis.specs.Lists.{filterb, upFrom}
+use Rattle.basis.specs.Stored.{stored}
 use Rattle.basis.proofs.Count.{length-filter, count-length}
 use Rattle.basis.proofs.Lists.{length-upFrom}
+use Rattle.basis.proofs.Stored.{length-stored}
 use Rattle.spec.specs.Ends.{Ends}
 use Rattle.spec.specs.Graph.{Graph}
 use Rattle.levels_laws.specs.Areas.{workOf, heldOf}
@@ -17,12 +19,11 @@ use Rattle.levels_laws.specs.Model.{queued, slots, numberAt, written, Co
 use Rattle.levels_laws.specs.Tally.{tally}
 use Rattle.levels_laws.proofs.Areas.{front-read, front-sets, view-room}
 use Rattle.levels_laws.specs.Given.{Entry, Levelled}
-use Rattle.levels_laws.specs.Members.{Members, Mirrorable, settledAt, stored, mirroredAt}
+use Rattle.levels_laws.specs.Members.{Members, Mirrorable, settledAt, mirroredAt}
 use Rattle.levels_laws.specs.Placed.{wordsAfter, levelsAfter, PlaceableAll}
 use Rattle.levels_laws.specs.Seek.{looseAt}
 use Rattle.levels_laws.specs.Starts.{startsOf, membersOf, Findable, Found}
 use Rattle.levels_laws.proofs.Steps.{mirror-ok, gather-ok, settle-ok, find-ok, place-ok, level-done}
-use Rattle.levels_laws.proofs.Storing.{length-stored}
 use Rattle.levels_laws.proofs.Views.{members-in, members-stored, settled-seen, mirrorable-in}
 
 module _ {g : Graph} {z : ℕ} {e : Ends} {n from to : ℕ} (X : List ℕ) (A : Entry g z e n from to (workOf n X) (heldOf n X)) {k : ℕ} (p : k ≡ e .k) where

@@ -10,6 +10,7 @@ use lib.ListN.{length, getD, replicate}
 use lib.Seq.{sets, ext-getD}
 use lib.Dec.{eqb, ltb}
 use Rattle.basis.specs.Lists.{filterb, upFrom}
+use Rattle.basis.specs.Stored.{stored, nought}
 use Rattle.basis.proofs.Count.{count-length}
 use Rattle.basis.proofs.Index.{greatest-le}
 use Rattle.basis.proofs.Logic.{lt-or-le}
@@ -22,7 +23,7 @@ use Rattle.laws.proofs.Lent.{zeroed-at}
 use Rattle.levels_laws.specs.Tally.{tally}
 use Rattle.levels_laws.specs.Model.{queued, slots, numberAt, written, Countable}
 use Rattle.levels_laws.specs.Given.{Entry, Levelled}
-use Rattle.levels_laws.specs.Members.{Members, Mirrorable, Clearable, settledAt, stored, mirroredAt, nought}
+use Rattle.levels_laws.specs.Members.{Members, Mirrorable, Clearable, settledAt, mirroredAt}
 use Rattle.levels_laws.specs.Placed.{wordsAfter, levelsAfter, PlaceableAll}
 use Rattle.levels_laws.specs.Seek.{looseAt}
 use Rattle.levels_laws.specs.Starts.{startsOf, membersOf, Findable, Found}

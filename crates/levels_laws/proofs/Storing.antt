@@ -1,68 +1,26 @@
 -- The loops over the members: a word stored for each, and the settled ones gathered in the queue. Assumes nothing.
-use mathlib.Core.Path.{_≡_, refl, sym, ap, _∙_, subst}
-use mathlib.Core.Logic.{_≢_, _⊎_, inl, inr, ⊎-elim}
-use mathlib.Core.Bool.{Bool, true, false, cond}
+use mathlib.Core.Path.{_≡_, sym, ap, _∙_, subst}
+use mathlib.Core.Logic.{_⊎_, inl, inr, ⊎-elim}
+use mathlib.Core.Bool.{Bool, true, false}
 use mathlib.Core.List.{List, [], _∷_, _++_, append-nil}
 use Prim.Native.Nat.{ℕ, _+_, _-_, _*_, _≤_, _<_}
 use native.Mathlib.Nat.{le-refl}
 use native.Mathlib.Omega.{arith}
-use lib.ListN.{length, getD, set, length-set, length-append, length-map}
-use lib.Seq.{sets, length-sets, getD-set-same, getD-set-other}
+use lib.ListN.{length, getD, set, length-append, length-map}
+use lib.Seq.{sets, length-sets}
 use lib.Dec.{eqb}
-use borrow.Author.Tests.{eqb-true, eqb-false}
 use Rattle.basis.specs.Lists.{filterb, consIf, memb, upFrom}
 use Rattle.basis.specs.Perm.{times, Once}
+use Rattle.basis.specs.Stored.{stored}
 use Rattle.basis.proofs.Count.{bit-one, length-filter, count-length, count-append, none-times}
-use Rattle.basis.proofs.Lists.{map-cong, memb-here, map-memb, memb-map, upFrom-in, upFrom-make, length-upFrom, filter-append}
-use Rattle.basis.proofs.Logic.{by-test, or-right, eqb-self}
+use Rattle.basis.proofs.Lists.{map-cong, map-memb, memb-map, upFrom-in, upFrom-make, length-upFrom, filter-append}
+use Rattle.basis.proofs.Logic.{eqb-self}
 use Rattle.basis.proofs.Next.{sets-append, sets-before, sets-behind}
+use Rattle.basis.proofs.Stored.{length-stored, stored-append, stored-at, stored-other}
 use Rattle.levels_laws.proofs.Counting.{from-cons, from-none}
 use Rattle.levels_laws.specs.Starts.{membersOf}
-use Rattle.levels_laws.specs.Members.{Members, settledAt, stored}
+use Rattle.levels_laws.specs.Members.{Members, settledAt}
 use Rattle.levels_laws.proofs.Taking.{map-split}
-
--- ---- a word for each of some nodes
-
-pub length-stored : (base : ℕ) (f : ℕ → ℕ) (W zs : List ℕ) → length (stored base f W zs) ≡ length W
-unfolding stored
-length-stored base f W [] = refl
-length-stored base f W (z ∷ zs) = length-stored base f (set W (base + z - 1) (f z)) zs ∙ length-set W (base + z - 1) (f z)
-
-stored-append : (base : ℕ) (f : ℕ → ℕ) (W xs ys : List ℕ) → stored base f W (xs ++ ys) ≡ stored base f (stored base f W xs) ys
-unfolding stored
-stored-append base f W [] ys = refl
-stored-append base f W (x ∷ xs) ys = stored-append base f (set W (base + x - 1) (f x)) xs ys
-
--- the nodes have their word, and every other node what it had
-pub stored-at : (base : ℕ) (f : ℕ → ℕ) (W zs : List ℕ) → ((z : ℕ) → memb z zs ≡ true → 1 ≤ z) → (q : ℕ) → 1 ≤ q → base + q ≤ length W
-    → getD (stored base f W zs) (base + q - 1) 0 ≡ cond (memb q zs) (f q) (getD W (base + q - 1) 0)
-unfolding stored
-stored-at base f W [] low q l h = refl
-stored-at base f W (z ∷ zs) low q l h =
-    stored-at base f (set W (base + z - 1) (f z)) zs (λ y m. low y (or-right (eqb y z) m)) q l (rw (length-set W (base + z - 1) (f z)) h)
-    ∙ by-test (eqb q z)
-    (λ e.
-    let q′ : q ≡ z = eqb-true q z e in
-    let s : getD (set W (base + z - 1) (f z)) (base + q - 1) 0 ≡ f q =
-    ap (λ (x : ℕ). getD (set W (base + z - 1) (f z)) (base + x - 1) 0) q′ ∙ getD-set-same W (base + z - 1) (f z) 0 (omega (arith, low z (memb-here z zs))) ∙ ap f (sym q′) in
-    rw (e, s) (both (memb q zs) (f q)))
-    (λ e.
-    let ne = eqb-false q z e in
-    let d : base + q - 1 ≢ base + z - 1 = λ x. ne (omega (arith, low z (memb-here z zs))) in
-    rw (e, getD-set-other W (base + z - 1) (base + q - 1) (f z) 0 d))
-  where
-    both : (b : Bool) (x : ℕ) → cond b x x ≡ x
-    both true x = refl
-    both false x = refl
-
--- every other word is as it was
-pub stored-other : (base n : ℕ) (f : ℕ → ℕ) (W zs : List ℕ) → ((z : ℕ) → memb z zs ≡ true → (1 ≤ z) × (z ≤ n)) → (i : ℕ)
-    → ((z : ℕ) → 1 ≤ z → z ≤ n → i ≡ base + z - 1 → ⊥) → getD (stored base f W zs) i 0 ≡ getD W i 0
-unfolding stored
-stored-other base n f W [] r i h = refl
-stored-other base n f W (z ∷ zs) r i h =
-    stored-other base n f (set W (base + z - 1) (f z)) zs (λ y m. r y (or-right (eqb y z) m)) i h
-    ∙ getD-set-other W (base + z - 1) i (f z) 0 (λ e. h z (r z (memb-here z zs) .0) (r z (memb-here z zs) .1) e)
 
 -- ---- the members
 

@@ -5,13 +5,14 @@ use Prim.Native.Nat.{ℕ, _+_, _-_, _*_, _≤_}
 use native.Mathlib.Omega.{arith}
 use lib.ListN.{length, replicate, length-replicate}
 use lib.Seq.{sets, length-sets}
+use Rattle.basis.specs.Stored.{stored, nought}
+use Rattle.basis.proofs.Stored.{length-stored}
 use Rattle.spec.specs.Lent.{zeroed}
 use Rattle.levels_laws.specs.Areas.{workOf, heldOf}
 use Rattle.levels_laws.proofs.Areas.{front-sets, count-sets}
-use Rattle.levels_laws.specs.Members.{Members, Clearable, stored, nought}
+use Rattle.levels_laws.specs.Members.{Members, Clearable}
 use Rattle.levels_laws.specs.Starts.{membersOf}
 use Rattle.levels_laws.proofs.Steps.{erase-ok, tidy-done}
-use Rattle.levels_laws.proofs.Storing.{length-stored}
 use Rattle.levels_laws.proofs.Views.{members-in, members-stored}
 
 zeros : (k : ℕ) → length {A = ℕ} (replicate k 0) ≡ k

@@ -7,11 +7,12 @@ use native.Mathlib.Omega.{arith}
 use lib.ListN.{length, set, length-set}
 use lib.Dec.{eqb}
 use Rattle.basis.specs.Lists.{filterb, memb}
+use Rattle.basis.specs.Stored.{stored}
 use Rattle.basis.proofs.Lists.{filter-cong, memb-here}
 use Rattle.basis.proofs.Logic.{or-right}
 use Rattle.levels_laws.specs.Areas.{workOf, heldOf}
 use Rattle.levels_laws.proofs.Areas.{front-read, front-set, member-read}
-use Rattle.levels_laws.specs.Members.{Members, Mirrorable, settledAt, stored}
+use Rattle.levels_laws.specs.Members.{Members, Mirrorable, settledAt}
 use Rattle.levels_laws.specs.Starts.{membersOf}
 use Rattle.levels_laws.proofs.Storing.{member-range, members-same, members-on}
 

@@ -1,9 +1,9 @@
 -- The members of a part in its words, and what is done for each of them. Assumes nothing.
 use mathlib.Core.Path.{_≡_}
 use mathlib.Core.Bool.{Bool, true, false}
-use mathlib.Core.List.{List, [], _∷_}
+use mathlib.Core.List.{List}
 use Prim.Native.Nat.{ℕ, _+_, _-_, _*_, _≤_, _<_}
-use lib.ListN.{length, getD, set}
+use lib.ListN.{length, getD}
 use lib.Dec.{eqb}
 use Rattle.basis.specs.Lists.{memb}
 use Rattle.basis.specs.Perm.{Once}
@@ -24,18 +24,9 @@ pub record Members (n from to : ℕ) (W : List ℕ) : Type 0 where
 abbrev pub settledAt : ℕ → List ℕ → ℕ → Bool
 settledAt n W z = eqb (getD W (z - 1) 0) (getD W (secondArea n + z - 1) 0)
 
--- the words W after each of the nodes zs got its word, of those that start at base
-unfoldable pub stored : ℕ → (ℕ → ℕ) → List ℕ → List ℕ → List ℕ
-stored base f W [] = W
-stored base f W (z ∷ zs) = stored base f (set W (base + z - 1) (f z)) zs
-
 -- the level of z counted from the other end of k
 abbrev pub mirroredAt : ℕ → ℕ → List ℕ → ℕ → ℕ
 mirroredAt n k W z = k + 1 - getD W (secondArea n + z - 1) 0
-
--- 0 for every node
-abbrev pub nought : ℕ → ℕ
-nought z = 0
 
 -- and have levels up to k in the second list
 pub record Mirrorable (n from to k : ℕ) (W : List ℕ) : Type 0 where

@@ -10,8 +10,10 @@ use lib.ListN.{length, getD, take, drop, replicate, length-append, length-take, 
 use lib.Seq.{sets, slice, ext-getD, take-take, getD-take, getD-drop, getD-append-add}
 use borrow.Rule.Slice.PartMut.{postOf}
 use Rattle.basis.specs.Lists.{memb}
+use Rattle.basis.specs.Stored.{stored}
 use Rattle.basis.proofs.Logic.{by-test, lt-or-le}
 use Rattle.basis.proofs.Walk.{slice-front}
+use Rattle.basis.proofs.Stored.{length-stored, stored-at, stored-other}
 use Rattle.spec.specs.Combined.{widthOf}
 use Rattle.spec.specs.Cuthill.{cuthillResultBy, cuthillResult}
 use Rattle.spec.specs.Ends.{Ends, ends}
@@ -29,10 +31,9 @@ use Rattle.levels_ends.specs.declared.shape.Found.{Found}
 use Rattle.levels_ends.proofs.Areas.{front-lent, front-back}
 use Rattle.levels_laws.specs.Areas.{wordsOf}
 use Rattle.levels_laws.specs.Given.{firstOf}
-use Rattle.levels_laws.specs.Members.{Members, stored}
+use Rattle.levels_laws.specs.Members.{Members}
 use Rattle.levels_laws.specs.Model.{numberAt}
 use Rattle.levels_laws.specs.Starts.{membersOf}
-use Rattle.levels_laws.proofs.Storing.{length-stored, stored-at, stored-other}
 use Rattle.levels_sizes.specs.Sizes.{levelsAt, Listable}
 use Rattle.levels.specs.Part.{PartGiven}
 use Rattle.levels.proofs.OnePart.{widths-asked, found-is, both-ended, comes-back, size-same, reaches}

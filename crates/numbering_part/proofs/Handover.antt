@@ -10,10 +10,12 @@ use lib.ListN.{length, getD, take, drop, replicate, length-map, length-drop, len
 use lib.Seq.{sets, slice, length-sets, length-take-le, ext-getD, getD-take, getD-drop}
 use Rattle.basis.specs.Lists.{memb, upFrom}
 use Rattle.basis.specs.Perm.{Once}
+use Rattle.basis.specs.Stored.{stored, nought}
 use Rattle.basis.proofs.Lists.{map-cong}
 use Rattle.basis.proofs.Logic.{by-test, lt-or-le}
 use Rattle.basis.proofs.Perm.{perm-length, perm-memb}
 use Rattle.basis.proofs.Next.{sets-before, sets-behind, sets-at}
+use Rattle.basis.proofs.Stored.{length-stored, stored-at, stored-other}
 use Rattle.spec.specs.Graph.{Graph, nodes, ofNode}
 use Rattle.spec.specs.Levels.{part}
 use Rattle.spec.specs.Numbering.{PartResult}
@@ -25,10 +27,9 @@ use Rattle.laws.proofs.Parts.{part-once}
 use Rattle.levels_laws.specs.Areas.{wordsOf}
 use Rattle.levels_laws.specs.Model.{numberAt, written}
 use Rattle.levels_laws.specs.Given.{firstOf}
-use Rattle.levels_laws.specs.Members.{Members, stored, nought}
+use Rattle.levels_laws.specs.Members.{Members}
 use Rattle.levels_laws.specs.Seek.{at}
 use Rattle.levels_laws.specs.Starts.{membersOf}
-use Rattle.levels_laws.proofs.Storing.{length-stored, stored-at, stored-other}
 use Rattle.levels_laws.proofs.Stores.{length-written, written-at}
 use Rattle.levels.specs.Part.{PartGiven}
 use Rattle.numbering_part.specs.Part.{orderAt, numberFrom, numbered, renewed, Numberable}

@@ -4,11 +4,13 @@ use mathlib.Core.List.{List, [], _∷_, _++_}
 use Prim.Native.Nat.{ℕ, _+_, _-_, _*_, _≤_, _<_}
 use native.Mathlib.Omega.{arith}
 use lib.ListN.{length, getD, set}
+use Rattle.basis.specs.Stored.{nought}
+use Rattle.basis.proofs.Stored.{stored-other}
 use Rattle.levels_laws.specs.Model.{numberAt, written}
 use Rattle.levels_laws.proofs.Counting.{from-none}
-use Rattle.levels_laws.specs.Members.{Members, nought}
+use Rattle.levels_laws.specs.Members.{Members}
 use Rattle.levels_laws.specs.Starts.{membersOf}
-use Rattle.levels_laws.proofs.Storing.{Storing, store-behind, store-step, stored-other, member-range, next-members, z-word}
+use Rattle.levels_laws.proofs.Storing.{Storing, store-behind, store-step, member-range, next-members, z-word}
 use Rattle.levels_laws.proofs.Stores.{length-written, written-append}
 
 -- at the loop's head: the members before i have their levels in Y, and their words in U are 0

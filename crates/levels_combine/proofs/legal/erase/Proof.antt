@@ -3,7 +3,7 @@ use mathlib.Core.Path.{refl}
 use Prim.Native.Nat.{_+_, _-_, _*_, _≤_}
 use native.Mathlib.Omega.{arith}
 use borrow.Author.Needs.{needs}
-use Rattle.levels_laws.specs.Members.{nought}
+use Rattle.basis.specs.Stored.{nought}
 use Rattle.levels_laws.proofs.Storing.{Storing, store-begin, store-size, z-low, z-high, z-fits, store-step, store-done}
 use Rattle.levels_combine.proofs.legal.erase.Statement.{statement}
 use Rattle.levels_combine.proofs.legal.erase.Tie as tie
