@@ -6,9 +6,9 @@ use Prim.Native.Nat.{ℕ, _+_, _-_, _*_, _≤_, _<_}
 use native.Mathlib.Omega.{arith}
 use lib.ListN.{length, getD, take, drop, replicate, length-append, length-take, length-drop, length-map, length-replicate, take-append-drop, List·getD-append}
 use lib.Seq.{slice, length-slice, ext-getD, take-append-le, take-take, getD-take, getD-drop}
-use borrow.Rule.Slice.PartMut.{postOf, mid-len}
+use borrow.Rule.Slice.PartMut.{postOf}
 use Rattle.basis.specs.Lists.{memb, upFrom}
-use Rattle.basis.proofs.Index.{getD-map-upFrom, zeros-at}
+use Rattle.basis.proofs.Index.{zeros-at}
 use Rattle.basis.proofs.Lists.{map-cong, upFrom-in, length-upFrom}
 use Rattle.basis.proofs.Walk.{slice-front}
 use Rattle.spec.specs.Combined.{combined, widthOf}
@@ -33,7 +33,7 @@ use Rattle.levels_ends.proofs.Areas.{front-lent, front-back, slice-shift}
 use Rattle.levels_laws.specs.Areas.{wordsOf}
 use Rattle.levels_laws.specs.Given.{Given, firstOf, endsOf, merged}
 use Rattle.levels_laws.specs.Starts.{membersOf}
-use Rattle.levels_laws.proofs.Storing.{member-in}
+use Rattle.levels_laws.proofs.Storing.{members-listed, member-in}
 use Rattle.levels_sizes.specs.Sizes.{levelsAt, Listable}
 use Rattle.levels.specs.Part.{PartGiven, partLevelsOf}
 use Rattle.levels.specs.declared.shape.PartLevels.{PartLevels}
@@ -52,15 +52,8 @@ past-queue {n} {count} {W} Q i h =
 -- the members as they are lent
 pub members-lent : (n from to : ℕ) (W : List ℕ) → from ≤ to → 4 * n + to ≤ length W → take (4 * n + to - (4 * n + from)) (drop (4 * n + from) W) ≡ membersOf n from to W
 members-lent n from to W l h =
-    ext-getD 0 (take (4 * n + to - (4 * n + from)) (drop (4 * n + from) W)) (membersOf n from to W)
-    (omega (arith, size, length-map (upFrom from (to - from)) (λ i. getD W (4 * n + i) 0), length-upFrom from (to - from)))
-    (λ i k.
-    let e : 4 * n + from + i ≡ 4 * n + (from + i) = omega arith in
-    getD-take (4 * n + to - (4 * n + from)) (drop (4 * n + from) W) i 0 (omega (arith, size)) ∙ getD-drop (4 * n + from) W i 0
-    ∙ ap (λ (j : ℕ). getD W j 0) e ∙ sym (getD-map-upFrom (λ j. getD W (4 * n + j) 0) from (to - from) i 0 (omega (arith, size))))
-  where
-    size : length (take (4 * n + to - (4 * n + from)) (drop (4 * n + from) W)) ≡ 4 * n + to - (4 * n + from)
-    size = mid-len (4 * n + from) (4 * n + to) W h
+    let e : 4 * n + to - (4 * n + from) ≡ to - from = omega arith in
+    ap (λ (k : ℕ). take k (drop (4 * n + from) W)) e ∙ members-listed n from to W l h
 
 module _ (S N : List ℕ) (ok : graphRefusal S N ≡ 0) {from to : ℕ} (X : List ℕ)
     (A : PartGiven (graphOf S N) from to (wordsOf (sizeOf S) X) (slice (5 * sizeOf S) (6 * sizeOf S) X)) where

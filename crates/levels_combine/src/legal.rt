@@ -89,12 +89,7 @@ fn erase(scratch: &mut [u16], n: usize, base: usize, from: usize, to: usize)
     requires { ⌜ base + n ≤ membersArea n ⌝ }
     ensures { λ _. ⌜ left scratch ≡ stored base nought (was scratch) (membersOf n from to (was scratch)) ⌝ }
 {
-    let mut i = from;
-    while i < to {
-        let at = base + wide(scratch[MEMBERS * n + i]) - 1;
-        scratch[at] = 0;
-        i += 1;
-    }
+    graph_words::legal::erase(scratch, base, MEMBERS * n + from, to - from);
 }
 
 // Gives the members of a part their combined levels, and leaves their counts.

@@ -6,13 +6,14 @@ use mathlib.Core.List.{List, [], _∷_, _++_, append-nil}
 use Prim.Native.Nat.{ℕ, _+_, _-_, _*_, _≤_, _<_}
 use native.Mathlib.Nat.{le-refl}
 use native.Mathlib.Omega.{arith}
-use lib.ListN.{length, getD, set, length-append, length-map}
-use lib.Seq.{sets, length-sets}
+use lib.ListN.{length, getD, set, take, drop, length-append, length-drop, length-map}
+use lib.Seq.{sets, length-sets, ext-getD, getD-take, getD-drop, length-take-le}
 use lib.Dec.{eqb}
 use Rattle.basis.specs.Lists.{filterb, consIf, memb, upFrom}
 use Rattle.basis.specs.Perm.{times, Once}
 use Rattle.basis.specs.Stored.{stored}
 use Rattle.basis.proofs.Count.{bit-one, length-filter, count-length, count-append, none-times}
+use Rattle.basis.proofs.Index.{getD-map-upFrom}
 use Rattle.basis.proofs.Lists.{map-cong, map-memb, memb-map, upFrom-in, upFrom-make, length-upFrom, filter-append}
 use Rattle.basis.proofs.Logic.{eqb-self}
 use Rattle.basis.proofs.Next.{sets-append, sets-before, sets-behind}
@@ -23,6 +24,19 @@ use Rattle.levels_laws.specs.Members.{Members, settledAt}
 use Rattle.levels_laws.proofs.Taking.{map-split}
 
 -- ---- the members
+
+-- they are a list of words
+pub members-listed : (n from to : ℕ) (W : List ℕ) → from ≤ to → 4 * n + to ≤ length W → take (to - from) (drop (4 * n + from) W) ≡ membersOf n from to W
+members-listed n from to W l h =
+    ext-getD 0 (take (to - from) (drop (4 * n + from) W)) (membersOf n from to W)
+    (omega (arith, size, length-map (upFrom from (to - from)) (λ i. getD W (4 * n + i) 0), length-upFrom from (to - from)))
+    (λ i k.
+    let e : 4 * n + from + i ≡ 4 * n + (from + i) = omega arith in
+    getD-take (to - from) (drop (4 * n + from) W) i 0 (omega (arith, size)) ∙ getD-drop (4 * n + from) W i 0
+    ∙ ap (λ (j : ℕ). getD W j 0) e ∙ sym (getD-map-upFrom (λ j. getD W (4 * n + j) 0) from (to - from) i 0 (omega (arith, size))))
+  where
+    size : length (take (to - from) (drop (4 * n + from) W)) ≡ to - from
+    size = length-take-le (to - from) (drop (4 * n + from) W) (omega (arith, length-drop (4 * n + from) W))
 
 module _ {n from to : ℕ} {W : List ℕ} (A : Members n from to W) where
   abbrev word : ℕ → ℕ

@@ -1,82 +1,51 @@
--- `levels_combine::legal::erase` meets its contract. Assumes nothing.
-use mathlib.Core.Path.{refl}
-use Prim.Native.Nat.{_+_, _-_, _*_, _≤_}
+-- `levels_combine::legal::erase` meets its contract: the members are a list behind the words that are cleared. Assumes nothing.
+use mathlib.Core.Path.{_≡_, sym, ap, _∙_}
+use mathlib.Core.List.{List}
+use Prim.Native.Nat.{ℕ, _+_, _-_, _*_, _≤_}
+use native.Mathlib.Nat.{le-refl}
 use native.Mathlib.Omega.{arith}
+use lib.ListN.{take, drop}
 use borrow.Author.Needs.{needs}
-use Rattle.basis.specs.Stored.{nought}
-use Rattle.levels_laws.proofs.Storing.{Storing, store-begin, store-size, z-low, z-high, z-fits, store-step, store-done}
+use Rattle.basis.specs.Lists.{memb}
+use Rattle.basis.specs.Stored.{stored, nought}
+use Rattle.graph_words.specs.Erasable.{Erasable}
+use Rattle.levels_laws.specs.Members.{Members}
+use Rattle.levels_laws.specs.Starts.{membersOf}
+use Rattle.levels_laws.proofs.Storing.{members-listed, member-range}
 use Rattle.levels_combine.proofs.legal.erase.Statement.{statement}
 use Rattle.levels_combine.proofs.legal.erase.Tie as tie
 
-abbrev Inv-loop : tie.InvT-loop
-Inv-loop scratch₀ n base from to i₀ scratch i = (base + n ≤ 4 * n) × Storing base nought n from to scratch₀ scratch i
+module _ {n from to : ℕ} {W : List ℕ} (A : Members n from to W) where
+  is-list : take (to - from) (drop (4 * n + from) W) ≡ membersOf n from to W
+  is-list = members-listed n from to W (A .order) (omega (arith, A .most, A .words))
 
-abbrev μ-loop : tie.MeasureT-loop
-μ-loop scratch₀ n base from to i₀ scratch i = to - i
+  ask : (base : ℕ) → base + n ≤ 4 * n → Erasable base (4 * n + from) (to - from) W
+  ask base h = record {
+    held = omega (arith, A .order, A .most, A .words);
+    inside = λ v m.
+        let r = member-range A to (le-refl to) v (sym (ap (memb v) is-list) ∙ m) in
+        (r .0, omega (arith, r .1));
+  }
 
-loop-holds : tie.Need-loop-holds Inv-loop μ-loop
-loop-holds c = let s = c .before in (s .pre .1, store-begin (s .args .base) nought (s .pre .0) (s .pre .1))
+mul-erase : tie.Need-mul-erase
+mul-erase c = omega (arith, c .before .before .pre .0 .few)
 
-mul-wide : tie.Need-mul-wide Inv-loop μ-loop
-mul-wide c = let I = c .before .loop .inv .1 in omega (arith, I .ask .few)
+add-erase : tie.Need-add-erase
+add-erase c = let A = c .before .before .pre .0 in omega (arith, A .few, A .order, A .most)
 
-add-wide : tie.Need-add-wide Inv-loop μ-loop
-add-wide c = let I = c .before .loop .inv .1 in omega (arith, I .ask .few, I .ask .most)
+sub-erase : tie.Need-sub-erase
+sub-erase c = c .before .before .pre .0 .order
 
-mul-wide-2 : tie.Need-mul-wide-2 Inv-loop μ-loop
-mul-wide-2 c = let I = c .before .loop .inv .1 in omega (arith, I .ask .few, I .ask .most)
+erase-requires : tie.Need-erase-requires
+erase-requires c κs = let s = c .before .before in ask (s .pre .0) (s .args .base) (s .pre .1)
 
-slice-read-wide : tie.Need-slice-read-wide Inv-loop μ-loop
-slice-read-wide c = let I = c .before .before .loop .inv .1 in let h = c .before .loop-test .taken in omega (arith, I .ask .most, I .ask .words, store-size I)
+same-length : tie.Need-same-length
+same-length c = search needs
 
-wide-requires : tie.Need-wide-requires Inv-loop μ-loop
-wide-requires c κs = search needs
-
-add-at : tie.Need-add-at Inv-loop μ-loop
-add-at c = let I = c .before .before .before .loop .inv .1 in omega (arith, z-high I (c .before .before .loop-test .taken) (c .wide .ensures), c .before .before .before .loop .inv .0, I .ask .few)
-
-sub-at : tie.Need-sub-at Inv-loop μ-loop
-sub-at c = let I = c .before .before .before .loop .inv .1 in omega (arith, z-low I (c .before .before .loop-test .taken) (c .wide .ensures))
-
-mul-scratch : tie.Need-mul-scratch Inv-loop μ-loop
-mul-scratch c = let I = c .before .before .before .loop .inv .1 in omega (arith, z-high I (c .before .before .loop-test .taken) (c .wide .ensures), c .before .before .before .loop .inv .0, I .ask .few)
-
-slice-write-scratch : tie.Need-slice-write-scratch Inv-loop μ-loop
-slice-write-scratch c = z-fits (c .before .before .before .loop .inv .1) (c .before .before .loop-test .taken) (c .wide .ensures)
-
-add-i : tie.Need-add-i Inv-loop μ-loop
-add-i c = omega arith
-
-loop-less : tie.Need-loop-less Inv-loop μ-loop
-loop-less c = omega arith
-
-loop-again : tie.Need-loop-again Inv-loop μ-loop
-loop-again c = (c .before .before .before .loop .inv .0, store-step (c .before .before .before .loop .inv .1) (c .before .before .loop-test .taken) (c .wide .ensures) refl)
-
-same-length : tie.Need-same-length Inv-loop μ-loop
-same-length c = store-size (c .before .loop .inv .1)
-
-returns : tie.Need-returns Inv-loop μ-loop
-returns c = store-done (c .before .loop .inv .1) (c .loop-test .left)
+returns : tie.Need-returns
+returns c =
+    let s = c .before .before .before .before .before in
+    c .before .before .erase .ensures ∙ ap (stored (s .args .base) nought (s .args .scratch .now)) (is-list (s .pre .0))
 
 pub erase-spec : {M : Type 1} → statement M
-erase-spec =
-    tie.close
-    (tie.spec
-    Inv-loop
-    μ-loop
-    loop-holds
-    mul-wide
-    add-wide
-    mul-wide-2
-    slice-read-wide
-    wide-requires
-    add-at
-    sub-at
-    mul-scratch
-    slice-write-scratch
-    add-i
-    loop-less
-    loop-again
-    same-length
-    returns)
+erase-spec = tie.close (tie.spec mul-erase add-erase sub-erase erase-requires same-length returns)
