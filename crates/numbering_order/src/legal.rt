@@ -19,6 +19,7 @@ ghost use Rattle.numbering_order.specs.Model.{stand, orderIn, Open, Beca
 
 pub mod rooted;
 
+use graph_words::legal::erase;
 use graph_words::wide;
 use numbering_stacks::legal::rank;
 use numbering_stacks::legal::unmarked;
@@ -254,12 +255,7 @@ fn wipe(work: &mut [u16], n: usize, t: usize)
     requires { ⌜ Open n t (now work) ⌝ }
     ensures { λ _. ⌜ left work ≡ replicate n 0 ++ drop n (was work) ⌝ }
 {
-    let mut h = 0;
-    while h < t {
-        let p = wide(work[n + h]) - 1;
-        work[p] = 0;
-        h += 1;
-    }
+    erase(work, 0, n, t);
 }
 
 // The levels 2 to k, one after the other, where the order has level 1.
