@@ -1,10 +1,13 @@
 -- A part's order in the working words before, and after, its places are put. Assumes nothing.
-use mathlib.Core.Path.{_≡_, sym, ap, subst}
-use mathlib.Core.List.{List}
+use mathlib.Core.Path.{_≡_, sym, ap, _∙_, subst}
+use mathlib.Core.List.{List, _++_}
 use Prim.Native.Nat.{ℕ, _+_, _≤_}
 use native.Mathlib.Omega.{arith}
-use lib.ListN.{length, take}
+use lib.ListN.{length, take, drop, replicate}
+use Rattle.basis.specs.Stored.{stored, nought}
+use Rattle.basis.proofs.Stored.{stored-zeros}
 use Rattle.spec.specs.Graph.{sizeOf}
+use Rattle.graph_words.specs.Erasable.{Erasable}
 use Rattle.numbering_reverse.specs.Places.{segment, Listed, Part, Clean, Placed, Put}
 use Rattle.numbering_reverse.proofs.Placing.{segment-length, put-all}
 use Rattle.numbering_reverse.proofs.Spans.{part-listed, part-small}
@@ -27,11 +30,17 @@ module _ {S N : List ℕ} (n m : ℕ) (B : List ℕ) (size : n ≡ sizeOf S) (fi
     pub part-after : Part S N (segment n m W)
     part-after = subst (λ (o : List ℕ). Part S N o) (sym order-kept) P
 
-    pub listed-after : Listed n (segment n m W)
+    listed-after : Listed n (segment n m W)
     listed-after = subst (λ (o : List ℕ). Listed n o) (sym order-kept) ready-listed
 
     pub placed-after : Placed (segment n m W) W
     placed-after = subst (λ (o : List ℕ). Placed o W) (sym order-kept) (put-all n m B fit ready-listed W p)
 
-    pub clean-after : Clean n (segment n m B) B → Clean n (segment n m W) W
-    clean-after c = subst (λ (o : List ℕ). Clean n o W) (sym order-kept) (p .clean c)
+    -- the places can be taken away again, and the first n words are then 0
+    pub erase-ask : Erasable 0 n m W
+    erase-ask = record { held = fit-after; inside = λ z i. let r = listed-after .inside z i in (r .0, omega (arith, r .1)) }
+
+    pub erased : Clean n (segment n m B) B → stored 0 nought W (segment n m W) ≡ replicate n 0 ++ drop n B
+    erased c =
+        stored-zeros n W (segment n m W) (omega (arith, fit-after)) (listed-after .inside) (subst (λ (o : List ℕ). Clean n o W) (sym order-kept) (p .clean c))
+        ∙ ap (λ (l : List ℕ). replicate n 0 ++ l) (p .behind)

@@ -15,6 +15,7 @@ ghost use Rattle.graph_envelope.specs.Numbers.{Words};
 ghost use Rattle.numbering_reverse.specs.Places.{segment, Listed, Part, Clean, Placed, Put};
 use graph_envelope::legal::number;
 use graph_words::larger;
+use graph_words::legal::erase;
 use graph_words::smaller;
 use graph_words::wide;
 
@@ -41,21 +42,6 @@ fn put_places(work: &mut [u16], n: usize, m: usize)
         let z = wide(work[n + i]);
         i += 1;
         work[z - 1] = i as u16;
-    }
-}
-
-// Sets the words of the order's nodes to 0.
-fn wipe(work: &mut [u16], n: usize, m: usize)
-    requires { ⌜ (m ≤ n) × (n ≤ 4096) × (n + m ≤ length (now work)) ⌝ }
-    requires { ⌜ Listed n (segment n m (now work)) ⌝ }
-    requires { ⌜ Clean n (segment n m (now work)) (now work) ⌝ }
-    ensures { λ _. ⌜ left work ≡ replicate n 0 ++ drop n (was work) ⌝ }
-{
-    let mut i = 0;
-    while i < m {
-        let z = wide(work[n + i]);
-        work[z - 1] = 0;
-        i += 1;
     }
 }
 
@@ -135,7 +121,7 @@ fn profiles(starts: &[u16], neighbours: &[u16], work: &mut [u16], n: usize, m: u
 {
     put_places(work, n, m);
     let sums = spans(starts, neighbours, work, n, m);
-    wipe(work, n, m);
+    erase(work, 0, n, m);
     sums
 }
 
