@@ -1,6 +1,6 @@
 -- Any sound results of the parts, one after another: the numbers are a numbering, the figures are the measures of just these numbers, and the
 -- bandwidth is below twice the width. So of the run, and of A.3's call. Assumes nothing.
-use mathlib.Core.Path.{_≡_, refl, sym, ap, _∙_}
+use mathlib.Core.Path.{_≡_, refl, sym, ap, _∙_, subst}
 use mathlib.Core.Logic.{⊎-elim}
 use mathlib.Core.Bool.{true}
 use mathlib.Core.List.{List, [], _∷_, _++_, map}
@@ -12,11 +12,11 @@ use Rattle.basis.specs.Lists.{joinAll, memb, upFrom, greatest}
 use Rattle.basis.specs.Perm.{Once, Perm}
 use Rattle.basis.proofs.Count.{count-append, memb-times, upFrom-once}
 use Rattle.basis.proofs.Index.{getD-right, memb-getD}
-use Rattle.basis.proofs.Lists.{memb-append}
+use Rattle.basis.proofs.Lists.{memb-append, map-map}
 use Rattle.basis.proofs.Logic.{clash, or-split, or-left, or-right, lt-or-le, eqb-self}
-use Rattle.basis.proofs.Perm.{perm-refl, perm-trans, perm-append, perm-memb}
-use Rattle.spec.specs.Graph.{Graph, nodes, adjoins}
-use Rattle.spec.specs.Levels.{part, leaders, parts}
+use Rattle.basis.proofs.Perm.{perm-memb}
+use Rattle.spec.specs.Graph.{Graph, adjoins}
+use Rattle.spec.specs.Levels.{leaders}
 use Rattle.spec.specs.Measures.{isNumbering, inOrder, renumbered, bandwidth, profile, front}
 use Rattle.spec.specs.Numbering.{PartResult, wholeOrder, figuresOf, runOf}
 use Rattle.laws.specs.Legal.{Node, LegalGraph, Closed}
@@ -25,7 +25,7 @@ use Rattle.laws.specs.Results.{AllSound, wholeOf}
 use Rattle.laws.proofs.Measures.{spans-bandwidth}
 use Rattle.laws.proofs.Numberings.{numbers-numbering, renumbered-numbers}
 use Rattle.laws.proofs.PartOrder.{spans-more}
-use Rattle.laws.proofs.Parts.{leaders-in, part-closed, parts-perm}
+use Rattle.laws.proofs.Parts.{leaders-in, part-closed, parts-joined}
 
 -- ---- orders one after another
 
@@ -83,11 +83,6 @@ module _ {g : Graph} (G : LegalGraph g) (R : ℕ → PartResult) (ok : AllSound 
   pub order-closed : {z : ℕ} → Node g z → Closed g (R z .order)
   order-closed {z} Z = closed-perm (ok .sound z Z .perm) (part-closed G Z)
 
-  orders-perm : (zs : List ℕ) → ((z : ℕ) → memb z zs ≡ true → Node g z) → Perm (orders R zs) (joinAll (map (part g) zs))
-  orders-perm [] h = perm-refl []
-  orders-perm (z ∷ zs) h =
-      perm-append (ok .sound z (h z (or-left _ (eqb-self z))) .perm) (orders-perm zs (λ y m. h y (or-right (eqb y z) m)))
-
   -- nor the orders of some parts
   pub orders-closed : (zs : List ℕ) → ((z : ℕ) → memb z zs ≡ true → Node g z) → Closed g (orders R zs)
   orders-closed [] h = record { on = λ x y m e. clash m refl }
@@ -114,8 +109,10 @@ module _ {g : Graph} (G : LegalGraph g) (R : ℕ → PartResult) (ok : AllSound 
 
   -- the order of the whole holds each of 1 .. n once
   pub all-perm : Perm (wholeOrder results) (upFrom 1 (g .size))
-  unfolding wholeOrder parts nodes
-  all-perm = perm-trans (orders-perm (leaders g) leader-node) (parts-perm G)
+  unfolding wholeOrder
+  all-perm =
+      subst (λ (ls : List (List ℕ)). Perm (joinAll ls) (upFrom 1 (g .size))) (sym (map-map (λ r. r .order) R (leaders g)))
+      (parts-joined G (λ z. R z .order) (λ z Z. ok .sound z Z .perm))
 
   pub all-once : Once (wholeOrder results)
   all-once x = omega (arith, all-perm .alike x, upFrom-once 1 (g .size) x)
