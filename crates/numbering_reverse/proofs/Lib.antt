@@ -1,3 +1,4 @@
+pub mod ByNode
 pub mod Placing
 pub mod Spans
 pub mod Ready

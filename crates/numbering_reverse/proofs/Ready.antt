@@ -34,7 +34,7 @@ module _ {S N : List ℕ} (n m : ℕ) (B : List ℕ) (size : n ≡ sizeOf S) (fi
     listed-after = subst (λ (o : List ℕ). Listed n o) (sym order-kept) ready-listed
 
     pub placed-after : Placed (segment n m W) W
-    placed-after = subst (λ (o : List ℕ). Placed o W) (sym order-kept) (put-all n m B fit ready-listed W p)
+    placed-after = subst (λ (o : List ℕ). Placed o W) (sym order-kept) (put-all n m B fit W p)
 
     -- the places can be taken away again, and the first n words are then 0
     pub erase-ask : Erasable 0 n m W
