@@ -1,20 +1,22 @@
 -- The levels of a part's nodes counted from the other end, in place. Assumes nothing.
 use mathlib.Core.Path.{_≡_, refl, sym, ap, _∙_, subst}
-use mathlib.Core.Logic.{_⊎_, ⊎-elim}
-use mathlib.Core.Bool.{true, false}
+use mathlib.Core.Logic.{_⊎_, inl, inr, ⊎-elim}
+use mathlib.Core.Bool.{true}
 use mathlib.Core.List.{List, map}
 use Prim.Native.Nat.{ℕ, suc, _+_, _-_, _≤_, _<_}
 use native.Mathlib.Omega.{arith}
-use lib.ListN.{length, drop, getD, set, length-set, length-drop, length-map}
-use lib.Seq.{sets, slice, length-slice, length-take-le, getD-take, getD-drop, getD-set-same, getD-set-other}
-use Rattle.basis.specs.Lists.{memb, position}
-use Rattle.basis.proofs.Index.{getD-map, memb-getD, position-hit, once-index}
-use Rattle.basis.proofs.Logic.{by-test, clash, eq-or-ne, lt-or-le}
+use lib.ListN.{length, drop, getD, set, length-drop, length-map}
+use lib.Seq.{sets, slice, length-slice, length-take-le, getD-take, getD-drop}
+use Rattle.basis.specs.Lists.{memb}
+use Rattle.basis.proofs.Index.{getD-map, memb-getD, position-hit}
+use Rattle.basis.proofs.Logic.{by-test}
+use Rattle.basis.proofs.Puts.{puts-none, puts-step, length-puts, puts-other}
 use Rattle.spec.specs.Combined.{mirrored}
 use Rattle.spec.specs.Graph.{ofNode}
 use Rattle.laws.proofs.Combined.{mirror-sum}
 use Rattle.laws.proofs.Legal.{ofNode-at}
 use Rattle.numbering_stacks.specs.Part.{membersIn}
+use Rattle.numbering_reverse.proofs.ByNode.{wordOf, nodePuts, node-next, node-all}
 use Rattle.numbering_sequence.specs.Answer.{Mirrorable}
 use Rattle.numbering_sequence.proofs.Stored.{slice-at, stored-by}
 
@@ -22,118 +24,109 @@ mirror-none : (k : ℕ) → mirrored k 0 ≡ 0
 unfolding mirrored
 mirror-none k = refl
 
--- where the level of the part's node number h, counted from 0, stands
-abbrev place : ℕ → ℕ → ℕ → List ℕ → ℕ → ℕ
-place at from m W h = at + (getD (membersIn from m W) h 0 - 1)
+-- the level of the part's node number h, counted from 0, counted from the other end
+abbrev turnedLevel : ℕ → ℕ → ℕ → ℕ → List ℕ → ℕ → ℕ
+turnedLevel at from m k W h = mirrored k (getD W (wordOf at (membersIn from m W) h) 0)
 
--- the levels of j of the part's nodes are counted from the other end, and all else is as it was
+-- at the loop's head: the levels of the first j of the part's nodes are counted from the other end
 pub record Mirroring (n at from m k : ℕ) (W₀ W : List ℕ) (j : ℕ) : Type 0 where
   pub given : Mirrorable n at from m k W₀
   pub most : j ≤ m
-  pub long : length W ≡ length W₀
-  pub done : (h : ℕ) → h < j → getD W (place at from m W₀ h) 0 ≡ mirrored k (getD W₀ (place at from m W₀ h) 0)
-  pub left : (i : ℕ) → ((h : ℕ) → h < j → i ≡ place at from m W₀ h → ⊥) → getD W i 0 ≡ getD W₀ i 0
+  pub on : W ≡ nodePuts at (membersIn from m W₀) (turnedLevel at from m k W₀) W₀ j
 
 pub mirror-begin : {n at from m k : ℕ} {W : List ℕ} → Mirrorable n at from m k W → Mirroring n at from m k W W 0
-mirror-begin M = record { given = M; most = omega arith; long = refl; done = λ h b. absurd (omega arith); left = λ i b. refl }
+mirror-begin {n} {at} {from} {m} {k} {W} M = record { given = M; most = omega arith; on = puts-none (wordOf at (membersIn from m W)) (turnedLevel at from m k W) W }
 
 module _ {n at from m k : ℕ} {W₀ : List ℕ} (M : Mirrorable n at from m k W₀) where
-  count : length (membersIn from m W₀) ≡ m
+  abbrev P : List ℕ
+  P = membersIn from m W₀
+
+  count : length P ≡ m
   count = length-take-le m (drop from W₀) (omega (arith, M .areas .from-held, length-drop from W₀))
 
-  member : (h : ℕ) → h < m → memb (getD (membersIn from m W₀) h 0) (membersIn from m W₀) ≡ true
-  member h b = memb-getD (membersIn from m W₀) h (omega (arith, count))
+  member : (h : ℕ) → h < m → memb (getD P h 0) P ≡ true
+  member h b = memb-getD P h (omega (arith, count))
 
-  range : (h : ℕ) → h < m → (1 ≤ getD (membersIn from m W₀) h 0) × (getD (membersIn from m W₀) h 0 ≤ n)
-  range h b = M .nodes (getD (membersIn from m W₀) h 0) (member h b)
+  range : (h : ℕ) → h < m → (1 ≤ getD P h 0) × (getD P h 0 ≤ n)
+  range h b = M .nodes (getD P h 0) (member h b)
 
-  -- two nodes' levels stand in two places
-  same-place : (h j : ℕ) → h < m → j < m → place at from m W₀ h ≡ place at from m W₀ j → h ≡ j
-  same-place h j a b e =
-      let x = range h a in
-      let y = range j b in
-      once-index (membersIn from m W₀) (M .once) h j (omega (arith, count)) (omega (arith, count)) (omega (arith, x .0, y .0))
-
-  -- none of them among the part's nodes
-  not-member : (h j : ℕ) → h < m → j < m → from + j ≡ place at from m W₀ h → ⊥
-  not-member h j a b e =
-      let x = range h a in
-      ⊎-elim (λ (l : at + n ≤ from). omega (arith, x .0, x .1)) (λ (l : from + m ≤ at). omega (arith, x .0)) (M .areas .apart)
+  low : (z : ℕ) → memb z P ≡ true → 1 ≤ z
+  low z b = M .nodes z b .0
 
   -- a node's level
-  level-of : (q : ℕ) → 1 ≤ q → q ≤ n → ofNode (slice at (at + n) W₀) q ≡ getD W₀ (at + (q - 1)) 0
-  level-of q a b = ofNode-at (slice at (at + n) W₀) q a ∙ slice-at at (at + n) W₀ (q - 1) (omega arith)
+  level-of : (q : ℕ) → 1 ≤ q → q ≤ n → ofNode (slice at (at + n) W₀) q ≡ getD W₀ (at + q - 1) 0
+  level-of q a b =
+      let e : at + (q - 1) ≡ at + q - 1 = omega arith in
+      ofNode-at (slice at (at + n) W₀) q a ∙ slice-at at (at + n) W₀ (q - 1) (omega arith) ∙ ap (λ (x : ℕ). getD W₀ x 0) e
+
+  -- words outside of the levels are as they were
+  outside : (j i : ℕ) → j ≤ m → (i < at) ⊎ (at + n ≤ i) → getD (nodePuts at P (turnedLevel at from m k W₀) W₀ j) i 0 ≡ getD W₀ i 0
+  outside j i b h = puts-other (wordOf at P) (turnedLevel at from m k W₀) W₀ j i (λ x c e.
+      let r = range x (omega arith) in
+      ⊎-elim (λ (l : i < at). omega (arith, r .0)) (λ (l : at + n ≤ i). omega (arith, r .0, r .1)) h)
 
 module _ {n at from m k : ℕ} {W₀ W : List ℕ} {j : ℕ} (I : Mirroring n at from m k W₀ W j) where
+  abbrev Q : List ℕ
+  Q = membersIn from m W₀
+
+  abbrev old : ℕ
+  old = getD W₀ (wordOf at Q j) 0
+
+  pub mirror-size : length W ≡ length W₀
+  mirror-size = ap length (I .on) ∙ length-puts (wordOf at Q) (turnedLevel at from m k W₀) W₀ j
+
   module _ (h : j < m) where
-    pub mirror-node : getD W (from + j) 0 ≡ getD (membersIn from m W₀) j 0
-    mirror-node =
-        I .left (from + j) (λ i b e. not-member (I .given) i j (omega arith) h e)
-        ∙ sym (getD-take m (drop from W₀) j 0 h ∙ getD-drop from W₀ j 0)
-
-    pub mirror-range : {a : ℕ} → a ≡ getD W (from + j) 0 → (1 ≤ a) × (at + (a - 1) < length W)
-    mirror-range {a} e =
-        let x = range (I .given) j h in
-        let s : a ≡ getD (membersIn from m W₀) j 0 = e ∙ mirror-node in
-        (omega (arith, x .0), omega (arith, x .0, x .1, I .long, I .given .areas .at-held))
-
     pub mirror-index : from + j < length W
-    mirror-index = omega (arith, I .long, I .given .areas .from-held)
+    mirror-index = omega (arith, mirror-size, I .given .areas .from-held)
 
-    -- its level, which is still as it was
-    old-level : {a : ℕ} → a ≡ getD W (from + j) 0 → getD W (at + (a - 1)) 0 ≡ getD W₀ (place at from m W₀ j) 0
-    old-level {a} e =
-        let s : a ≡ getD (membersIn from m W₀) j 0 = e ∙ mirror-node in
-        ap (λ (x : ℕ). getD W (at + (x - 1)) 0) s
-        ∙ I .left (place at from m W₀ j) (λ i b r. omega (arith, same-place (I .given) j i h (omega arith) r))
+    module _ {a : ℕ} (e : a ≡ getD W (from + j) 0) where
+      a-is : a ≡ getD Q j 0
+      a-is =
+          let apart : (from + j < at) ⊎ (at + n ≤ from + j) = ⊎-elim (λ (l : at + n ≤ from). inr (omega arith)) (λ (l : from + m ≤ at). inl (omega arith)) (I .given .areas .apart) in
+          e ∙ ap (λ (l : List ℕ). getD l (from + j) 0) (I .on) ∙ outside (I .given) j (from + j) (I .most) apart
+          ∙ sym (getD-take m (drop from W₀) j 0 h ∙ getD-drop from W₀ j 0)
 
-    pub mirror-level : {a : ℕ} → a ≡ getD W (from + j) 0 → (1 ≤ getD W (at + (a - 1)) 0) × (getD W (at + (a - 1)) 0 ≤ k)
-    mirror-level {a} e =
-        let q : ℕ = getD (membersIn from m W₀) j 0 in
-        let x = range (I .given) j h in
-        let l = level-of (I .given) q (x .0) (x .1) in
-        (omega (arith, l, old-level e, I .given .some q (member (I .given) j h)), omega (arith, l, old-level e, I .given .most q (member (I .given) j h)))
+      its-place : at + (a - 1) ≡ wordOf at Q j
+      its-place = omega (arith, a-is, range (I .given) j h)
 
-    pub mirror-step : {a : ℕ} → a ≡ getD W (from + j) 0 → Mirroring n at from m k W₀ (set W (at + (a - 1)) (k + 1 - getD W (at + (a - 1)) 0)) (j + 1)
-    mirror-step {a} e = record {
-      given = I .given;
-      most = omega arith;
-      long = length-set W (at + (a - 1)) (k + 1 - getD W (at + (a - 1)) 0) ∙ I .long;
-      done = λ i b. ⊎-elim (λ (r : i ≡ j). here i r) (λ r. before i (omega arith) r) (eq-or-ne i j);
-      left = λ i b. elsewhere i (λ r. b j (omega arith) (r ∙ its)) ∙ I .left i (λ x c. b x (omega arith));
-    }
-      where
-        new : List ℕ
-        new = set W (at + (a - 1)) (k + 1 - getD W (at + (a - 1)) 0)
+      pub mirror-range : (1 ≤ a) × (at + (a - 1) < length W₀)
+      mirror-range =
+          let x = range (I .given) j h in
+          (omega (arith, a-is, x .0), omega (arith, a-is, x .0, x .1, I .given .areas .at-held))
 
-        its : at + (a - 1) ≡ place at from m W₀ j
-        its = ap (λ (x : ℕ). at + (x - 1)) (e ∙ mirror-node)
+      -- its level is still as it was
+      old-level : getD W (at + (a - 1)) 0 ≡ old
+      old-level =
+          (λ t. getD (I .on t) (its-place t) 0)
+          ∙ node-next at Q (low (I .given)) (turnedLevel at from m k W₀) W₀ (I .given .once) j (omega (arith, count (I .given)))
 
-        elsewhere : (i : ℕ) → (i ≡ at + (a - 1) → ⊥) → getD new i 0 ≡ getD W i 0
-        elsewhere i b = getD-set-other W (at + (a - 1)) i (k + 1 - getD W (at + (a - 1)) 0) 0 b
+      pub mirror-level : (1 ≤ getD W (at + (a - 1)) 0) × (getD W (at + (a - 1)) 0 ≤ k)
+      mirror-level =
+          let q : ℕ = getD Q j 0 in
+          let x = range (I .given) j h in
+          let l = level-of (I .given) q (x .0) (x .1) in
+          let i = member (I .given) j h in
+          (omega (arith, l, old-level, I .given .some q i), omega (arith, l, old-level, I .given .most q i))
 
-        its-mirror : k + 1 - getD W (at + (a - 1)) 0 ≡ mirrored k (getD W₀ (place at from m W₀ j) 0)
-        its-mirror =
-            let o = old-level e in
-            let r = mirror-level e in
-            let s = mirror-sum k (getD W₀ (place at from m W₀ j) 0) (omega (arith, r .0)) (omega (arith, r .1)) in
-            omega (arith, r .1)
+      its-mirror : k + 1 - getD W (at + (a - 1)) 0 ≡ mirrored k old
+      its-mirror =
+          let o = old-level in
+          let r = mirror-level in
+          let s = mirror-sum k old (omega (arith, r .0)) (omega (arith, r .1)) in
+          omega (arith, r .1)
 
-        here : (i : ℕ) → i ≡ j → getD new (place at from m W₀ i) 0 ≡ mirrored k (getD W₀ (place at from m W₀ i) 0)
-        here i r =
-            subst (λ (x : ℕ). getD new (place at from m W₀ x) 0 ≡ mirrored k (getD W₀ (place at from m W₀ x) 0)) (sym r)
-            (ap (λ (x : ℕ). getD new x 0) (sym its) ∙ getD-set-same W (at + (a - 1)) (k + 1 - getD W (at + (a - 1)) 0) 0 (mirror-range e .1) ∙ its-mirror)
-
-        before : (i : ℕ) → i ≤ j → (i ≡ j → ⊥) → getD new (place at from m W₀ i) 0 ≡ mirrored k (getD W₀ (place at from m W₀ i) 0)
-        before i b r =
-            let l : i < j = ⊎-elim (λ (x : i < j). x) (λ (x : j ≤ i). absurd (r (omega arith))) (lt-or-le i j) in
-            elsewhere (place at from m W₀ i) (λ x. r (same-place (I .given) i j (omega arith) h (x ∙ its))) ∙ I .done i l
+      pub mirror-step : Mirroring n at from m k W₀ (set W (at + (a - 1)) (k + 1 - getD W (at + (a - 1)) 0)) (j + 1)
+      mirror-step = record {
+        given = I .given;
+        most = omega arith;
+        on = puts-step (wordOf at Q) (turnedLevel at from m k W₀) W₀ (I .on) its-place its-mirror;
+      }
 
   pub mirror-done : m ≤ j → W ≡ sets W₀ at (map (mirrored k) (slice at (at + n) W₀))
   mirror-done h =
-      stored-by W₀ at (map (mirrored k) (slice at (at + n) W₀)) W (omega (arith, size, I .given .areas .at-held)) (I .long)
+      stored-by W₀ at (map (mirrored k) (slice at (at + n) W₀)) W (omega (arith, size, I .given .areas .at-held)) mirror-size
       (λ t b. level t (omega (arith, size)) ∙ sym (getD-map (mirrored k) (slice at (at + n) W₀) t 0 0 (omega (arith, slice-size, size)) ∙ ap (mirrored k) (slice-at at (at + n) W₀ t (omega (arith, size)))))
-      (λ t b. I .left t (λ i c e. out t b i (omega arith) e))
+      (λ t b. ap (λ (l : List ℕ). getD l t 0) (I .on) ∙ outside (I .given) j t (I .most) (subst (λ (x : ℕ). (t < at) ⊎ (at + x ≤ t)) size b))
     where
       slice-size : length (slice at (at + n) W₀) ≡ n
       slice-size = length-slice at (at + n) W₀ (I .given .areas .at-held) ∙ omega arith
@@ -141,31 +134,16 @@ module _ {n at from m k : ℕ} {W₀ W : List ℕ} {j : ℕ} (I : Mirroring n at
       size : length (map (mirrored k) (slice at (at + n) W₀)) ≡ n
       size = length-map (slice at (at + n) W₀) (mirrored k) ∙ slice-size
 
-      out : (t : ℕ) → (t < at) ⊎ (at + length (map (mirrored k) (slice at (at + n) W₀)) ≤ t) → (i : ℕ) → i < m → t ≡ place at from m W₀ i → ⊥
-      out t b i c e =
-          let x = range (I .given) i c in
-          ⊎-elim (λ (l : t < at). omega arith) (λ (l : at + length (map (mirrored k) (slice at (at + n) W₀)) ≤ t). omega (arith, size, x .0, x .1)) b
+      passed : j ≡ length Q
+      passed = omega (arith, I .most, count (I .given))
 
+      -- the level of node t + 1: one of the part's nodes, or another, which has none
       level : (t : ℕ) → t < n → getD W (at + t) 0 ≡ mirrored k (getD W₀ (at + t) 0)
-      level t b = by-test (memb (suc t) (membersIn from m W₀)) own other
-        where
-          own : memb (suc t) (membersIn from m W₀) ≡ true → getD W (at + t) 0 ≡ mirrored k (getD W₀ (at + t) 0)
-          own i =
-              let r = position-hit (suc t) (membersIn from m W₀) i in
-              let d = I .done (position (suc t) (membersIn from m W₀)) (omega (arith, r .0, count (I .given))) in
-              let e : place at from m W₀ (position (suc t) (membersIn from m W₀)) ≡ at + t = omega (arith, r .1) in
-              subst (λ (x : ℕ). getD W x 0 ≡ mirrored k (getD W₀ x 0)) e d
-
-          other : memb (suc t) (membersIn from m W₀) ≡ false → getD W (at + t) 0 ≡ mirrored k (getD W₀ (at + t) 0)
-          other o =
-              let b′ : suc t - 1 ≡ t = omega arith in
-              let z : getD W₀ (at + t) 0 ≡ 0 =
-              ap (λ (x : ℕ). getD W₀ (at + x) 0) (sym b′) ∙ sym (level-of (I .given) (suc t) (omega arith) (omega arith)) ∙ I .given .outside (suc t) (omega arith) (omega arith) o
-              in
-              I .left (at + t) none ∙ z ∙ sym (mirror-none k) ∙ ap (mirrored k) (sym z)
-            where
-              none : (i : ℕ) → i < j → at + t ≡ place at from m W₀ i → ⊥
-              none i c e =
-                  let x = range (I .given) i (omega arith) in
-                  let q : getD (membersIn from m W₀) i 0 ≡ suc t = omega (arith, x .0) in
-                  clash (subst (λ (y : ℕ). memb y (membersIn from m W₀) ≡ true) q (member (I .given) i (omega arith))) o
+      level t b =
+          let e : at + t ≡ at + suc t - 1 = omega arith in
+          (λ x. getD ((I .on ∙ ap (nodePuts at Q (turnedLevel at from m k W₀) W₀) passed) x) (e x) 0)
+          ∙ node-all at Q (low (I .given)) (turnedLevel at from m k W₀) W₀ (I .given .once) (suc t) (omega arith) (omega (arith, I .given .areas .at-held))
+          ∙ by-test (memb (suc t) Q)
+          (λ i. rw i (ap (λ (x : ℕ). mirrored k (getD W₀ (at + x - 1) 0)) (position-hit (suc t) Q i .1)))
+          (λ o. let z = sym (level-of (I .given) (suc t) (omega arith) b) ∙ I .given .outside (suc t) (omega arith) b o in rw o (z ∙ sym (mirror-none k) ∙ ap (mirrored k) (sym z)))
+          ∙ ap (λ (x : ℕ). mirrored k (getD W₀ x 0)) (sym e)

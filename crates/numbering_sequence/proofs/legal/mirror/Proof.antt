@@ -1,9 +1,11 @@
 -- `numbering_sequence::legal::mirror` meets its contract. The invariant: the levels of the nodes passed are counted from the other end.
 -- Assumes nothing.
-use Prim.Native.Nat.{_-_}
+use Prim.Native.Nat.{_+_, _-_, _≤_, _<_}
 use native.Mathlib.Omega.{arith}
+use lib.ListN.{length}
 use borrow.Author.Needs.{needs}
-use Rattle.numbering_sequence.proofs.Mirrored.{Mirroring, mirror-begin, mirror-range, mirror-index, mirror-level, mirror-step, mirror-done}
+use denote.Ref.{now}
+use Rattle.numbering_sequence.proofs.Mirrored.{Mirroring, mirror-begin, mirror-size, mirror-range, mirror-index, mirror-level, mirror-step, mirror-done}
 use Rattle.numbering_sequence.proofs.legal.mirror.Statement.{statement}
 use Rattle.numbering_sequence.proofs.legal.mirror.Tie as tie
 
@@ -28,17 +30,22 @@ slice-read-wide c = mirror-index (c .before .before .loop .inv) (c .before .loop
 wide-requires : tie.Need-wide-requires Inv-loop μ-loop
 wide-requires c κs = search needs
 
+-- the node's level is there
+range : (c : tie.After-wide Inv-loop μ-loop) → let s = c .before .before .before .before .before in
+    (1 ≤ c .wide .result) × (s .args .at + (c .wide .result - 1) < length (now (s .args .work)))
+range c = mirror-range (c .before .before .before .loop .inv) (c .before .before .loop-test .taken) (c .wide .ensures)
+
 sub-p : tie.Need-sub-p Inv-loop μ-loop
-sub-p c = mirror-range (c .before .before .before .loop .inv) (c .before .before .loop-test .taken) (c .wide .ensures) .0
+sub-p c = range c .0
 
 add-p : tie.Need-add-p Inv-loop μ-loop
-add-p c = omega (arith, mirror-range (c .before .before .before .loop .inv) (c .before .before .loop-test .taken) (c .wide .ensures) .1)
+add-p c = omega (arith, range c)
 
 mul-level : tie.Need-mul-level Inv-loop μ-loop
-mul-level c = omega (arith, mirror-range (c .before .before .before .loop .inv) (c .before .before .loop-test .taken) (c .wide .ensures) .1)
+mul-level c = omega (arith, range c)
 
 slice-read-level : tie.Need-slice-read-level Inv-loop μ-loop
-slice-read-level c = mirror-range (c .before .before .before .before .loop .inv) (c .before .before .before .loop-test .taken) (c .before .wide .ensures) .1
+slice-read-level c = omega (arith, range (c .before), mirror-size (c .before .before .before .before .loop .inv))
 
 add-work : tie.Need-add-work Inv-loop μ-loop
 add-work c = omega (arith, c .before .before .before .before .loop .inv .given .few)
@@ -47,10 +54,10 @@ sub-work : tie.Need-sub-work Inv-loop μ-loop
 sub-work c = omega (arith, mirror-level (c .before .before .before .before .loop .inv) (c .before .before .before .loop-test .taken) (c .before .wide .ensures) .1)
 
 mul-work : tie.Need-mul-work Inv-loop μ-loop
-mul-work c = omega (arith, mirror-range (c .before .before .before .before .loop .inv) (c .before .before .before .loop-test .taken) (c .before .wide .ensures) .1)
+mul-work c = omega (arith, range (c .before))
 
 slice-write-work : tie.Need-slice-write-work Inv-loop μ-loop
-slice-write-work c = mirror-range (c .before .before .before .before .loop .inv) (c .before .before .before .loop-test .taken) (c .before .wide .ensures) .1
+slice-write-work c = omega (arith, range (c .before), mirror-size (c .before .before .before .before .loop .inv))
 
 add-j : tie.Need-add-j Inv-loop μ-loop
 add-j c = omega (arith, c .before .before .before .loop-test .taken)
@@ -62,7 +69,7 @@ loop-again : tie.Need-loop-again Inv-loop μ-loop
 loop-again c = mirror-step (c .before .before .before .before .loop .inv) (c .before .before .before .loop-test .taken) (c .before .wide .ensures)
 
 same-length : tie.Need-same-length Inv-loop μ-loop
-same-length c = c .before .loop .inv .long
+same-length c = mirror-size (c .before .loop .inv)
 
 returns : tie.Need-returns Inv-loop μ-loop
 returns c = mirror-done (c .before .loop .inv) (c .loop-test .left)
