@@ -6,7 +6,7 @@ use mathlib.Core.Bool.{Bool, true, false, cond}
 use mathlib.Core.List.{List, map}
 use Prim.Native.Nat.{ℕ, suc, _+_, _-_, _*_, _≤_, _<_}
 use native.Mathlib.Omega.{arith}
-use lib.ListN.{length, getD, take, drop, replicate, length-map, length-drop, length-replicate, getD-replicate}
+use lib.ListN.{length, getD, take, drop, replicate, length-map, length-drop}
 use lib.Seq.{sets, slice, length-sets, length-take-le, ext-getD, getD-take, getD-drop}
 use Rattle.basis.specs.Lists.{memb, upFrom}
 use Rattle.basis.specs.Perm.{Once}
@@ -30,6 +30,7 @@ use Rattle.levels_laws.specs.Given.{firstOf}
 use Rattle.levels_laws.specs.Members.{Members}
 use Rattle.levels_laws.specs.Seek.{at}
 use Rattle.levels_laws.specs.Starts.{membersOf}
+use Rattle.levels_laws.proofs.Clearing.{run-in, run-before, run-behind}
 use Rattle.levels_laws.proofs.Stores.{length-written, written-at}
 use Rattle.levels.specs.Part.{PartGiven}
 use Rattle.numbering_part.specs.Part.{orderAt, numberFrom, numbered, renewed, Numberable}
@@ -140,23 +141,16 @@ module _ {g : Graph} (G : LegalGraph g) (few : g .size ≤ 4096) {from to : ℕ}
 
     three-low : (i : ℕ) → i < 4 * n → getD W₃ i 0 ≡ 0
     three-low i h =
-        ⊎-elim
-        (λ (a : i < n). ap (λ (l : List ℕ). getD l i 0) w₃ ∙ sets-before W₂ n (replicate m 0) i a ∙ two-low i h (inl a) ∙ front G few X P i h)
-        (λ (a : n ≤ i).
-        ⊎-elim
-        (λ (b : i < n + m).
-        let k : i ≡ n + (i - n) = omega arith in
-        ap (λ (l : List ℕ). getD l i 0) w₃ ∙ ap (λ (j : ℕ). getD (sets W₂ n (replicate m 0)) j 0) k
-        ∙ sets-at W₂ n (replicate m 0) (i - n) (omega (arith, length-replicate {A = ℕ} m 0, two-size, fits, m-most)) (omega (arith, length-replicate {A = ℕ} m 0))
-        ∙ getD-replicate m (i - n) 0 0 (omega arith))
-        (λ (b : n + m ≤ i).
-        ap (λ (l : List ℕ). getD l i 0) w₃ ∙ sets-behind W₂ n (replicate m 0) i (omega (arith, length-replicate {A = ℕ} m 0))
-        ∙ two-low i h (inr b) ∙ front G few X P i h)
+        ap (λ (l : List ℕ). getD l i 0) w₃ ∙ ⊎-elim
+        (λ (a : i < n). run-before W₂ n m i a ∙ two-low i h (inl a) ∙ front G few X P i h)
+        (λ (a : n ≤ i). ⊎-elim
+        (λ (b : i < n + m). run-in W₂ n m i (omega (arith, two-size, fits, m-most)) a b)
+        (λ (b : n + m ≤ i). run-behind W₂ n m i b ∙ two-low i h (inr b) ∙ front G few X P i h)
         (lt-or-le i (n + m)))
         (lt-or-le i n)
 
     three-behind : (i : ℕ) → 4 * n ≤ i → getD W₃ i 0 ≡ getD W₂ i 0
-    three-behind i h = ap (λ (l : List ℕ). getD l i 0) w₃ ∙ sets-behind W₂ n (replicate m 0) i (omega (arith, length-replicate {A = ℕ} m 0, m-most))
+    three-behind i h = ap (λ (l : List ℕ). getD l i 0) w₃ ∙ run-behind W₂ n m i (omega (arith, m-most))
 
     three-level : (q : ℕ) → Node g q → getD W₃ (5 * n + q - 1) 0 ≡ ofNode lv q
     three-level q N =

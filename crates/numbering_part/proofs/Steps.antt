@@ -82,6 +82,10 @@ module _ {g : Graph} (G : LegalGraph g) (few : g .size ≤ 4096) {from to : ℕ}
           u-is = pu ∙ ap (λ (x : Ends). x .u) back;
         }
 
+    -- from what the combined levels return
+    pub sequence-ready : {r : PartLevels} → r ≡ partLevelsOf g e → Sequenceable g (5 * n) (4 * n + from) m (r .k) (r .v) (r .u) W₁
+    sequence-ready p = sequence-ok (ap (λ (x : PartLevels). x .k) p) (ap (λ (x : PartLevels). x .v) p) (ap (λ (x : PartLevels). x .u) p)
+
     -- the order and the levels as now named are there, and all else is as it was
     pub sequence-done : {W₂ : List ℕ} → W₂ ≡ sets (sets W₁ n (partResult g (getD W₁ (4 * n + from) 0) .order)) (5 * n) (partResult g (getD W₁ (4 * n + from) 0) .levels)
         → W₂ ≡ sets (sets X n (partResult g z .order)) (5 * n) (partResult g z .levels)

@@ -1,19 +1,23 @@
 -- `numbering_part::legal::number_part` meets its contract: its calls in their order. Assumes nothing.
-use mathlib.Core.Path.{ap}
+use mathlib.Core.Path.{_≡_}
 use Prim.Native.Nat.{_*_, _≤_}
 use native.Mathlib.Omega.{arith}
 use lib.Seq.{slice}
 use borrow.Author.Needs.{needs}
 use denote.Ref.{now}
 use Rattle.spec.specs.Graph.{graphOf, sizeOf}
+use Rattle.spec.specs.Numbering.{partResult}
 use Rattle.laws.specs.Legal.{LegalGraph}
+use Rattle.laws.specs.Results.{Sound}
 use Rattle.laws.proofs.Refused.{passed, starts-of, not-refused}
 use Rattle.levels_laws.specs.Areas.{wordsOf}
 use Rattle.levels.specs.Part.{PartGiven}
+use Rattle.numbering_sequence.specs.Answer.{withResult}
+use Rattle.numbering_part.specs.Part.{lowestIn}
 use Rattle.numbering_part.proofs.Given.{z-node}
 use Rattle.numbering_part.proofs.Handover.{number-ok, numbers-done, give-ok, scratch-done, levels-done}
 use Rattle.laws.proofs.Whole.{part-sound}
-use Rattle.numbering_part.proofs.Steps.{sequence-ok, sequence-done, figures-done}
+use Rattle.numbering_part.proofs.Steps.{sequence-ready, sequence-done, figures-done}
 use Rattle.numbering_part.proofs.legal.number_part.Statement.{statement}
 use Rattle.numbering_part.proofs.legal.number_part.Tie as tie
 
@@ -65,26 +69,33 @@ sequence-requires : tie.Need-sequence-requires
 sequence-requires c κs =
     let s = start (c .before .before .before) in
     let f = c .before .before .before .combine-part .ensures in
-    (s .pre .0, sequence-ok (graph s) (few s) (now (s .args .scratch)) (given s) (f .1) (ap (λ r. r .k) (f .0)) (ap (λ r. r .v) (f .0)) (ap (λ r. r .u) (f .0)))
+    (s .pre .0, sequence-ready (graph s) (few s) (now (s .args .scratch)) (given s) (f .1) (f .0))
+
+-- what is found of the part, and the words that hold it
+found : (s : tie.Start) → let g = graphOf (now (s .args .starts)) (now (s .args .neighbours)) in
+    let z = lowestIn (g .size) (s .args .from) (now (s .args .scratch)) in Sound g z (partResult g z)
+found s = part-sound (graph s) .sound _ (z-node (graph s) (few s) (now (s .args .scratch)) (given s))
+
+holding : (o : tie.After-sequence) → let s = start (levelled o) in
+    let g = graphOf (now (s .args .starts)) (now (s .args .neighbours)) in
+    let X = now (s .args .scratch) in o .sequence .last .1 .1 .0 ≡ withResult (g .size) (5 * g .size) (partResult g (lowestIn (g .size) (s .args .from) X)) X
+holding o =
+    let f = levelled o in
+    let s = start f in
+    sequence-done (graph s) (few s) (now (s .args .scratch)) (given s) (f .combine-part .ensures .1) (o .sequence .ensures .1)
 
 give-numbers-requires : tie.Need-give-numbers-requires
 give-numbers-requires c κs =
     let o = c .before .before .before .before in
-    let f = levelled o in
-    let s = start f in
-    let X = now (s .args .scratch) in
-    let w = sequence-done (graph s) (few s) X (given s) (f .combine-part .ensures .1) (o .sequence .ensures .1) in
-    number-ok (graph s) (few s) X (given s) (part-sound (graph s) .sound _ (z-node (graph s) (few s) X (given s))) w (s .pre .1 .1 .0)
+    let s = start (levelled o) in
+    number-ok (graph s) (few s) (now (s .args .scratch)) (given s) (found s) (holding o) (s .pre .1 .1 .0)
 
 give-levels-requires : tie.Need-give-levels-requires
 give-levels-requires c κs =
     let p = numbered (c .before .before) in
     let o = ordered p in
-    let f = levelled o in
-    let s = start f in
-    let X = now (s .args .scratch) in
-    let w = sequence-done (graph s) (few s) X (given s) (f .combine-part .ensures .1) (o .sequence .ensures .1) in
-    let k = give-ok (graph s) (few s) X (given s) (part-sound (graph s) .sound _ (z-node (graph s) (few s) X (given s))) w (p .give-numbers .ensures .0) in
+    let s = start (levelled o) in
+    let k = give-ok (graph s) (few s) (now (s .args .scratch)) (given s) (found s) (holding o) (p .give-numbers .ensures .0) in
     (k .0, (k .1, s .pre .1 .1 .1))
 
 same-length : tie.Need-same-length
@@ -104,16 +115,14 @@ returns c =
     let f = levelled o in
     let s = start f in
     let X = now (s .args .scratch) in
-    let R = part-sound (graph s) .sound _ (z-node (graph s) (few s) X (given s)) in
-    let w = sequence-done (graph s) (few s) X (given s) (f .combine-part .ensures .1) (o .sequence .ensures .1) in
     let a = p .give-numbers .ensures in
     let b = q .give-levels .ensures in (
       figures-done (graph s) (few s) X (given s) (f .combine-part .ensures .0),
       (
-        scratch-done (graph s) (few s) X (given s) R w (a .0) (b .0),
+        scratch-done (graph s) (few s) X (given s) (found s) (holding o) (a .0) (b .0),
         (
-          numbers-done (graph s) (few s) X (given s) R w (now (s .args .numbers)) (s .pre .1 .1 .0) (a .1),
-          levels-done (graph s) (few s) X (given s) R w (a .0) (now (s .args .levels)) (s .pre .1 .1 .1) (b .1),
+          numbers-done (graph s) (few s) X (given s) (found s) (holding o) (now (s .args .numbers)) (s .pre .1 .1 .0) (a .1),
+          levels-done (graph s) (few s) X (given s) (found s) (holding o) (a .0) (now (s .args .levels)) (s .pre .1 .1 .1) (b .1),
         ),
       ),
     )
