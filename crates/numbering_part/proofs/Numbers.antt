@@ -72,14 +72,8 @@ module _ {n m a : ℕ} {W X U Y : List ℕ} {i : ℕ} (I : Giving n m a W X U Y 
         ∙ sets-behind W n (replicate i 0) (n + i) (omega (arith, length-replicate {A = ℕ} i 0))
         ∙ sym (getD-drop n W i 0) ∙ sym (getD-take m (drop n W) i 0 h)
 
-    z-range : (1 ≤ z) × (z ≤ n)
+    pub z-range : (1 ≤ z) × (z ≤ n)
     z-range = rw z-is (I .ask .inside (getD (orderAt n m W) i 0) (memb-getD (orderAt n m W) i (omega (arith, order-size))))
-
-    pub z-low : 1 ≤ z
-    z-low = z-range .0
-
-    pub z-high : z ≤ n
-    z-high = z-range .1
 
     pub giving-step : Giving n m a W X (set U (n + i) 0) (set Y (z - 1) (a + (i + 1))) (i + 1)
     giving-step = record {

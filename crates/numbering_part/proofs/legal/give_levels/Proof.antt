@@ -1,6 +1,7 @@
 -- `numbering_part::legal::give_levels` meets its contract. Assumes nothing.
-use Prim.Native.Nat.{_-_}
+use Prim.Native.Nat.{_+_, _-_, _*_, _≤_, _<_}
 use native.Mathlib.Omega.{arith}
+use lib.ListN.{length}
 use borrow.Author.Needs.{needs}
 use Rattle.levels_laws.proofs.Storing.{store-size, z-low, z-high, z-fits, store-done}
 use Rattle.numbering_part.proofs.Levels.{Handing, handing-begin, levels-size, handing-step, handing-done}
@@ -31,44 +32,58 @@ slice-read-wide c = let I = c .before .before .loop .inv .store in let h = c .be
 wide-requires : tie.Need-wide-requires Inv-loop μ-loop
 wide-requires c κs = search needs
 
+-- the loop's head, and the member that was read there
+abbrev at-loop : tie.After-wide Inv-loop μ-loop → tie.At-loop Inv-loop μ-loop
+at-loop c = c .before .before .before
+
+range : (c : tie.After-wide Inv-loop μ-loop) → let n = at-loop c .before .before .before .args .n in (1 ≤ c .wide .result) × (c .wide .result ≤ n) × (n ≤ 4096)
+range c =
+    let I = at-loop c .loop .inv .store in
+    let h = c .before .before .loop-test .taken in
+    (z-low I h (c .wide .ensures), z-high I h (c .wide .ensures), I .ask .few)
+
+-- its word is there
+fits : (c : tie.After-wide Inv-loop μ-loop) → 5 * at-loop c .before .before .before .args .n + c .wide .result - 1 < length (at-loop c .loop .scratch)
+fits c = z-fits (at-loop c .loop .inv .store) (c .before .before .loop-test .taken) (c .wide .ensures)
+
 mul-levels : tie.Need-mul-levels Inv-loop μ-loop
-mul-levels c = omega (arith, c .before .before .before .loop .inv .store .ask .few)
+mul-levels c = omega (arith, range c)
 
 add-levels : tie.Need-add-levels Inv-loop μ-loop
-add-levels c = omega (arith, z-high (c .before .before .before .loop .inv .store) (c .before .before .loop-test .taken) (c .wide .ensures), c .before .before .before .loop .inv .store .ask .few)
+add-levels c = omega (arith, range c)
 
 sub-levels : tie.Need-sub-levels Inv-loop μ-loop
-sub-levels c = omega (arith, z-low (c .before .before .before .loop .inv .store) (c .before .before .loop-test .taken) (c .wide .ensures))
+sub-levels c = omega (arith, range c)
 
 mul-levels-2 : tie.Need-mul-levels-2 Inv-loop μ-loop
-mul-levels-2 c = omega (arith, z-high (c .before .before .before .loop .inv .store) (c .before .before .loop-test .taken) (c .wide .ensures), c .before .before .before .loop .inv .store .ask .few)
+mul-levels-2 c = omega (arith, range c)
 
 slice-read-levels : tie.Need-slice-read-levels Inv-loop μ-loop
-slice-read-levels c = z-fits (c .before .before .before .before .loop .inv .store) (c .before .before .before .loop-test .taken) (c .before .wide .ensures)
+slice-read-levels c = fits (c .before)
 
 sub-levels-2 : tie.Need-sub-levels-2 Inv-loop μ-loop
-sub-levels-2 c = omega (arith, z-low (c .before .before .before .before .loop .inv .store) (c .before .before .before .loop-test .taken) (c .before .wide .ensures))
+sub-levels-2 c = omega (arith, range (c .before))
 
 mul-levels-3 : tie.Need-mul-levels-3 Inv-loop μ-loop
-mul-levels-3 c = omega (arith, z-high (c .before .before .before .before .loop .inv .store) (c .before .before .before .loop-test .taken) (c .before .wide .ensures), c .before .before .before .before .loop .inv .store .ask .few)
+mul-levels-3 c = omega (arith, range (c .before))
 
 slice-write-levels : tie.Need-slice-write-levels Inv-loop μ-loop
-slice-write-levels c = omega (arith, z-low (c .before .before .before .before .loop .inv .store) (c .before .before .before .loop-test .taken) (c .before .wide .ensures), z-high (c .before .before .before .before .loop .inv .store) (c .before .before .before .loop-test .taken) (c .before .wide .ensures), levels-size (c .before .before .before .before .loop .inv))
+slice-write-levels c = omega (arith, range (c .before), levels-size (at-loop (c .before) .loop .inv))
 
 mul-scratch : tie.Need-mul-scratch Inv-loop μ-loop
-mul-scratch c = omega (arith, c .before .before .before .before .loop .inv .store .ask .few)
+mul-scratch c = omega (arith, range (c .before))
 
 add-scratch : tie.Need-add-scratch Inv-loop μ-loop
-add-scratch c = omega (arith, z-high (c .before .before .before .before .loop .inv .store) (c .before .before .before .loop-test .taken) (c .before .wide .ensures), c .before .before .before .before .loop .inv .store .ask .few)
+add-scratch c = omega (arith, range (c .before))
 
 sub-scratch : tie.Need-sub-scratch Inv-loop μ-loop
-sub-scratch c = omega (arith, z-low (c .before .before .before .before .loop .inv .store) (c .before .before .before .loop-test .taken) (c .before .wide .ensures))
+sub-scratch c = omega (arith, range (c .before))
 
 mul-scratch-2 : tie.Need-mul-scratch-2 Inv-loop μ-loop
-mul-scratch-2 c = omega (arith, z-high (c .before .before .before .before .loop .inv .store) (c .before .before .before .loop-test .taken) (c .before .wide .ensures), c .before .before .before .before .loop .inv .store .ask .few)
+mul-scratch-2 c = omega (arith, range (c .before))
 
 slice-write-scratch : tie.Need-slice-write-scratch Inv-loop μ-loop
-slice-write-scratch c = z-fits (c .before .before .before .before .loop .inv .store) (c .before .before .before .loop-test .taken) (c .before .wide .ensures)
+slice-write-scratch c = fits (c .before)
 
 add-i : tie.Need-add-i Inv-loop μ-loop
 add-i c = omega arith
@@ -77,7 +92,7 @@ loop-less : tie.Need-loop-less Inv-loop μ-loop
 loop-less c = omega arith
 
 loop-again : tie.Need-loop-again Inv-loop μ-loop
-loop-again c = handing-step (c .before .before .before .before .loop .inv) (c .before .before .before .loop-test .taken) (c .before .wide .ensures)
+loop-again c = handing-step (at-loop (c .before) .loop .inv) (c .before .before .before .loop-test .taken) (c .before .wide .ensures)
 
 same-length : tie.Need-same-length Inv-loop μ-loop
 same-length c = store-size (c .before .loop .inv .store)
