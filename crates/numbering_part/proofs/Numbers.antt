@@ -13,7 +13,7 @@ use Rattle.basis.proofs.Next.{sets-behind}
 use Rattle.basis.proofs.Puts.{puts-none, puts-step, length-puts}
 use Rattle.spec.specs.Graph.{ofNode}
 use Rattle.levels_laws.proofs.Clearing.{Blanking, blank-begin, blank-step, blank-size, blank-done}
-use Rattle.numbering_reverse.proofs.ByNode.{wordOf, nodePuts, node-all}
+use Rattle.basis.proofs.ByNumber.{wordOf, numberPuts, number-all}
 use Rattle.numbering_part.specs.Part.{orderAt, numberFrom, numbered, Numberable}
 
 length-numbered : (a : ℕ) (o X : List ℕ) → length (numbered a o X) ≡ length X
@@ -25,7 +25,7 @@ abbrev numberOf : ℕ → ℕ → ℕ
 numberOf a i = a + suc i
 
 -- all passes together number the order's nodes
-numbered-all : {n m a : ℕ} {W X : List ℕ} → Numberable n m a W X → nodePuts 0 (orderAt n m W) (numberOf a) X (length (orderAt n m W)) ≡ numbered a (orderAt n m W) X
+numbered-all : {n m a : ℕ} {W X : List ℕ} → Numberable n m a W X → numberPuts 0 (orderAt n m W) (numberOf a) X (length (orderAt n m W)) ≡ numbered a (orderAt n m W) X
 unfolding numbered ofNode
 numbered-all {n} {m} {a} {W} {X} A =
     ext-getD 0 Y (numbered a o X) (size ∙ sym (length-numbered a o X))
@@ -33,7 +33,7 @@ numbered-all {n} {m} {a} {W} {X} A =
     let e : i ≡ 0 + (1 + i) - 1 = omega arith in
     let s : 1 + i ≡ suc i = omega arith in
     ap (λ (j : ℕ). getD Y j 0) e
-    ∙ node-all 0 o (λ z m. A .inside z m .0) (numberOf a) X (A .once) (1 + i) (omega arith) (omega (arith, size))
+    ∙ number-all 0 o (λ z m. A .inside z m .0) (numberOf a) X (A .once) (1 + i) (omega arith) (omega (arith, size))
     ∙ ap (λ (x : ℕ). cond (memb (1 + i) o) (numberFrom a o (1 + i)) x) (ap (λ (j : ℕ). getD X j 0) (sym e) ∙ ap (ofNode X) (sym s))
     ∙ sym (getD-map-upFrom (λ q. cond (memb q o) (numberFrom a o q) (ofNode X q)) 1 (length X) i 0 (omega (arith, size))))
   where
@@ -41,7 +41,7 @@ numbered-all {n} {m} {a} {W} {X} A =
     o = orderAt n m W
 
     Y : List ℕ
-    Y = nodePuts 0 (orderAt n m W) (numberOf a) X (length (orderAt n m W))
+    Y = numberPuts 0 (orderAt n m W) (numberOf a) X (length (orderAt n m W))
 
     size : length Y ≡ length X
     size = length-puts (wordOf 0 o) (numberOf a) X (length o)
@@ -50,7 +50,7 @@ numbered-all {n} {m} {a} {W} {X} A =
 pub record Giving (n m a : ℕ) (W X U Y : List ℕ) (i : ℕ) : Type 0 where
   pub ask : Numberable n m a W X
   pub blank : Blanking n m W U i
-  pub numbers : Y ≡ nodePuts 0 (orderAt n m W) (numberOf a) X i
+  pub numbers : Y ≡ numberPuts 0 (orderAt n m W) (numberOf a) X i
 
 pub giving-begin : {n m a : ℕ} {W X : List ℕ} → Numberable n m a W X → Giving n m a W X W X 0
 giving-begin {n} {m} {a} {W} {X} A = record { ask = A; blank = blank-begin (A .words); numbers = puts-none (wordOf 0 (orderAt n m W)) (numberOf a) X }
@@ -88,4 +88,4 @@ module _ {n m a : ℕ} {W X U Y : List ℕ} {i : ℕ} (I : Giving n m a W X U Y 
   pub giving-done : m ≤ i → Y ≡ numbered a (orderAt n m W) X
   giving-done h =
       let e : i ≡ length (orderAt n m W) = omega (arith, order-size, I .blank .most) in
-      I .numbers ∙ ap (nodePuts 0 (orderAt n m W) (numberOf a) X) e ∙ numbered-all (I .ask)
+      I .numbers ∙ ap (numberPuts 0 (orderAt n m W) (numberOf a) X) e ∙ numbered-all (I .ask)

@@ -1,4 +1,3 @@
-pub mod ByNode
 pub mod Placing
 pub mod Spans
 pub mod Ready

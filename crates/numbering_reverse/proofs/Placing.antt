@@ -10,7 +10,7 @@ use Rattle.basis.specs.Lists.{memb}
 use Rattle.basis.proofs.Index.{memb-getD}
 use Rattle.basis.proofs.Puts.{puts-none, puts-step, length-puts, puts-behind}
 use Rattle.numbering_reverse.specs.Places.{segment, Listed, Placed, Put}
-use Rattle.numbering_reverse.proofs.ByNode.{wordOf, nodePuts, node-out, node-passed}
+use Rattle.basis.proofs.ByNumber.{wordOf, numberPuts, number-out, number-passed}
 
 module _ (n m : ℕ) (B : List ℕ) (fit : n + m ≤ length B) where
   pub segment-length : length (segment n m B) ≡ m
@@ -29,7 +29,7 @@ pub record Putting (n m : ℕ) (B W : List ℕ) (i : ℕ) : Type 0 where
   pub fit : n + m ≤ length B
   pub listed : Listed n (segment n m B)
   pub most : i ≤ m
-  pub on : W ≡ nodePuts 0 (segment n m B) suc B i
+  pub on : W ≡ numberPuts 0 (segment n m B) suc B i
 
 pub putting-begin : {n m : ℕ} {B : List ℕ} → n + m ≤ length B → Listed n (segment n m B) → Putting n m B B 0
 putting-begin {n} {m} {B} fit L = record { fit = fit; listed = L; most = omega arith; on = puts-none (wordOf 0 (segment n m B)) suc B }
@@ -71,7 +71,7 @@ module _ {n m : ℕ} {B W : List ℕ} {i : ℕ} (I : Putting n m B W i) where
 
   pub putting-done : m ≤ i → Put n m B W m
   putting-done h =
-      let on : W ≡ nodePuts 0 o suc B i = I .on in
+      let on : W ≡ numberPuts 0 o suc B i = I .on in
       let most : i ≤ length o = omega (arith, size, I .most) in
       record {
         long = putting-size;
@@ -79,8 +79,8 @@ module _ {n m : ℕ} {B W : List ℕ} {i : ℕ} (I : Putting n m B W i) where
         there = λ j b.
             let r = range j b in
             let k : getD o j 0 - 1 ≡ wordOf 0 o j = omega arith in
-            (λ t. getD (on t) (k t) 0) ∙ node-passed 0 o low suc B (I .listed .once) i j (omega arith) most (omega (arith, r, I .fit));
+            (λ t. getD (on t) (k t) 0) ∙ number-passed 0 o low suc B (I .listed .once) i j (omega arith) most (omega (arith, r, I .fit));
         clean = λ c k b out.
             let q : k ≡ 0 + suc k - 1 = omega arith in
-            (λ t. getD (on t) (q t) 0) ∙ node-out 0 o low suc B i most (suc k) (omega arith) out ∙ ap (λ (j : ℕ). getD B j 0) (sym q) ∙ c k b out;
+            (λ t. getD (on t) (q t) 0) ∙ number-out 0 o low suc B i most (suc k) (omega arith) out ∙ ap (λ (j : ℕ). getD B j 0) (sym q) ∙ c k b out;
       }

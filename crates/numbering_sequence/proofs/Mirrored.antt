@@ -16,7 +16,7 @@ use Rattle.spec.specs.Graph.{ofNode}
 use Rattle.laws.proofs.Combined.{mirror-sum}
 use Rattle.laws.proofs.Legal.{ofNode-at}
 use Rattle.numbering_stacks.specs.Part.{membersIn}
-use Rattle.numbering_reverse.proofs.ByNode.{wordOf, nodePuts, node-next, node-all}
+use Rattle.basis.proofs.ByNumber.{wordOf, numberPuts, number-next, number-all}
 use Rattle.numbering_sequence.specs.Answer.{Mirrorable}
 use Rattle.numbering_sequence.proofs.Stored.{slice-at, stored-by}
 
@@ -32,7 +32,7 @@ turnedLevel at from m k W h = mirrored k (getD W (wordOf at (membersIn from m W)
 pub record Mirroring (n at from m k : ℕ) (W₀ W : List ℕ) (j : ℕ) : Type 0 where
   pub given : Mirrorable n at from m k W₀
   pub most : j ≤ m
-  pub on : W ≡ nodePuts at (membersIn from m W₀) (turnedLevel at from m k W₀) W₀ j
+  pub on : W ≡ numberPuts at (membersIn from m W₀) (turnedLevel at from m k W₀) W₀ j
 
 pub mirror-begin : {n at from m k : ℕ} {W : List ℕ} → Mirrorable n at from m k W → Mirroring n at from m k W W 0
 mirror-begin {n} {at} {from} {m} {k} {W} M = record { given = M; most = omega arith; on = puts-none (wordOf at (membersIn from m W)) (turnedLevel at from m k W) W }
@@ -60,7 +60,7 @@ module _ {n at from m k : ℕ} {W₀ : List ℕ} (M : Mirrorable n at from m k W
       ofNode-at (slice at (at + n) W₀) q a ∙ slice-at at (at + n) W₀ (q - 1) (omega arith) ∙ ap (λ (x : ℕ). getD W₀ x 0) e
 
   -- words outside of the levels are as they were
-  outside : (j i : ℕ) → j ≤ m → (i < at) ⊎ (at + n ≤ i) → getD (nodePuts at P (turnedLevel at from m k W₀) W₀ j) i 0 ≡ getD W₀ i 0
+  outside : (j i : ℕ) → j ≤ m → (i < at) ⊎ (at + n ≤ i) → getD (numberPuts at P (turnedLevel at from m k W₀) W₀ j) i 0 ≡ getD W₀ i 0
   outside j i b h = puts-other (wordOf at P) (turnedLevel at from m k W₀) W₀ j i (λ x c e.
       let r = range x (omega arith) in
       ⊎-elim (λ (l : i < at). omega (arith, r .0)) (λ (l : at + n ≤ i). omega (arith, r .0, r .1)) h)
@@ -98,7 +98,7 @@ module _ {n at from m k : ℕ} {W₀ W : List ℕ} {j : ℕ} (I : Mirroring n at
       old-level : getD W (at + (a - 1)) 0 ≡ old
       old-level =
           (λ t. getD (I .on t) (its-place t) 0)
-          ∙ node-next at Q (low (I .given)) (turnedLevel at from m k W₀) W₀ (I .given .once) j (omega (arith, count (I .given)))
+          ∙ number-next at Q (low (I .given)) (turnedLevel at from m k W₀) W₀ (I .given .once) j (omega (arith, count (I .given)))
 
       pub mirror-level : (1 ≤ getD W (at + (a - 1)) 0) × (getD W (at + (a - 1)) 0 ≤ k)
       mirror-level =
@@ -141,8 +141,8 @@ module _ {n at from m k : ℕ} {W₀ W : List ℕ} {j : ℕ} (I : Mirroring n at
       level : (t : ℕ) → t < n → getD W (at + t) 0 ≡ mirrored k (getD W₀ (at + t) 0)
       level t b =
           let e : at + t ≡ at + suc t - 1 = omega arith in
-          (λ x. getD ((I .on ∙ ap (nodePuts at Q (turnedLevel at from m k W₀) W₀) passed) x) (e x) 0)
-          ∙ node-all at Q (low (I .given)) (turnedLevel at from m k W₀) W₀ (I .given .once) (suc t) (omega arith) (omega (arith, I .given .areas .at-held))
+          (λ x. getD ((I .on ∙ ap (numberPuts at Q (turnedLevel at from m k W₀) W₀) passed) x) (e x) 0)
+          ∙ number-all at Q (low (I .given)) (turnedLevel at from m k W₀) W₀ (I .given .once) (suc t) (omega arith) (omega (arith, I .given .areas .at-held))
           ∙ by-test (memb (suc t) Q)
           (λ i. rw i (ap (λ (x : ℕ). mirrored k (getD W₀ (at + x - 1) 0)) (position-hit (suc t) Q i .1)))
           (λ o. let z = sym (level-of (I .given) (suc t) (omega arith) b) ∙ I .given .outside (suc t) (omega arith) b o in rw o (z ∙ sym (mirror-none k) ∙ ap (mirrored k) (sym z)))
