@@ -16,7 +16,7 @@ use Rattle.basis.proofs.Index.{memb-getD}
 use Rattle.basis.proofs.Logic.{by-test}
 use Rattle.spec.specs.Graph.{ofNode}
 use Rattle.levels_search.specs.Queue.{Queued}
-use Rattle.levels_search.proofs.Stores.{write-front, write-behind, front-length, behind-length}
+use Rattle.levels_search.proofs.Halves.{write-front, write-behind, front-length, behind-length}
 use Rattle.levels_search.proofs.Tallies.{ofNode-some, ofNode-set, levels-ext}
 use Rattle.levels_ends.specs.Passes.{OnePart}
 use Rattle.laws.proofs.Legal.{ofNode-at}

@@ -19,7 +19,7 @@ use Rattle.laws.proofs.Refused.{passed, starts-of, not-refused}
 use Rattle.levels_search.specs.Answer.{rootedOf, Searched}
 use Rattle.levels_search.specs.Queue.{Queued}
 use Rattle.levels_search.specs.declared.shape.Rooted.{Rooted}
-use Rattle.levels_search.proofs.Round.{level-of}
+use Rattle.levels_search.proofs.Placed.{level-of}
 use Rattle.levels_search.proofs.Stores.{take-replicate, drop-replicate}
 use Rattle.levels_ends.specs.Answer.{foundOf, Ended}
 use Rattle.levels_ends.specs.Passes.{half, At, Onward, Over, Passed, OnePart}

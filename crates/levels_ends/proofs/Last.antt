@@ -7,17 +7,25 @@ use lib.ListN.{length, take, drop}
 use lib.Seq.{slice}
 use borrow.Rule.Slice.PartMut.{putMid}
 use Rattle.basis.specs.Lists.{memb}
-use Rattle.basis.proofs.Perm.{perm-length}
+use Rattle.basis.proofs.Perm.{perm-length, perm-trans}
+use Rattle.spec.specs.Ends.{farthest}
 use Rattle.spec.specs.Graph.{graphOf, sizeOf, sortE}
 use Rattle.spec.specs.Levels.{levels, reached}
-use Rattle.laws.proofs.Orders.{perm-sortE}
-use Rattle.levels_search.specs.Answer.{rootedOf}
+use Rattle.laws.proofs.Orders.{perm-sortE, sortE-sorted, sortE-unique}
+use Rattle.levels_search.specs.Answer.{rootedOf, Searched}
 use Rattle.levels_search.specs.declared.shape.Rooted.{Rooted}
-use Rattle.levels_search.proofs.Tail.{tail-sorted}
 use Rattle.basis.proofs.Walk.{part-slice}
 use Rattle.levels_sort.specs.Nodes.{Nodes}
 use Rattle.levels_ends.specs.Passes.{Area, Sorted}
 use Rattle.levels_ends.proofs.Areas.{slice-shift, with-tail, old-size, searched-sorted, tail-nodes}
+
+-- the queue's tail in E is the list that the end search goes through
+tail-sorted : {S N : List ℕ} {root : ℕ} {W : List ℕ} → Searched S N root W
+    → sortE (graphOf S N) (slice (rootedOf (levels (graphOf S N) root) .last) (reached (levels (graphOf S N) root)) (drop (sizeOf S) W))
+    ≡ farthest (graphOf S N) root
+unfolding farthest
+tail-sorted {S} {N} {root} {W} R =
+    sortE-unique (graphOf S N) (sortE-sorted (graphOf S N) _) (perm-trans (perm-sortE (graphOf S N) _) (R .tail))
 
 -- m and c are the places of the last level in the queue
 module _ {S N : List ℕ} {v : ℕ} {r : Rooted} {W : List ℕ} (A : Area S N v r W) {m c : ℕ} (em : m ≡ r .last) (ec : c ≡ r .reached) where

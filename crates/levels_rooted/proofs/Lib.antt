@@ -1,3 +1,3 @@
-pub mod Visits
-pub mod Rounds
+pub mod Visiting
+pub mod Searching
 pub mod Zeros

@@ -1,6 +1,6 @@
 -- The levels round by round with the queue beside them, as far as the next round needs it: the nodes of the last level stand in the queue
 -- from a up to b. What stands before a may be any. Assumes nothing.
-use mathlib.Core.Path.{_≡_, ap, _∙_, subst}
+use mathlib.Core.Path.{_≡_, sym, ap, _∙_, subst}
 use mathlib.Core.Bool.{cond, _&&_}
 use mathlib.Core.List.{List, [], _∷_}
 use Prim.Native.Nat.{ℕ, _+_, _-_, _≤_, _<_, max}
@@ -8,6 +8,7 @@ use native.Mathlib.Omega.{arith}
 use lib.ListN.{length, set, replicate, length-set}
 use lib.Seq.{slice, slice-cons, slice-empty, getD-set-same}
 use lib.Dec.{eqb}
+use borrow.Author.Tests.{eqb-true}
 use Rattle.basis.specs.Lists.{bit, memb}
 use Rattle.basis.specs.Perm.{times}
 use Rattle.basis.proofs.Logic.{by-test}
@@ -16,15 +17,21 @@ use Rattle.spec.specs.Levels.{part}
 use Rattle.laws.specs.Legal.{Node}
 use Rattle.levels_search.specs.Marks.{within, marked, found, rows}
 use Rattle.levels_search.specs.Queue.{Ready, Pushed}
-use Rattle.levels_search.proofs.Level.{Level, new-level, size, most, few, pos, vs-in, next, first-level, first}
+use Rattle.levels_search.proofs.AfterRounds.{AfterRounds, new-level, size, most, few, pos, vs-in, next, first-level, first}
 use Rattle.levels_search.proofs.Marks.{level-after, times-found}
-use Rattle.levels_search.proofs.Moves.{pushed-past, pushed-found}
-use Rattle.levels_search.proofs.Round.{window-in}
-use Rattle.levels_search.proofs.Tallies.{times-bit, greatest-at}
+use Rattle.levels_search.proofs.Pushed.{pushed-past, pushed-found}
+use Rattle.levels_search.proofs.Tallies.{ofNode-some, times-bit, greatest-at}
+use Rattle.levels_search.proofs.Within.{within-make}
+
+-- a list that holds the nodes of level i of L, each once, holds nodes alone
+window-in : (L W : List ℕ) (i : ℕ) → 1 ≤ i → ((q : ℕ) → times q W ≡ bit (eqb (ofNode L q) i)) → within (length L) W
+window-in L W i l h =
+    within-make (length L) W
+    (λ q m. ofNode-some L q (omega (arith, eqb-true (ofNode L q) i (sym (times-bit q W (eqb (ofNode L q) i) (h q)) ∙ m))))
 
 -- at the loop's head
 pub record Window (S N : List ℕ) (root : ℕ) (L Q : List ℕ) (a b depth width : ℕ) : Type 0 where
-  pub level : Level S N root L a (b - a) depth width
+  pub level : AfterRounds S N root L a (b - a) depth width
   pub queue-size : length Q ≡ sizeOf S
   pub order : a ≤ b
   pub holds : (q : ℕ) → times q (slice a b Q) ≡ bit (eqb (ofNode L q) (depth + 1))
@@ -59,12 +66,12 @@ module _ {S N : List ℕ} {root : ℕ} {L Q : List ℕ} {a b d w : ℕ} (I : Win
   pub got : (q : ℕ) → times q (found j L vs) ≡ bit (eqb (ofNode L q) 0 && memb q vs)
   got q = times-found j (pos (I .level) W) q (sizeOf S) L vs (size (I .level)) (vs-in (I .level) W)
 
-  level-next : a < b → Level S N root (marked j L vs) b (b + length (found j L vs) - b) (d + 1) (max w (b - a))
+  level-next : a < b → AfterRounds S N root (marked j L vs) b (b + length (found j L vs) - b) (d + 1) (max w (b - a))
   level-next h =
       let e : a + (b - a) ≡ b = omega arith in
       let f : length (found j L vs) ≡ b + length (found j L vs) - b = omega arith in
       let x = next (I .level) W (λ q. times-bit q W (eqb (ofNode L q) (d + 1)) (I .holds q)) (omega arith) in
-      subst (λ (m : ℕ). Level S N root (marked j L vs) b m (d + 1) (max w (b - a))) f (rw e at x)
+      subst (λ (m : ℕ). AfterRounds S N root (marked j L vs) b m (d + 1) (max w (b - a))) f (rw e at x)
 
   -- the queue never has more than the part
   pub bound : a < b → b + length (found j L vs) ≤ length (part (graphOf S N) root)

@@ -18,7 +18,7 @@ use Rattle.laws.proofs.Levels.{level-most, depth-most}
 use Rattle.laws.proofs.Refused.{passed, starts-of, not-refused}
 use Rattle.levels_laws.specs.Areas.{tallyOf}
 use Rattle.levels_search.specs.Answer.{Searched}
-use Rattle.levels_search.proofs.Round.{level-of}
+use Rattle.levels_search.proofs.Placed.{level-of}
 use Rattle.levels_sizes.specs.Sizes.{levelsAt, queueAt, Listable}
 
 -- the words from base on, as many as a search has

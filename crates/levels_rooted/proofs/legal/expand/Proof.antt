@@ -6,7 +6,7 @@ use native.Mathlib.Omega.{arith}
 use lib.ListN.{length}
 use lib.Seq.{slice}
 use Rattle.levels_search.specs.Marks.{found, rows}
-use Rattle.levels_search.proofs.Expands.{Expanding, expand-begin, readable-now, head-in, head-node, expand-step, through}
+use Rattle.levels_search.proofs.Expanding.{Expanding, expand-begin, readable-now, head-in, head-node, expand-step, through}
 use Rattle.levels_rooted.proofs.legal.expand.Statement.{statement}
 use Rattle.levels_rooted.proofs.legal.expand.Tie as tie
 

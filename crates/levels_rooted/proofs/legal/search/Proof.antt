@@ -1,18 +1,18 @@
--- `levels_rooted::legal::search` meets its contract: the loop is `Rounds.antt`'s. Assumes nothing.
+-- `levels_rooted::legal::search` meets its contract: the loop is `Searching.antt`'s. Assumes nothing.
 use mathlib.Core.Path.{_≡_, refl, sym, ap, _∙_}
 use Prim.Native.Nat.{_-_, _<_}
 use native.Mathlib.Omega.{arith}
 use lib.ListN.{length, length-replicate}
 use borrow.Author.Needs.{needs}
 use Rattle.spec.specs.Graph.{sizeOf}
-use Rattle.levels_search.proofs.Level.{size}
+use Rattle.levels_search.proofs.AfterRounds.{size}
 use Rattle.levels_search.proofs.Window.{b-most}
-use Rattle.levels_rooted.proofs.Rounds.{Rounds, begin, lists, room, inside, b-small, w-small, d-small, order, t-small, d-fits, step, listed, figures, counts}
+use Rattle.levels_rooted.proofs.Searching.{Searching, begin, lists, room, inside, b-small, w-small, d-small, order, t-small, d-fits, step, listed, figures, counts}
 use Rattle.levels_rooted.proofs.legal.search.Statement.{statement}
 use Rattle.levels_rooted.proofs.legal.search.Tie as tie
 
 abbrev Inv-loop : tie.InvT-loop
-Inv-loop starts neighbours root levels₀ sizes₀ at a₀ b₀ depth₀ width₀ levels sizes a b depth width = Rounds starts neighbours root levels sizes a b depth width
+Inv-loop starts neighbours root levels₀ sizes₀ at a₀ b₀ depth₀ width₀ levels sizes a b depth width = Searching starts neighbours root levels sizes a b depth width
 
 abbrev μ-loop : tie.MeasureT-loop
 μ-loop starts neighbours root levels₀ sizes₀ at a₀ b₀ depth₀ width₀ levels sizes a b depth width = sizeOf starts - a

@@ -6,8 +6,8 @@ use Prim.Native.Nat.{_-_, _<_}
 use native.Mathlib.Omega.{arith}
 use lib.ListN.{length}
 use borrow.Author.Needs.{needs}
-use Rattle.levels_search.proofs.Going.{Going, going-begin, going-done}
-use Rattle.levels_rooted.proofs.Visits.{low, inside, fits, taken, new}
+use Rattle.levels_search.proofs.Visiting.{Going, going-begin, going-done}
+use Rattle.levels_rooted.proofs.Visiting.{low, inside, fits, taken, new}
 use Rattle.levels_rooted.proofs.legal.visit.Statement.{statement}
 use Rattle.levels_rooted.proofs.legal.visit.Tie as tie
 

@@ -1,4 +1,4 @@
--- `levels_search::legal::expand` meets its contract: the loop is `Expands.antt`'s, in the two halves of one list. Assumes nothing.
+-- `levels_search::legal::expand` meets its contract: the loop is `Expanding.antt`'s, in the two halves of one list. Assumes nothing.
 use mathlib.Core.Path.{_≡_, sym, _∙_}
 use mathlib.Core.List.{List}
 use Prim.Native.Nat.{ℕ, _+_, _-_, _≤_, _<_}
@@ -9,8 +9,8 @@ use borrow.Author.Tests.{ltb-false}
 use Rattle.spec.specs.Graph.{rowOf}
 use Rattle.levels_search.specs.Marks.{within, found, rows}
 use Rattle.levels_search.specs.Queue.{Readable, Pushed, Lent}
-use Rattle.levels_search.proofs.Expands.{Expanding, expand-begin, head-in, head-node, expand-step, through, all}
-use Rattle.levels_search.proofs.Stores.{front-length, behind-length}
+use Rattle.levels_search.proofs.Expanding.{Expanding, expand-begin, head-in, head-node, expand-step, through, all}
+use Rattle.levels_search.proofs.Halves.{front-length, behind-length}
 use Rattle.levels_search.proofs.legal.expand.Statement.{statement}
 use Rattle.levels_search.proofs.legal.expand.Tie as tie
 

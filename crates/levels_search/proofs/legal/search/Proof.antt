@@ -1,4 +1,4 @@
--- `levels_search::legal::search` meets its contract: the loop is `Rounds.antt`'s, in the two halves of one list. Assumes nothing.
+-- `levels_search::legal::search` meets its contract: the loop is `Searching.antt`'s, in the two halves of one list. Assumes nothing.
 use mathlib.Core.Path.{_≡_, refl, sym, ap, _∙_, subst}
 use mathlib.Core.List.{List}
 use Prim.Native.Nat.{ℕ, _+_, _-_, _≤_, _<_, max}
@@ -12,10 +12,11 @@ use Rattle.laws.specs.Legal.{Node}
 use Rattle.levels_search.specs.Marks.{within, rows}
 use Rattle.levels_search.specs.Queue.{Readable, Lent, Pushed}
 use Rattle.levels_search.specs.Answer.{Searched}
-use Rattle.levels_search.proofs.Round.{readable}
-use Rattle.levels_search.proofs.Stores.{write-front, write-behind, take-replicate, drop-replicate}
-use Rattle.levels_search.proofs.Level.{w-most}
-use Rattle.levels_search.proofs.Rounds.{Rounds, begin, step, numbers, searched}
+use Rattle.levels_search.proofs.Within.{readable}
+use Rattle.levels_search.proofs.Halves.{write-front, write-behind}
+use Rattle.levels_search.proofs.Stores.{take-replicate, drop-replicate}
+use Rattle.levels_search.proofs.AfterRounds.{w-most}
+use Rattle.levels_search.proofs.Searching.{Searching, begin, step, numbers, searched}
 use Rattle.levels_search.proofs.Window.{nodes-in, b-most, ready, bound}
 use Rattle.levels_search.proofs.legal.search.Statement.{statement}
 use Rattle.levels_search.proofs.legal.search.Tie as tie
@@ -24,7 +25,7 @@ use Rattle.levels_search.proofs.legal.search.Tie as tie
 record Inside (S N : List ℕ) (root n : ℕ) (W : List ℕ) (last a b depth width : ℕ) : Type 0 where
   is : n ≡ sizeOf S
   full : length W ≡ n + n
-  on : Rounds S N root (take n W) (drop n W) last a b depth width
+  on : Searching S N root (take n W) (drop n W) last a b depth width
 
 -- what is had before the loop
 record Start (S N : List ℕ) (root : ℕ) (W : List ℕ) : Type 0 where

@@ -1,11 +1,11 @@
--- `levels_search::legal::visit` meets its contract: the loop is `Visits.antt`'s. Assumes nothing.
+-- `levels_search::legal::visit` meets its contract: the loop is `Visiting.antt`'s. Assumes nothing.
 use mathlib.Core.Path.{sym, _∙_}
 use Prim.Native.Nat.{_+_, _-_}
 use native.Mathlib.Omega.{arith}
 use lib.ListN.{length}
 use borrow.Author.Needs.{needs}
 use borrow.Author.Tests.{ltb-true}
-use Rattle.levels_search.proofs.Visits.{Visiting, visit-begin, lent, t-most, a-node, both-nodes, a-before, step-one, step-two, visit-done}
+use Rattle.levels_search.proofs.Visiting.{Visiting, visit-begin, lent, t-most, a-node, both-nodes, a-before, step-one, step-two, visit-done}
 use Rattle.levels_search.proofs.legal.visit.Statement.{statement}
 use Rattle.levels_search.proofs.legal.visit.Tie as tie
 

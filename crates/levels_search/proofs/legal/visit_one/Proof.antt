@@ -7,7 +7,7 @@ use lib.ListN.{length, getD, set, length-set}
 use borrow.Author.Needs.{needs}
 use Rattle.levels_search.specs.Marks.{within}
 use Rattle.levels_search.specs.Queue.{Lent, Moved}
-use Rattle.levels_search.proofs.Visits.{has-room, one, old}
+use Rattle.levels_search.proofs.OneOrTwo.{has-room, one, old}
 use Rattle.levels_search.proofs.legal.visit_one.Statement.{statement}
 use Rattle.levels_search.proofs.legal.visit_one.Tie as tie
 

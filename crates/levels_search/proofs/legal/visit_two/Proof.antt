@@ -12,7 +12,7 @@ use Rattle.basis.specs.Lists.{bit}
 use Rattle.basis.proofs.Count.{bit-most}
 use Rattle.levels_search.specs.Marks.{within}
 use Rattle.levels_search.specs.Queue.{Lent, Moved}
-use Rattle.levels_search.proofs.Visits.{two}
+use Rattle.levels_search.proofs.OneOrTwo.{two}
 use Rattle.levels_search.proofs.legal.visit_two.Statement.{statement}
 use Rattle.levels_search.proofs.legal.visit_two.Tie as tie
 

@@ -15,7 +15,7 @@ use Rattle.basis.specs.Perm.{times}
 use Rattle.basis.proofs.Logic.{by-test, eqb-self}
 use Rattle.spec.specs.Graph.{ofNode}
 use Rattle.levels_search.specs.Queue.{Queued}
-use Rattle.levels_search.proofs.Stores.{write-front, write-behind, front-length, behind-length}
+use Rattle.levels_search.proofs.Halves.{write-front, write-behind, front-length, behind-length}
 use Rattle.levels_search.proofs.Tallies.{ofNode-some, ofNode-set, levels-ext}
 use Rattle.levels_search.proofs.legal.wipe_each.Statement.{statement}
 use Rattle.levels_search.proofs.legal.wipe_each.Tie as tie

@@ -23,12 +23,13 @@ use Rattle.laws.proofs.Levels.{depth-some}
 use Rattle.laws.proofs.Refused.{passed, legal-graph}
 use Rattle.levels_search.specs.Marks.{within, marked, found, rows}
 use Rattle.levels_search.proofs.Marks.{times-none, times-gain, times-keep, greatest-marked, times-mark}
-use Rattle.levels_search.proofs.Round.{readable, within-rows, placed, length-placed, placed-few, first-placed, round, placed-last}
+use Rattle.levels_search.proofs.Within.{readable, within-rows}
+use Rattle.levels_search.proofs.Placed.{placed, length-placed, placed-few, first-placed, round, placed-last}
 use Rattle.levels_search.proofs.Tallies.{ofNode-set, times-set, times-zeros, times-rest, greatest-set, greatest-times, times-above, greatest-less, width-more, width-same, width-most}
 use Rattle.laws.proofs.Legal.{ofNode-at, ofNode-zeros}
 
 -- The nodes up to level depth + 1 are placed in L, `before` of them up to level depth and `count` at the last; width is that of the first depth levels.
-pub record Level (S N : List ℕ) (root : ℕ) (L : List ℕ) (before count depth width : ℕ) : Type 0 where
+pub record AfterRounds (S N : List ℕ) (root : ℕ) (L : List ℕ) (before count depth width : ℕ) : Type 0 where
   pub legal : graphRefusal S N ≡ 0
   pub node : Node (graphOf S N) root
   pub is : L ≡ placed (graphOf S N) root (depth + 1)
@@ -62,7 +63,7 @@ has-level zero j true h = sym (ap bit (lt-ltb 0 j h))
 has-level zero j false h = refl
 has-level (suc x) j e h = rw (ne-eqb (suc x) 0 (λ q. omega arith)) (omega arith)
 
-module _ {S N : List ℕ} {root : ℕ} {L : List ℕ} {before count d w : ℕ} (I : Level S N root L before count d w) where
+module _ {S N : List ℕ} {root : ℕ} {L : List ℕ} {before count d w : ℕ} (I : AfterRounds S N root L before count d w) where
   pub size : length L ≡ sizeOf S
   size = ap length (I .is) ∙ length-placed (graphOf S N) root (d + 1)
 
@@ -104,7 +105,7 @@ module _ {S N : List ℕ} {root : ℕ} {L : List ℕ} {before count d w : ℕ} (
         (λ i. max (f i) (k i)) ∙ sym (width-more (marked j L vs) d)
 
     pub next : ((q : ℕ) → memb q W ≡ eqb (ofNode L q) (d + 1)) → 0 < count
-        → Level S N root (marked j L vs) (before + count) (length (found j L vs)) (d + 1) (max w count)
+        → AfterRounds S N root (marked j L vs) (before + count) (length (found j L vs)) (d + 1) (max w count)
     next h some = record {
       legal = I .legal;
       node = I .node;
@@ -162,7 +163,7 @@ module _ (S N : List ℕ) {root : ℕ} (z : graphRefusal S N ≡ 0) (M : Node (g
   pub first-level : (q : ℕ) → ofNode (set zs (root - 1) 1) q ≡ cond (eqb q root) 1 0
   first-level q = ofNode-set zs root 1 q (M .low) root-in ∙ ap (λ (x : ℕ). cond (eqb q root) 1 x) (ofNode-zeros (sizeOf S) q)
 
-  pub first : Level S N root (set zs (root - 1) 1) 0 1 0 0
+  pub first : AfterRounds S N root (set zs (root - 1) 1) 0 1 0 0
   unfolding widthOf
   first =
       let e : ofNode zs root ≡ 0 = ofNode-zeros (sizeOf S) root in

@@ -7,9 +7,8 @@ use native.Mathlib.Numerals.{add-one}
 use native.Mathlib.Omega.{arith}
 use lib.ListN.{length, set, replicate, length-set, length-replicate, length-map}
 use lib.Dec.{eqb, leb, ltb}
-use borrow.Author.Tests.{eqb-true, ltb-true, ltb-false}
-use Rattle.basis.specs.Lists.{bit, memb, anyb, countb, greatest}
-use Rattle.basis.specs.Perm.{times}
+use borrow.Author.Tests.{ltb-true, ltb-false}
+use Rattle.basis.specs.Lists.{memb, anyb, countb, greatest}
 use Rattle.basis.proofs.Count.{count-map, count-mono}
 use Rattle.basis.proofs.Lists.{memb-here, memb-append, any-find, any-make}
 use Rattle.basis.proofs.Logic.{by-test, clash, same, or-right}
@@ -20,39 +19,12 @@ use Rattle.laws.specs.Rooted.{upTo, beside}
 use Rattle.laws.proofs.Legal.{length-nodes, by-node, ofNode-map, ofNode-zeros}
 use Rattle.laws.proofs.Levels.{rooted, placed-node, levelList-at}
 use Rattle.laws.proofs.Figures.{length-levelList, reached-part, reached-count}
-use Rattle.laws.proofs.Refused.{passed, starts-of, legal-graph}
+use Rattle.laws.proofs.Refused.{passed, legal-graph}
 use Rattle.laws.proofs.Rounds.{upTo-in, round-first, round-next, round-last, round-all}
-use Rattle.levels_search.specs.Marks.{within, marked, rows}
-use Rattle.levels_search.specs.Queue.{Readable}
+use Rattle.levels_search.specs.Marks.{marked, rows}
 use Rattle.levels_search.proofs.Marks.{length-marked, level-after}
-use Rattle.levels_search.proofs.Moves.{within-append, within-make}
-use Rattle.levels_search.proofs.Tallies.{ofNode-some, ofNode-set, times-bit, greatest-at}
-
--- ---- what the code asks of the two lists
-
-pub readable : (S N : List ℕ) → graphRefusal S N ≡ 0 → Readable (sizeOf S) S N
-unfolding adjoins
-readable S N z =
-    let P = passed S N z in
-    let G : LegalGraph (graphOf S N) = legal-graph P in
-    record {
-      is = refl;
-      starts = starts-of P;
-      inside = λ p. within-make (sizeOf S) (rowOf S N p) (λ q m. let M = G .inside p q m in (M .low, M .high));
-      rises = G .rises;
-    }
-
-pub within-rows : {n : ℕ} {S N : List ℕ} → Readable n S N → (W : List ℕ) → within n (rows S N W)
-unfolding rows
-within-rows R [] = tt
-within-rows {n} {S} {N} R (q ∷ W) = within-append n (rowOf S N q) (rows S N W) (R .inside q) (within-rows R W)
-
--- ---- the nodes of a window, where it holds the nodes of level i of L, each once
-
-pub window-in : (L W : List ℕ) (i : ℕ) → 1 ≤ i → ((q : ℕ) → times q W ≡ bit (eqb (ofNode L q) i)) → within (length L) W
-window-in L W i l h =
-    within-make (length L) W
-    (λ q m. ofNode-some L q (omega (arith, eqb-true (ofNode L q) i (sym (times-bit q W (eqb (ofNode L q) i) (h q)) ∙ m))))
+use Rattle.levels_search.proofs.Tallies.{ofNode-some, ofNode-set, greatest-at}
+use Rattle.levels_search.proofs.Within.{readable, within-rows}
 
 -- ---- two lists meet, from either side
 

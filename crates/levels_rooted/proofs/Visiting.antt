@@ -6,8 +6,8 @@ use native.Mathlib.Omega.{arith}
 use lib.ListN.{length, getD, set}
 use Rattle.spec.specs.Graph.{ofNode}
 use Rattle.laws.proofs.Legal.{ofNode-at}
-use Rattle.levels_search.proofs.Going.{Going, going-node, going-one}
-use Rattle.levels_search.proofs.Moves.{pushed-room, pushed-new, pushed-old}
+use Rattle.levels_search.proofs.Visiting.{Going, going-node, going-one}
+use Rattle.levels_search.proofs.Pushed.{pushed-room, pushed-new, pushed-old}
 
 module _ {row : List ℕ} {n : ℕ} {L₀ Q₀ : List ℕ} {tail j : ℕ} {L Q : List ℕ} {t k at : ℕ} (I : Going row n L₀ Q₀ tail j L Q t k) (h : k < length row)
     (e : at ≡ getD row k 0) where

@@ -1,49 +1,20 @@
--- What visiting nodes does to levels and queue: nothing, one node, and one run of nodes after another. Assumes nothing.
+-- Laws of `Pushed`, what visiting nodes does to levels and queue: nothing, one node, and one run of nodes after another. Assumes nothing.
 use mathlib.Core.Path.{_≡_, refl, sym, ap, _∙_}
 use mathlib.Core.List.{List, [], _∷_, _++_, append-nil, append-assoc}
-use Prim.Native.Nat.{ℕ, zero, suc, _+_, _-_, _≤_, _<_}
-use native.Mathlib.Nat.{not-suc-le-zero, le-of-suc-le-suc, add-zero, le-refl}
+use Prim.Native.Nat.{ℕ, _+_, _-_, _≤_, _<_}
+use native.Mathlib.Nat.{add-zero, le-refl}
 use native.Mathlib.Numerals.{add-one}
 use native.Mathlib.Omega.{arith}
-use lib.ListN.{length, take, drop, getD, set, drop-of-length-le, length-set, length-append}
+use lib.ListN.{length, take, drop, set, drop-of-length-le, length-set, length-append}
 use lib.Seq.{slice, drop-at, drop-set-lt, length-take-le, take-append-le, take-set-le, take-suc-set, take-take}
-use lib.Dec.{eqb}
-use borrow.Author.Tests.{eqb-true}
 use mathlib.Core.Bool.{Bool, true, false, cond}
-use Rattle.basis.specs.Lists.{bit, consIf, memb}
+use Rattle.basis.specs.Lists.{bit, consIf}
 use Rattle.basis.specs.Perm.{times}
-use Rattle.basis.proofs.Lists.{memb-here}
-use Rattle.basis.proofs.Logic.{by-test, clash, or-right}
 use Rattle.spec.specs.Graph.{ofNode}
 use Rattle.levels_search.specs.Marks.{within, free, marked, found}
 use Rattle.levels_search.specs.Queue.{Ready, Pushed}
 use Rattle.levels_search.proofs.Stores.{drop-later}
 use Rattle.levels_search.proofs.Marks.{mark-is, marked-none, length-marked, marked-append, found-append, found-taken, times-mark, times-none}
-
--- ---- entries of 1 to n
-
-pub within-at : (n : ℕ) (xs : List ℕ) (k : ℕ) → within n xs → k < length xs → (1 ≤ getD xs k 0) × (getD xs k 0 ≤ n)
-within-at n [] k w h = absurd (not-suc-le-zero h)
-within-at n (x ∷ xs) zero w h = (w .0, w .1)
-within-at n (x ∷ xs) (suc k) w h = within-at n xs k (w .2) (le-of-suc-le-suc h)
-
-pub within-append : (n : ℕ) (xs ys : List ℕ) → within n xs → within n ys → within n (xs ++ ys)
-within-append n [] ys a b = b
-within-append n (x ∷ xs) ys a b = (a .0, a .1, within-append n xs ys (a .2) b)
-
-pub within-make : (n : ℕ) (xs : List ℕ) → ((q : ℕ) → memb q xs ≡ true → (1 ≤ q) × (q ≤ n)) → within n xs
-within-make n [] h = tt
-within-make n (x ∷ xs) h =
-    (h x (memb-here x xs) .0, h x (memb-here x xs) .1, within-make n xs (λ q m. h q (or-right (eqb q x) m)))
-
-pub within-memb : (n : ℕ) (xs : List ℕ) (q : ℕ) → within n xs → memb q xs ≡ true → (1 ≤ q) × (q ≤ n)
-within-memb n [] q w m = clash m refl
-within-memb n (x ∷ xs) q w m =
-    by-test (eqb q x)
-    (λ t. let e : q ≡ x = eqb-true q x t in (rw e (w .0), rw e (w .1)))
-    (λ t. within-memb n xs q (w .2) (rw t at m))
-
--- ---- moves
 
 -- the word where the queue ends is written, and kept where the node is new
 written : (b : Bool) (Q : List ℕ) (t v : ℕ) → t < length Q → take (t + bit b) (set Q t v) ≡ take t Q ++ consIf b v []

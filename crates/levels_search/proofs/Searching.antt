@@ -26,16 +26,16 @@ use Rattle.levels_search.specs.Marks.{marked, found, rows}
 use Rattle.levels_search.specs.Queue.{Pushed}
 use Rattle.levels_search.specs.Answer.{rootedOf, Searched}
 use Rattle.levels_search.specs.declared.shape.Rooted.{Rooted}
-use Rattle.levels_search.proofs.Level.{Level, old-level, has-level, pos, kept, all, depth-is, depth-one, width-is, reached-is, first-level}
-use Rattle.levels_search.proofs.Moves.{pushed-past, pushed-window}
-use Rattle.levels_search.proofs.Round.{level-of}
+use Rattle.levels_search.proofs.AfterRounds.{AfterRounds, old-level, has-level, pos, kept, all, depth-is, depth-one, width-is, reached-is, first-level}
+use Rattle.levels_search.proofs.Pushed.{pushed-past, pushed-window}
+use Rattle.levels_search.proofs.Placed.{level-of}
 use Rattle.levels_search.proofs.Stores.{drop-later, drop-replicate}
 use Rattle.levels_search.proofs.Tallies.{once-bit}
 use Rattle.levels_search.proofs.Window.{Window, b-most, ready, after, got, window-step, first-window, window-begin}
 
 -- At the loop's head: the queue is the nodes placed, those of the last level from a up to b, and those of the level before from `last` up to a. The
 -- word where the queue ends may be any.
-pub record Rounds (S N : List ℕ) (root : ℕ) (L Q : List ℕ) (last a b depth width : ℕ) : Type 0 where
+pub record Searching (S N : List ℕ) (root : ℕ) (L Q : List ℕ) (last a b depth width : ℕ) : Type 0 where
   pub window : Window S N root L Q a b depth width
   pub front : (q : ℕ) → times q (take b Q) ≡ bit (ltb 0 (ofNode L q))
   pub zeros : drop (b + 1) Q ≡ drop (b + 1) (replicate (sizeOf S) 0)
@@ -45,7 +45,7 @@ pub record Rounds (S N : List ℕ) (root : ℕ) (L Q : List ℕ) (last a b depth
 
 -- ---- a round
 
-module _ {S N : List ℕ} {root : ℕ} {L Q : List ℕ} {last a b d w : ℕ} (I : Rounds S N root L Q last a b d w) where
+module _ {S N : List ℕ} {root : ℕ} {L Q : List ℕ} {last a b d w : ℕ} (I : Searching S N root L Q last a b d w) where
   abbrev j : ℕ
   j = d + 1 + 1
 
@@ -55,7 +55,7 @@ module _ {S N : List ℕ} {root : ℕ} {L Q : List ℕ} {last a b d w : ℕ} (I 
   abbrev vs : List ℕ
   vs = rows S N W
 
-  abbrev level : Level S N root L a (b - a) d w
+  abbrev level : AfterRounds S N root L a (b - a) d w
   level = I .window .level
 
   front-next : (q : ℕ) → times q (take b Q ++ found j L vs) ≡ bit (ltb 0 (ofNode (marked j L vs) q))
@@ -64,7 +64,7 @@ module _ {S N : List ℕ} {root : ℕ} {L Q : List ℕ} {last a b d w : ℕ} (I 
       rw (after (I .window) q) (omega (arith, count-append (eqb q) (take b Q) (found j L vs), I .front q, got (I .window) q))
 
   pub step : {L′ Q′ : List ℕ} {b′ w′ : ℕ} → a < b → Pushed vs j L Q b L′ Q′ b′ → w′ ≡ max w (b - a)
-      → Rounds S N root L′ Q′ a b b′ (d + 1) w′
+      → Searching S N root L′ Q′ a b b′ (d + 1) w′
   step {b′ = b′} h P ew =
       let R = ready (I .window) in
       record {
@@ -193,7 +193,7 @@ module _ (S N : List ℕ) {root : ℕ} (z : graphRefusal S N ≡ 0) (M : Node (g
   zs-size : length zs ≡ sizeOf S
   zs-size = length-replicate (sizeOf S) 0
 
-  pub begin : Rounds S N root (set zs (root - 1) 1) (set zs 0 root) 0 0 1 0 0
+  pub begin : Searching S N root (set zs (root - 1) 1) (set zs 0 root) 0 0 1 0 0
   begin =
       record {
         window = window-begin S N z M zs zs-size;

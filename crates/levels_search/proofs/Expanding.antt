@@ -11,7 +11,7 @@ use lib.Seq.{slice, slice-cons, slice-empty, getD-take}
 use Rattle.spec.specs.Graph.{rowOf}
 use Rattle.levels_search.specs.Marks.{within, found, rows}
 use Rattle.levels_search.specs.Queue.{Readable, Ready, Pushed}
-use Rattle.levels_search.proofs.Moves.{pushed-none, pushed-count, pushed-append, pushed-size, pushed-past, pushed-ready, pushed-window}
+use Rattle.levels_search.proofs.Pushed.{pushed-none, pushed-count, pushed-append, pushed-size, pushed-past, pushed-ready, pushed-window}
 
 -- at the loop's head: the window from h on is still to be expanded
 pub record Expanding (S N L₀ Q₀ : List ℕ) (bound a b j : ℕ) (L Q : List ℕ) (tail h : ℕ) : Type 0 where

@@ -18,25 +18,25 @@ use Rattle.laws.proofs.Figures.{sizes-counts}
 use Rattle.laws.proofs.Refused.{not-refused}
 use Rattle.levels_search.specs.Marks.{within, rows}
 use Rattle.levels_search.specs.Queue.{Readable, Ready, Pushed}
-use Rattle.levels_search.proofs.Level.{Level, size, w-most, kept, all, depth-is, width-is, reached-is}
-use Rattle.levels_search.proofs.Moves.{pushed-window}
-use Rattle.levels_search.proofs.Round.{readable}
+use Rattle.levels_search.proofs.AfterRounds.{AfterRounds, size, w-most, kept, all, depth-is, width-is, reached-is}
+use Rattle.levels_search.proofs.Pushed.{pushed-window}
+use Rattle.levels_search.proofs.Within.{readable}
 use Rattle.levels_search.proofs.Window.{Window, nodes-in, b-most, ready, window-step, window-begin}
 use Rattle.levels_rooted.specs.Answer.{figuresOf, listOf, countsOf}
 use Rattle.levels_rooted.specs.declared.shape.Figures.{Figures}
 
 -- at the loop's head: the first depth words are the sizes of the levels before the last, which stands from a up to b
-pub record Rounds (S N : List ℕ) (root : ℕ) (L Q : List ℕ) (a b depth width : ℕ) : Type 0 where
+pub record Searching (S N : List ℕ) (root : ℕ) (L Q : List ℕ) (a b depth width : ℕ) : Type 0 where
   pub window : Window S N root L Q a b depth width
   pub sizes : take depth Q ≡ map (countAt L) (upFrom 1 depth)
 
 pub begin : {S N : List ℕ} {root at : ℕ} {L : List ℕ} (Q : List ℕ) → graphRefusal S N ≡ 0 → (1 ≤ root) × (root ≤ sizeOf S) → L ≡ replicate (sizeOf S) 0
-    → length Q ≡ sizeOf S → at ≡ root → Rounds S N root (set L (at - 1) 1) (set Q 0 root) 0 1 0 0
+    → length Q ≡ sizeOf S → at ≡ root → Searching S N root (set L (at - 1) 1) (set Q 0 root) 0 1 0 0
 begin {S} {N} {root} {at} {L} Q z r c q e =
     record { window = rw (c, e) (window-begin S N z (record { low = r .0; high = r .1 }) Q q); sizes = refl }
 
-module _ {S N : List ℕ} {root : ℕ} {L Q : List ℕ} {a b d w : ℕ} (I : Rounds S N root L Q a b d w) where
-  abbrev level : Level S N root L a (b - a) d w
+module _ {S N : List ℕ} {root : ℕ} {L Q : List ℕ} {a b d w : ℕ} (I : Searching S N root L Q a b d w) where
+  abbrev level : AfterRounds S N root L a (b - a) d w
   level = I .window .level
 
   -- the nodes of the last level, and their rows
@@ -106,7 +106,7 @@ module _ {S N : List ℕ} {root : ℕ} {L Q : List ℕ} {a b d w : ℕ} (I : Rou
           ∙ map-cong (countAt L) (countAt L′) (upFrom 1 d) (λ i m. let u = upFrom-in 1 d i m in kept-count i (u .0) (omega (arith, u .1))) in
           ap (λ (k : ℕ). take k (set Q′ d x)) (add-one d) ∙ take-suc-set Q′ d x d-fits ∙ (λ i. f i ++ (c i ∷ [])) ∙ sym (map-next (countAt L′) 1 d)
 
-      pub step : {at x w′ : ℕ} → at ≡ d → x ≡ b - a → w′ ≡ max w (b - a) → Rounds S N root L′ (set Q′ at x) b t (d + 1) w′
+      pub step : {at x w′ : ℕ} → at ≡ d → x ≡ b - a → w′ ≡ max w (b - a) → Searching S N root L′ (set Q′ at x) b t (d + 1) w′
       step {x = x} e ex ew = rw (e, ew) record {
         window = record {
           level = next .level;
