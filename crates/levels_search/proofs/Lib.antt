@@ -11,3 +11,6 @@ pub mod Placed
 pub mod AfterRounds
 pub mod Window
 pub mod Searching
+pub mod Toward
+pub mod Ahead
+pub mod Wiping

@@ -4,12 +4,12 @@ use Prim.Native.Nat.{_+_, _-_, _<_}
 use native.Mathlib.Omega.{arith}
 use lib.ListN.{length, length-set}
 use borrow.Author.Needs.{needs}
-use Rattle.levels_ends.proofs.Copying.{Inside, inside-begin, i-fits, v-low, v-fits, inside-step, inside-done}
+use Rattle.levels_ends.proofs.Copying.{Copying, copy-begin, copy-size, i-fits, v-low, v-fits, copy-step, copied}
 use Rattle.levels_ends.proofs.legal.copy_over.Statement.{statement}
 use Rattle.levels_ends.proofs.legal.copy_over.Tie as tie
 
 abbrev Inv-loop : tie.InvT-loop
-Inv-loop work₀ n count half i₀ work i = Inside n count work₀ work i
+Inv-loop work₀ n count half i₀ work i = Copying n count work₀ work i
 
 abbrev μ-loop : tie.MeasureT-loop
 μ-loop work₀ n count half i₀ work i = count - i
@@ -18,7 +18,7 @@ add-half : tie.Need-add-half Inv-loop μ-loop
 add-half c = omega (arith, c .before .pre .full)
 
 loop-holds : tie.Need-loop-holds Inv-loop μ-loop
-loop-holds c = inside-begin (c .before .pre)
+loop-holds c = copy-begin (c .before .pre)
 
 add-p : tie.Need-add-p Inv-loop μ-loop
 add-p c = omega (arith, i-fits (c .before .loop .inv) (c .loop-test .taken))
@@ -45,16 +45,16 @@ room : (c : tie.After-wide Inv-loop μ-loop) → let n = c .before .before .befo
 room c = i-fits (c .before .before .before .loop .inv) (c .before .before .loop-test .taken)
 
 add-work : tie.Need-add-work Inv-loop μ-loop
-add-work c = omega (arith, fits c)
+add-work c = omega (arith, fits c, copy-size (c .before .before .before .loop .inv))
 
 mul-work : tie.Need-mul-work Inv-loop μ-loop
-mul-work c = omega (arith, fits c)
+mul-work c = omega (arith, fits c, copy-size (c .before .before .before .loop .inv))
 
 slice-read-work : tie.Need-slice-read-work Inv-loop μ-loop
 slice-read-work c = fits (c .before)
 
 mul-work-2 : tie.Need-mul-work-2 Inv-loop μ-loop
-mul-work-2 c = omega (arith, fits (c .before))
+mul-work-2 c = omega (arith, fits (c .before), copy-size (c .before .before .before .before .loop .inv))
 
 slice-write-work : tie.Need-slice-write-work Inv-loop μ-loop
 slice-write-work c = omega (arith, fits (c .before))
@@ -75,13 +75,13 @@ loop-less : tie.Need-loop-less Inv-loop μ-loop
 loop-less c = omega (arith, c .before .before .before .loop-test .taken)
 
 loop-again : tie.Need-loop-again Inv-loop μ-loop
-loop-again c = inside-step (c .before .before .before .before .loop .inv) (c .before .before .before .loop-test .taken) (c .before .wide .ensures)
+loop-again c = copy-step (c .before .before .before .before .loop .inv) (c .before .before .before .loop-test .taken) (c .before .wide .ensures)
 
 same-length : tie.Need-same-length Inv-loop μ-loop
-same-length c = c .before .loop .inv .full ∙ sym (c .before .before .before .pre .full)
+same-length c = copy-size (c .before .loop .inv) ∙ sym (c .before .before .before .pre .full)
 
 returns : tie.Need-returns Inv-loop μ-loop
-returns c = inside-done (c .before .loop .inv) (c .loop-test .left)
+returns c = copied (c .before .loop .inv) (c .loop-test .left)
 
 pub copy-over-spec : {M : Type 1} → statement M
 copy-over-spec =
