@@ -64,9 +64,10 @@ pass-requires c κs = let s = start (c .before .before .before) in (s .args .fir
 
 loop-holds : tie.Need-loop-holds Inv-loop μ-loop
 loop-holds c =
-    let at = c .before .before .before .before .before .before in
+    let p = c .before .before in
+    let at = p .before .before .before .before in
     let s = start at in
-    going-begin (s .args .starts .now) (s .args .neighbours .now) (s .pre .0) (node s) (s .pre .1 .1 .1) (s .pre .1 .1 .0) (at .search .ensures .0) (c .before .before .pass .ensures (s .args .first) (begun at))
+    going-begin (s .args .starts .now) (s .args .neighbours .now) (s .pre .0) (node s) (s .pre .1 .1 .1) (s .pre .1 .1 .0) (at .search .ensures .0) (p .pass .ensures (s .args .first) (begun at))
 
 wide-requires : tie.Need-wide-requires Inv-loop μ-loop
 wide-requires c κs = search needs
@@ -74,30 +75,42 @@ wide-requires c κs = search needs
 take-over-requires : tie.Need-take-over-requires Inv-loop μ-loop
 take-over-requires c κs = one-part (c .before .before .before .before .loop .inv) (c .before .before .before .loop-test .taken) (c .wide .ensures)
 
+-- the loop's test, from where the next search is taken over
+abbrev test : tie.After-take-over Inv-loop μ-loop → tie.In-loop Inv-loop μ-loop
+test c = c .before .before .before .before
+
+-- where it is taken over, from the pass that follows
+abbrev over : tie.After-pass2 Inv-loop μ-loop → tie.After-take-over Inv-loop μ-loop
+over c = c .before .before .before .before
+
 add-passes : tie.Need-add-passes Inv-loop μ-loop
-add-passes c = let I = c .before .before .before .before .before .before .before .loop .inv in omega (arith, I .few, small I)
+add-passes c = let I = test (c .before .before) .before .loop .inv in omega (arith, I .few, small I)
 
 pass-requires-2 : tie.Need-pass-requires-2 Inv-loop μ-loop
 pass-requires-2 c κs =
-    let at = c .before .before .before .before .before .before .before .before in
-    (at .loop .t .node, next-at (at .loop .inv) (c .before .before .before .before .before .before .before .loop-test .taken) (c .before .before .before .take-over .ensures))
+    let o = c .before .before .before in
+    let at = test o .before in
+    (at .loop .t .node, next-at (at .loop .inv) (test o .loop-test .taken) (o .take-over .ensures))
 
 loop-less : tie.Need-loop-less Inv-loop μ-loop
 loop-less c =
-    let at = c .before .before .before .before .before .before .before .before .before .before .before in
-    let d = c .before .before .before .before .before .before .before .before .before .before .loop-test .taken in
-    omega (arith, grows (at .loop .inv) d, less (at .loop .inv) d)
+    let t = test (over (c .before .before)) in
+    let I = t .before .loop .inv in
+    omega (arith, grows I (t .loop-test .taken), less I (t .loop-test .taken))
 
 loop-again : tie.Need-loop-again Inv-loop μ-loop
 loop-again c =
-    let at = c .before .before .before .before .before .before .before .before .before .before .before in
-    let d = c .before .before .before .before .before .before .before .before .before .before .loop-test .taken in
-    going-next (at .loop .inv) d (c .before .before .pass2 .ensures (at .loop .t .node) (next-at (at .loop .inv) d (c .before .before .before .before .before .before .take-over .ensures)))
+    let p = c .before .before in
+    let o = over p in
+    let d = test o .loop-test .taken in
+    let at = test o .before in
+    going-next (at .loop .inv) d (p .pass2 .ensures (at .loop .t .node) (next-at (at .loop .inv) d (o .take-over .ensures)))
 
 same-length : tie.Need-same-length Inv-loop μ-loop
 same-length c =
     let at = c .before in
-    let s = start (at .before .before .before .before .before .before .before) in
+    let p = at .before .before .before in
+    let s = start (p .before .before .before .before) in
     at .loop .inv .gave .full ∙ sym (first-full (s .args .starts .now) (s .args .neighbours .now) (s .pre .0) (node s) (s .pre .1 .1 .1))
 
 returns : tie.Need-returns Inv-loop μ-loop

@@ -56,13 +56,15 @@ loop-less c = omega arith
 
 loop-again : tie.Need-loop-again Inv-loop μ-loop
 loop-again c =
-    let at-loop = c .before .before .before .before .before .before in
+    let at-loop-test = c .before .before .before .before .before in
+    let at-loop = at-loop-test .before in
+    let start = at-loop .before .before .before .before in
     let I = at-loop .loop .inv in
-    let S = at-loop .before .before .before .before .args .starts .now in
-    let h = c .before .before .before .before .before .loop-test .taken in
+    let S = start .args .starts .now in
+    let h = at-loop-test .loop-test .taken in
     let e = c .before .before .before .wide .ensures in
     let f = c .before .before .wide2 .ensures in
-    let l = at-loop .before .before .before .before .args .nodes .now in
+    let l = start .args .nodes .now in
     let is : (N : List ℕ) → Starts S N → beforeE (graphOf S N) (getD l (at-loop .loop .i) 0) (at-loop .loop .first) ≡ c .before .precedes .result =
     λ N A. (λ i. beforeE (graphOf S N) (sym e i) (sym f i)) ∙ sym (c .before .precedes .ensures N A) in
     ⊎-elim (λ w. rw (w .1) (running-new I h (λ N A. is N A ∙ w .0 .taken))) (λ w. rw (w .1) (running-old I h (λ N A. is N A ∙ w .0 .left))) (c .if1 .came)

@@ -81,21 +81,24 @@ first-in-e-requires c κs =
 
 wipe-requires : tie.Need-wipe-requires
 wipe-requires c κs =
-    let at = c .before .before .before .before .before .before .before in
-    let s = start at in
-    subst (λ (m : ℕ). Queued (sizeOf (s .args .starts .now)) m (at .search .last .1 .1 .1 .1 .0)) (sym (reached-is (c .before .before .before .before))) (kept at .holds)
+    let at-wide = c .before .before .before .before in
+    let at-search = at-wide .before .before .before in
+    let s = start at-search in
+    subst (λ (m : ℕ). Queued (sizeOf (s .args .starts .now)) m (at-search .search .last .1 .1 .1 .1 .0)) (sym (reached-is at-wide)) (kept at-search .holds)
 
 same-length : tie.Need-same-length
 same-length c = search needs
 
 returns : tie.Need-returns
 returns c =
-    let at = c .before .before .before .before .before .before .before .before .before .before in
-    let s = start at in
+    let at-first-in-e = c .before .before .before .before in
+    let at-wide = at-first-in-e .before .before .before in
+    let at-search = at-wide .before .before .before in
+    let s = start at-search in
     let A = starts-of (passed (s .args .starts .now) (s .args .neighbours .now) (s .pre .0)) in (
-      c .before .before .before .before .first-in-e .ensures (s .args .neighbours .now) A
+      at-first-in-e .first-in-e .ensures (s .args .neighbours .now) A
           ∙ ap (firstInE (graphOf (s .args .starts .now) (s .args .neighbours .now))) (queue-lent (c .before .before .before .before .before))
-          ∙ first-perm (graphOf (s .args .starts .now) (s .args .neighbours .now)) (kept at .members),
+          ∙ first-perm (graphOf (s .args .starts .now) (s .args .neighbours .now)) (kept at-search .members),
       c .before .before .wipe .ensures ∙ sym (s .pre .1 .1),
     )
 

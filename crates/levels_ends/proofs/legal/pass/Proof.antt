@@ -60,8 +60,9 @@ same-length c = search needs
 
 returns : tie.Need-returns
 returns c v A =
-    let at = c .before .before .before .before .before .before .before .before in
-    pass-done A (sorted at v A) (c .before .before .before .before .wide .ensures) (c .before .before .before .wide2 .ensures)
+    let at-wide = c .before .before .before .before in
+    let at-sort-last = at-wide .before .before .before .before in
+    pass-done A (sorted at-sort-last v A) (at-wide .wide .ensures) (c .before .before .before .wide2 .ensures)
     (c .before .before .try-each .kept .1 .1 .0) (c .before .before .try-each .ensures)
 
 pub pass-spec : {M : Type 1} → statement M

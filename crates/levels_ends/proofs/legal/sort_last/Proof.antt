@@ -51,9 +51,11 @@ same-length c = search needs
 
 returns : tie.Need-returns
 returns c N v A =
-    let w = c .before .before .before .before .before .wide .ensures in
+    let at-wide = c .before .before .before .before .before in
+    let start = at-wide .before .before .before in
+    let w = at-wide .wide .ensures in
     let w2 = c .before .before .before .before .wide2 .ensures in
-    last-sorted A w w2 (c .before .before .by-e .last .1 .0) (c .before .before .by-e .ensures N (starts-of (passed (c .before .before .before .before .before .before .before .before .args .starts .now) N (A .legal))))
+    last-sorted A w w2 (c .before .before .by-e .last .1 .0) (c .before .before .by-e .ensures N (starts-of (passed (start .args .starts .now) N (A .legal))))
 
 pub sort-last-spec : {M : Type 1} → statement M
 sort-last-spec =

@@ -46,12 +46,13 @@ same-length c = search needs
 
 returns : tie.Need-returns
 returns c =
-    let at = c .before .before .before .before .before .before in
-    let s = at .before .before .before in
-    let h : ℕ = s .args .n + s .args .n in
-    let B : List ℕ = drop h (s .args .work .now) in
-    second-back h (at .copy-over .last .0) (full at) (c .before .before .wipe .last .0)
-    ∙ (λ i. (ap (take h) (at .copy-over .ensures) ∙ first-half h B B (s .pre .second .full)) i ++ c .before .before .wipe .ensures i)
+    let at-wipe = c .before .before in
+    let at-copy-over = at-wipe .before .before .before .before in
+    let start = at-copy-over .before .before .before in
+    let h : ℕ = start .args .n + start .args .n in
+    let B : List ℕ = drop h (start .args .work .now) in
+    second-back h (at-copy-over .copy-over .last .0) (full at-copy-over) (at-wipe .wipe .last .0)
+    ∙ (λ i. (ap (take h) (at-copy-over .copy-over .ensures) ∙ first-half h B B (start .pre .second .full)) i ++ at-wipe .wipe .ensures i)
 
 pub take-over-spec : {M : Type 1} → statement M
 take-over-spec =

@@ -53,10 +53,18 @@ probe-requires c κs =
     let h = c .before .before .loop-test .taken in
     (I .legal, (node-in I h, (part-few I h, holds-lent I)))
 
+-- the loop's test, from where s is probed
+abbrev test : tie.After-probe Inv-loop μ-loop → tie.In-loop Inv-loop μ-loop
+test c = c .before .before .before
+
+-- where s is probed, from where the count of its part is read
+abbrev probed : tie.After-wide Inv-loop μ-loop → tie.After-probe Inv-loop μ-loop
+probed c = c .before .before .before .before .before
+
 same-length : tie.Need-same-length Inv-loop μ-loop
 same-length c =
     let at = c .before .before .before .before in
-    let in-loop = at .before .before .before .before in
+    let in-loop = test at .before in
     let S = in-loop .before .before .before .before .args .starts .now in
     same-len-mid (half S) (length (in-loop .loop .work) - half S) (in-loop .loop .work) (at .probe .last .1 .1 .1 .1 .1 .0) (at .probe .kept .1 .1 .1 .1 .1 .0)
     ∙ in-loop .loop .inv .full
@@ -64,7 +72,7 @@ same-length c =
 returns : tie.Need-returns Inv-loop μ-loop
 returns c =
     let at = c .before .before .before .before in
-    trying-deep (at .before .before .before .before .loop .inv) (at .before .before .before .loop-test .taken) (at .probe .ensures .0) (at .probe .ensures .1) (c .if1 .taken)
+    trying-deep (test at .before .loop .inv) (test at .loop-test .taken) (at .probe .ensures .0) (at .probe .ensures .1) (c .if1 .taken)
 
 wide-requires : tie.Need-wide-requires Inv-loop μ-loop
 wide-requires c κs = search needs
@@ -73,15 +81,15 @@ narrower-requires : tie.Need-narrower-requires Inv-loop μ-loop
 narrower-requires c κs = search needs
 
 add-i : tie.Need-add-i Inv-loop μ-loop
-add-i c = omega (arith, fits (c .before .before .before .before .before .before .before .before .before .before .loop .inv) (c .before .before .before .before .before .before .before .before .before .loop-test .taken))
+add-i c = let t = test (probed (c .before)) in omega (arith, fits (t .before .loop .inv) (t .loop-test .taken))
 
 loop-less : tie.Need-loop-less Inv-loop μ-loop
-loop-less c = omega (arith, c .before .before .before .before .before .before .before .before .before .loop-test .taken)
+loop-less c = omega (arith, test (probed (c .before)) .loop-test .taken)
 
 loop-again : tie.Need-loop-again Inv-loop μ-loop
 loop-again c =
-    let at = c .before .before .before .before .before .before in
-    trying-next (at .before .before .before .before .loop .inv) (at .before .before .before .loop-test .taken) (at .probe .ensures .0) (at .probe .ensures .1)
+    let at = probed (c .before) in
+    trying-next (test at .before .loop .inv) (test at .loop-test .taken) (at .probe .ensures .0) (at .probe .ensures .1)
     (c .before .before .if1 .left) (c .before .wide .ensures) (c .narrower .ensures)
 
 mul-probe-other : tie.Need-mul-probe-other Inv-loop μ-loop

@@ -56,7 +56,7 @@ loop-holds c =
     let s = c .before .before .before in
     begin (s .pre .0) (s .pre .1 .0) (s .pre .1 .1 .0) (s .pre .1 .1 .1 .0) (s .pre .1 .1 .1 .1)
 
-in-queue : (c : tie.Then1 Inv-loop μ-loop) → c .before .before .before .before .before .before .args .n + c .before .before .loop .h < length (c .before .before .loop .work)
+in-queue : (c : tie.Then1 Inv-loop μ-loop) → let at = c .before .before in at .before .before .before .before .args .n + at .loop .h < length (at .loop .work)
 in-queue c = h-in (c .before .before .loop .inv) (c .before .loop-test .taken)
 
 add-p : tie.Need-add-p Inv-loop μ-loop
@@ -87,7 +87,7 @@ loop-again c =
     again (at-test .before .loop .inv) (at-test .loop-test .taken) (v .visit-node .kept .1 .1 .0) (v .visit-node .ensures)
 
 same-length : tie.Need-same-length Inv-loop μ-loop
-same-length c = c .before .before .loop .inv .size ∙ sym (c .before .before .before .before .before .before .pre .0 .size)
+same-length c = let at = c .before .before in at .loop .inv .size ∙ sym (at .before .before .before .before .pre .0 .size)
 
 returns : tie.Need-returns Inv-loop μ-loop
 returns c =

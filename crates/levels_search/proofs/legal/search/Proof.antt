@@ -111,9 +111,13 @@ Inv-loop starts neighbours root most work₀ n at last₀ a₀ b₀ depth₀ wid
 abbrev μ-loop : tie.MeasureT-loop
 μ-loop starts neighbours root most work₀ n at last₀ a₀ b₀ depth₀ width₀ work last a b depth width = sizeOf starts - a
 
-start : (c : tie.After-wide Inv-loop μ-loop) → let s = c .before .before .before .before in Start (s .args .starts .now) (s .args .neighbours .now) (s .args .root) (s .args .work .now)
+-- where the function starts
+abbrev first : tie.After-wide Inv-loop μ-loop → tie.Start Inv-loop μ-loop
+first c = c .before .before .before .before
+
+start : (c : tie.After-wide Inv-loop μ-loop) → let s = first c in Start (s .args .starts .now) (s .args .neighbours .now) (s .args .root) (s .args .work .now)
 start c =
-    let s = c .before .before .before .before in
+    let s = first c in
     record { legal = s .pre .0; node = record { low = s .pre .1 .0 .0; high = s .pre .1 .0 .1 }; zero = s .pre .1 .1 .1 }
 
 sub-n : tie.Need-sub-n Inv-loop μ-loop
@@ -154,15 +158,23 @@ add-expand c = omega (arith, d-small (c .before .before .before .loop .inv) (c .
 
 expand-requires : tie.Need-expand-requires Inv-loop μ-loop
 expand-requires c κs =
-    let I = c .before .before .before .loop .inv in
-    let s = c .before .before .before .before .before .before .before .before in
-    (lent I, (graph I, (I .on .window .order, (window I, le-trans (bound (I .on .window) (c .before .before .loop-test .taken)) (s .pre .1 .1 .0)))))
+    let t = c .before .before in
+    let I = t .before .loop .inv in
+    let s = first (t .before .before) in
+    (lent I, (graph I, (I .on .window .order, (window I, le-trans (bound (I .on .window) (t .loop-test .taken)) (s .pre .1 .1 .0)))))
+
+-- the loop's test, from where a level is expanded
+abbrev test : tie.After-expand Inv-loop μ-loop → tie.In-loop Inv-loop μ-loop
+test c = c .before .before .before
 
 loop-less : tie.Need-loop-less Inv-loop μ-loop
-loop-less c = omega (arith, c .before .before .before .before .before .loop-test .taken, b-most (c .before .before .before .before .before .before .loop .inv .on .window))
+loop-less c = let t = test (c .before .before) in omega (arith, t .loop-test .taken, b-most (t .before .loop .inv .on .window))
 
 loop-again : tie.Need-loop-again Inv-loop μ-loop
-loop-again c = again (c .before .before .before .before .before .before .loop .inv) (c .before .before .before .before .before .loop-test .taken) (c .before .before .expand .kept .1 .1 .0) (c .before .before .expand .ensures) (c .before .before .before .before .larger .ensures)
+loop-again c =
+    let x = c .before .before in
+    let t = test x in
+    again (t .before .loop .inv) (t .loop-test .taken) (x .expand .kept .1 .1 .0) (x .expand .ensures) (x .before .before .larger .ensures)
 
 shut-requires : tie.Need-shut-requires Inv-loop μ-loop
 shut-requires c κs = c .before .before .loop .inv .full

@@ -26,7 +26,8 @@ row-is c =
 
 visit-requires : tie.Need-visit-requires
 visit-requires c κs =
-    let s = c .before .before .before .before .before .before in
+    let w = c .before .before in
+    let s = w .before .before .before .before in
     let r = sym (row-is (c .before)) in
     let G = s .pre .1 .0 in (
       s .pre .0,

@@ -68,18 +68,18 @@ new-x c =
     let b = c .before .before .before in
     omega (arith, c .none .ensures, bit-most (eqb (getD (b .before .before .before .args .work .now) (b .before .wide .result - 1) 0) 0))
 
-in-words : (c : tie.After-none) → let s = c .before .before .before .before .before .before in s .args .n + (s .args .tail + 1) < length (s .args .work .now)
-in-words c = let s = c .before .before .before .before .before .before in omega (arith, s .pre .1 .1 .1, s .pre .0 .size)
+-- where the function starts
+abbrev start-of : tie.After-none → tie.Start
+start-of c = let w = c .before .before .before .before in w .before .before
 
-a-in : (c : tie.After-none) → c .before .before .before .before .wide .result - 1 < length (c .before .before .before .before .before .before .args .work .now)
-a-in c =
-    let s = c .before .before .before .before .before .before in
-    omega (arith, c .before .before .before .before .wide .ensures, s .pre .0 .size, s .pre .1 .0 .1, s .pre .1 .0 .0)
+in-words : (c : tie.After-none) → let s = start-of c in s .args .n + (s .args .tail + 1) < length (s .args .work .now)
+in-words c = let s = start-of c in omega (arith, s .pre .1 .1 .1, s .pre .0 .size)
 
-b-in : (c : tie.After-none) → c .before .before .before .wide2 .result - 1 < length (c .before .before .before .before .before .before .args .work .now)
-b-in c =
-    let s = c .before .before .before .before .before .before in
-    omega (arith, c .before .before .before .wide2 .ensures, s .pre .0 .size, s .pre .1 .0 .2 .1, s .pre .1 .0 .2 .0)
+a-in : (c : tie.After-none) → c .before .before .before .before .wide .result - 1 < length (start-of c .args .work .now)
+a-in c = let s = start-of c in omega (arith, c .before .before .before .before .wide .ensures, s .pre .0 .size, s .pre .1 .0 .1, s .pre .1 .0 .0)
+
+b-in : (c : tie.After-none) → c .before .before .before .wide2 .result - 1 < length (start-of c .args .work .now)
+b-in c = let s = start-of c in omega (arith, c .before .before .before .wide2 .ensures, s .pre .0 .size, s .pre .1 .0 .2 .1, s .pre .1 .0 .2 .0)
 
 add-t : tie.Need-add-t
 add-t c = omega (arith, new-x c, in-words c)
@@ -125,8 +125,8 @@ none-requires-2 c κs = search needs
 
 new-y : (c : tie.After-none2) → c .none2 .result ≤ 1
 new-y c =
-    let b = c .before .before .before .before .before .before in
-    omega (arith, c .none2 .ensures, bit-most (eqb (getD (b .before .before .before .args .work .now) (b .wide2 .result - 1) 0) 0))
+    let x = c .before .before .before in
+    omega (arith, c .none2 .ensures, bit-most (eqb (getD (start-of x .args .work .now) (x .before .before .before .wide2 .result - 1) 0) 0))
 
 add-result : tie.Need-add-result
 add-result c = omega (arith, new-x (c .before .before .before), new-y c, in-words (c .before .before .before))
@@ -137,7 +137,7 @@ same-length c = search needs
 returns : tie.Need-returns
 returns c =
     let at-none = c .before .before .before in
-    let s = at-none .before .before .before .before .before .before in
+    let s = start-of at-none in
     let at-b = at-none .before .before .before in
     both (s .pre .0) (s .pre .1 .0) (s .pre .1 .1 .0) (s .pre .1 .1 .1) (at-b .before .wide .ensures) (at-b .wide2 .ensures)
     (record { is-new = at-none .none .ensures; is-level = c .before .before .level .ensures })

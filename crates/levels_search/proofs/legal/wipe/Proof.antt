@@ -26,8 +26,9 @@ same-length-2 c = search needs
 
 returns-2 : tie.Need-returns-2
 returns-2 c =
-    let s = c .before .before .before .before .before .before in
-    c .before .before .clear .ensures ∙ zeroed-all (s .args .n + s .args .n) (s .args .work .now) (s .pre .full)
+    let z = c .before .before in
+    let s = z .before .before .before .before in
+    z .clear .ensures ∙ zeroed-all (s .args .n + s .args .n) (s .args .work .now) (s .pre .full)
 
 pub wipe-spec : {M : Type 1} → statement M
 wipe-spec =
