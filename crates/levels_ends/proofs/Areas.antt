@@ -114,8 +114,18 @@ module _ (n m c : ℕ) (W : List ℕ) (full : length W ≡ n + n) (low : m ≤ c
   pub old-size : length old ≡ c - m
   old-size = mid-len (n + m) (n + c) W (omega arith) ∙ omega arith
 
-  pub old-is : with old ≡ W
+  old-is : with old ≡ W
   old-is = put-same (n + m) (n + c - (n + m)) W
+
+  -- the queue as it was: its members, its last level, and what stands behind
+  pub old-members : take c (drop n W) ≡ drop n P ++ old
+  old-members = ap (λ (l : List ℕ). take c (drop n l)) (sym old-is) ∙ with-members old old-size
+
+  pub old-tail : slice m c (drop n W) ≡ old
+  old-tail = ap (λ (l : List ℕ). slice m c (drop n l)) (sym old-is) ∙ with-tail old old-size
+
+  pub old-rest : drop c (drop n W) ≡ R
+  old-rest = ap (λ (l : List ℕ). drop c (drop n l)) (sym old-is) ∙ with-rest old old-size
 
 -- what is left of a search when its last level is put into another order
 pub searched-sorted : {S N : List ℕ} {v : ℕ} {W : List ℕ} (X : List ℕ) (m c : ℕ) → m ≡ rootedOf (levels (graphOf S N) v) .last → c ≡ reached (levels (graphOf S N) v) → Searched S N v W
@@ -125,24 +135,22 @@ searched-sorted {S} {N} {v} {W} X m c em ec K p =
     let low : m ≤ c = omega (arith, em, ec) in
     let high : c ≤ n = omega (arith, ec, K .holds .most) in
     let f = K .holds .full in
-    let T : List ℕ = old n m c W f low high in
-    let t : length T ≡ c - m = old-size n m c W f low high in
+    let t = old-size n m c W f low high in
     let x : length X ≡ c - m = perm-length p ∙ t in
-    let is : with n m c W f low high T ≡ W = old-is n m c W f low high in
-    let D : List ℕ = drop n (take (n + m) W) in
-    let q : take c (drop n W) ≡ D ++ T = ap (λ (l : List ℕ). take c (drop n l)) (sym is) ∙ with-members n m c W f low high T t in
+    let q = old-members n m c W f low high in
+    let both = perm-append (perm-refl (drop n (take (n + m) W))) p in
     record {
       listed = with-levels n m c W f low high X x ∙ take-take n (n + m) W (omega arith) ∙ K .listed;
-      members = rw (← ec, with-members n m c W f low high X x) (perm-trans (perm-append (perm-refl D) p) (rw (← ec, q) at (K .members)));
+      members = rw (← ec, with-members n m c W f low high X x) (perm-trans both (rw (← ec, q) at (K .members)));
       tail = rw (← em, ← ec, with-tail n m c W f low high X x)
-          (perm-trans p (rw (← em, ← ec, ap (λ (l : List ℕ). slice m c (drop n l)) (sym is) ∙ with-tail n m c W f low high T t) at (K .tail)));
+          (perm-trans p (rw (← em, ← ec, old-tail n m c W f low high) at (K .tail)));
       holds = rw (← ec) record {
         full = same-len-mid (n + m) (n + c - (n + m)) W X (x ∙ sym t) ∙ f;
         most = high;
         each = λ y.
             rw (with-members n m c W f low high X x, with-levels n m c W f low high X x, take-take n (n + m) W (omega arith))
-            (perm-append (perm-refl D) p .alike y ∙ sym (ap (times y) q) ∙ (rw (← ec) at (K .holds .each y)));
-        rest = with-rest n m c W f low high X x ∙ sym (with-rest n m c W f low high T t) ∙ ap (λ (l : List ℕ). drop c (drop n l)) is ∙ (rw (← ec) at (K .holds .rest));
+            (both .alike y ∙ sym (ap (times y) q) ∙ (rw (← ec) at (K .holds .each y)));
+        rest = with-rest n m c W f low high X x ∙ sym (old-rest n m c W f low high) ∙ (rw (← ec) at (K .holds .rest));
       };
     }
 

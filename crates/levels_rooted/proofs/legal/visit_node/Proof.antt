@@ -1,5 +1,5 @@
 -- `levels_rooted::legal::visit_node` meets its contract: the row of p is what `visit` visits. Assumes nothing.
-use mathlib.Core.Path.{_≡_, sym, ap, _∙_, subst}
+use mathlib.Core.Path.{_≡_, sym, subst}
 use lib.ListN.{length}
 use borrow.Author.Needs.{needs}
 use Rattle.spec.specs.Graph.{rowOf}
@@ -18,9 +18,7 @@ row-requires c κs = search needs
 
 -- what `row` returns is the row of p
 row-is : (c : tie.After-row) → let s = start (c .before) in c .row .result .now ≡ rowOf (s .args .starts .now) (s .args .neighbours .now) (s .args .p)
-row-is c =
-    let s = start (c .before) in
-    c .row .ensures ∙ ap (rowOf (s .args .starts .now) (s .args .neighbours .now)) (c .before .wide .ensures)
+row-is c = rw (c .before .wide .ensures) at (c .row .ensures)
 
 visit-requires : tie.Need-visit-requires
 visit-requires c κs =

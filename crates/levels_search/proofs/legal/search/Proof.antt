@@ -2,7 +2,7 @@
 use mathlib.Core.Path.{_≡_, refl, sym, ap, _∙_, subst}
 use mathlib.Core.List.{List}
 use Prim.Native.Nat.{ℕ, _+_, _-_, _≤_, _<_, max}
-use native.Mathlib.Nat.{add-zero, le-trans}
+use native.Mathlib.Nat.{le-trans}
 use native.Mathlib.Omega.{arith}
 use lib.ListN.{length, take, drop, set, replicate, length-set, length-replicate}
 use lib.Seq.{slice, take-set-le, drop-set-add}
@@ -13,10 +13,8 @@ use Rattle.levels_search.specs.Marks.{within, rows}
 use Rattle.levels_search.specs.Queue.{Readable, Lent, Pushed}
 use Rattle.levels_search.specs.Answer.{Searched}
 use Rattle.levels_search.proofs.Within.{readable}
-use Rattle.levels_search.proofs.Halves.{write-front, write-behind}
-use Rattle.levels_search.proofs.Stores.{take-replicate, drop-replicate}
 use Rattle.levels_search.proofs.AfterRounds.{w-most}
-use Rattle.levels_search.proofs.Searching.{Searching, begin, step, numbers, searched}
+use Rattle.levels_search.proofs.Searching.{Searching, begin, step, numbers, searched, first-front, first-behind}
 use Rattle.levels_search.proofs.Window.{nodes-in, b-most, ready, bound}
 use Rattle.levels_search.proofs.legal.search.Statement.{statement}
 use Rattle.levels_search.proofs.legal.search.Tie as tie
@@ -52,21 +50,11 @@ module _ {S N : List ℕ} {root : ℕ} {W₀ : List ℕ} (A : Start S N root W�
 
     begins : Inside S N root (length S - 1) (set (set W₀ (at - 1) 1) (length S - 1) root) 0 0 1 0 0
     begins =
-        let n : ℕ = sizeOf S in
-        let c′ : W₀ ≡ replicate (n + n) 0 = A .zero in
-        let i : root - 1 < sizeOf S = omega (arith, A .node .low, A .node .high) in
-        let z : n ≡ n + 0 = sym (add-zero n) in
-        let m : n + n - n ≡ n = omega arith in
-        let f : take n (set (set W₀ (at - 1) 1) n root) ≡ set (replicate n 0) (root - 1) 1 =
-        (λ k. take n (set (set (c′ k) (e k - 1) 1) (z k) root)) ∙ write-front n (replicate (n + n) 0) (root - 1) 0 1 root i
-        ∙ ap (λ (l : List ℕ). set l (root - 1) 1) (take-replicate n n 0) in
-        let b : drop n (set (set W₀ (at - 1) 1) n root) ≡ set (replicate n 0) 0 root =
-        (λ k. drop n (set (set (c′ k) (e k - 1) 1) (z k) root)) ∙ write-behind n (replicate (n + n) 0) (root - 1) 0 1 root i
-        ∙ ap (λ (l : List ℕ). set l 0 root) (drop-replicate n (n + n) 0 ∙ ap (λ (x : ℕ). replicate x 0) m) in
+        let h : root - 1 < sizeOf S = omega (arith, A .node .low, A .node .high) in
         record {
           is = refl;
-          full = length-set (set W₀ (at - 1) 1) n root ∙ length-set W₀ (at - 1) 1 ∙ W-size;
-          on = rw (f, b) (begin S N (A .legal) (A .node));
+          full = length-set (set W₀ (at - 1) 1) (sizeOf S) root ∙ length-set W₀ (at - 1) 1 ∙ W-size;
+          on = rw (A .zero, e, first-front (sizeOf S) root h, first-behind (sizeOf S) root h) (begin S N (A .legal) (A .node));
         }
 
 module _ {S N : List ℕ} {root n : ℕ} {W : List ℕ} {last a b d w : ℕ} (I : Inside S N root n W last a b d w) where
@@ -172,9 +160,7 @@ loop-less c = let t = test (c .before .before) in omega (arith, t .loop-test .ta
 
 loop-again : tie.Need-loop-again Inv-loop μ-loop
 loop-again c =
-    let x = c .before .before in
-    let t = test x in
-    again (t .before .loop .inv) (t .loop-test .taken) (x .expand .kept .1 .1 .0) (x .expand .ensures) (x .before .before .larger .ensures)
+    again (test (c .before .before) .before .loop .inv) (test (c .before .before) .loop-test .taken) (c .before .before .expand .kept .1 .1 .0) (c .before .before .expand .ensures) (c .before .before .before .before .larger .ensures)
 
 shut-requires : tie.Need-shut-requires Inv-loop μ-loop
 shut-requires c κs = c .before .before .loop .inv .full

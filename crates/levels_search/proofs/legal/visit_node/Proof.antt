@@ -1,5 +1,5 @@
 -- `levels_search::legal::visit_node` meets its contract: the row of p is what `visit` visits. Assumes nothing.
-use mathlib.Core.Path.{_≡_, sym, ap, _∙_, subst}
+use mathlib.Core.Path.{_≡_, sym, subst}
 use mathlib.Core.Bool.{true}
 use mathlib.Core.List.{List}
 use Prim.Native.Nat.{ℕ}
@@ -20,9 +20,7 @@ row-requires c κs = search needs
 -- what `row` returns is the row of p
 row-is : (c : tie.After-row) → let s = c .before .before .before .before .before in
     c .row .result .now ≡ rowOf (s .args .starts .now) (s .args .neighbours .now) (s .args .p)
-row-is c =
-    let s = c .before .before .before .before .before in
-    c .row .ensures ∙ ap (rowOf (s .args .starts .now) (s .args .neighbours .now)) (c .before .wide .ensures)
+row-is c = rw (c .before .wide .ensures) at (c .row .ensures)
 
 visit-requires : tie.Need-visit-requires
 visit-requires c κs =
