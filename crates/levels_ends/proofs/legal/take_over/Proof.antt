@@ -1,17 +1,21 @@
 -- `levels_ends::legal::take_over` meets its contract. Assumes nothing.
-use mathlib.Core.Path.{_≡_, sym, ap, _∙_, subst}
-use mathlib.Core.List.{List, _++_}
-use Prim.Native.Nat.{ℕ, _+_, _-_}
-use lib.ListN.{length, take, drop}
+use mathlib.Core.Path.{sym, subst}
+use mathlib.Core.List.{List}
+use Prim.Native.Nat.{ℕ, _+_}
+use lib.ListN.{drop}
 use borrow.Author.Needs.{needs}
 use Rattle.levels_search.specs.Queue.{Queued}
-use Rattle.levels_ends.proofs.Areas.{second-lent, second-back, first-half, second-half}
+use Rattle.levels_ends.proofs.Copying.{twice-lent, twice-back}
 use Rattle.levels_ends.proofs.legal.take_over.Statement.{statement}
 use Rattle.levels_ends.proofs.legal.take_over.Tie as tie
 
--- the words after the copy
-full : (c : tie.After-copy-over) → let s = c .before .before .before in length (c .copy-over .last .0) ≡ s .args .n + s .args .n + (s .args .n + s .args .n)
-full c = c .copy-over .kept .0 ∙ c .before .before .before .pre .full
+-- where the function starts, from the copy
+abbrev start : tie.After-copy-over → tie.Start
+start c = c .before .before .before
+
+-- the second search
+abbrev second : tie.Start → List ℕ
+second s = drop (s .args .n + s .args .n) (s .args .work .now)
 
 copy-over-requires : tie.Need-copy-over-requires
 copy-over-requires c κs = search needs
@@ -34,25 +38,17 @@ part-wipe-end c = search needs
 wipe-requires : tie.Need-wipe-requires
 wipe-requires c κs =
     let at = c .before .before .before in
-    let s = at .before .before .before in
-    let h : ℕ = s .args .n + s .args .n in
-    let B : List ℕ = drop h (s .args .work .now) in
-    let e : take (length (at .copy-over .last .0) - h) (drop h (at .copy-over .last .0)) ≡ B =
-    second-lent h (at .copy-over .last .0) (full at) ∙ ap (drop h) (at .copy-over .ensures) ∙ second-half h B B (s .pre .second .full) in
-    subst (Queued (s .args .n) (s .args .count)) (sym e) (s .pre .second)
+    let s = start at in
+    subst (Queued (s .args .n) (s .args .count)) (sym (twice-lent (second s) (s .pre .second .full) (at .copy-over .ensures))) (s .pre .second)
 
 same-length : tie.Need-same-length
 same-length c = search needs
 
 returns : tie.Need-returns
 returns c =
-    let at-wipe = c .before .before in
-    let at-copy-over = at-wipe .before .before .before .before in
-    let start = at-copy-over .before .before .before in
-    let h : ℕ = start .args .n + start .args .n in
-    let B : List ℕ = drop h (start .args .work .now) in
-    second-back h (at-copy-over .copy-over .last .0) (full at-copy-over) (at-wipe .wipe .last .0)
-    ∙ (λ i. (ap (take h) (at-copy-over .copy-over .ensures) ∙ first-half h B B (start .pre .second .full)) i ++ at-wipe .wipe .ensures i)
+    let w = c .before .before in
+    let at = w .before .before .before .before in
+    twice-back (second (start at)) (start at .pre .second .full) (at .copy-over .ensures) (w .wipe .ensures)
 
 pub take-over-spec : {M : Type 1} → statement M
 take-over-spec =
