@@ -90,7 +90,7 @@ module _ (n m c : ℕ) (W : List ℕ) (full : length W ≡ n + n) (low : m ≤ c
   D-size = omega (arith, length-drop n P, P-size)
 
   module _ (X : List ℕ) (size : length X ≡ c - m) where
-    pub with-levels : take n (with X) ≡ take n P
+    with-levels : take n (with X) ≡ take n P
     with-levels = take-append-le n P (X ++ R) (omega (arith, P-size))
 
     with-queue : drop n (with X) ≡ (drop n P ++ X) ++ R
@@ -99,13 +99,13 @@ module _ (n m c : ℕ) (W : List ℕ) (full : length W ≡ n + n) (low : m ≤ c
     DX-size : length (drop n P ++ X) ≡ c
     DX-size = omega (arith, length-append (drop n P) X, D-size)
 
-    pub with-members : take c (drop n (with X)) ≡ drop n P ++ X
+    with-members : take c (drop n (with X)) ≡ drop n P ++ X
     with-members = ap (take c) with-queue ∙ take-at (drop n P ++ X) R c DX-size
 
     pub with-tail : slice m c (drop n (with X)) ≡ X
     with-tail = ap (drop m) with-members ∙ drop-at (drop n P) X m D-size
 
-    pub with-rest : drop c (drop n (with X)) ≡ R
+    with-rest : drop c (drop n (with X)) ≡ R
     with-rest = ap (drop c) with-queue ∙ drop-at (drop n P ++ X) R c DX-size
 
   abbrev pub old : List ℕ
@@ -118,13 +118,13 @@ module _ (n m c : ℕ) (W : List ℕ) (full : length W ≡ n + n) (low : m ≤ c
   old-is = put-same (n + m) (n + c - (n + m)) W
 
   -- the queue as it was: its members, its last level, and what stands behind
-  pub old-members : take c (drop n W) ≡ drop n P ++ old
+  old-members : take c (drop n W) ≡ drop n P ++ old
   old-members = ap (λ (l : List ℕ). take c (drop n l)) (sym old-is) ∙ with-members old old-size
 
-  pub old-tail : slice m c (drop n W) ≡ old
+  old-tail : slice m c (drop n W) ≡ old
   old-tail = ap (λ (l : List ℕ). slice m c (drop n l)) (sym old-is) ∙ with-tail old old-size
 
-  pub old-rest : drop c (drop n W) ≡ R
+  old-rest : drop c (drop n W) ≡ R
   old-rest = ap (λ (l : List ℕ). drop c (drop n l)) (sym old-is) ∙ with-rest old old-size
 
 -- what is left of a search when its last level is put into another order

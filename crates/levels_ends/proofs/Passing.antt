@@ -44,9 +44,6 @@ module _ {S N : List ℕ} {v : ℕ} {r : Rooted} {W : List ℕ} (A : At S N v r 
   Y-is : Y ≡ X ++ drop (half S) W
   Y-is = front-back (half S) W X
 
-  m-low : m ≤ c
-  m-low = omega (arith, em, ec, ap (λ x. x .last) (A .area .found), ap (λ x. x .reached) (A .area .found))
-
   c-high : c ≤ sizeOf S
   c-high = omega (arith, ec, ap (λ x. x .reached) (A .area .found), K .kept .holds .most)
 

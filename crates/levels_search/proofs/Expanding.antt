@@ -1,16 +1,17 @@
--- The rows of the queue's nodes from a up to b visited in turn, in levels and queue: what the rest of the window does from here is what the
--- window does from the start. Assumes nothing.
+-- The loop of `expand`, the rows of the queue's nodes from a up to b: what the rest of the window does from here is what the window does from
+-- the start. First over levels and queue as two lists, for any search, then in one list. Assumes nothing.
 use mathlib.Core.Path.{_≡_, refl, sym, ap, _∙_}
 use mathlib.Core.List.{List, _∷_, _++_}
 use Prim.Native.Nat.{ℕ, _+_, _≤_, _<_}
 use native.Mathlib.Nat.{le-refl}
 use native.Mathlib.Numerals.{add-one}
 use native.Mathlib.Omega.{arith}
-use lib.ListN.{length, take, getD}
-use lib.Seq.{slice, slice-cons, slice-empty, getD-take}
+use lib.ListN.{length, take, drop, getD}
+use lib.Seq.{slice, slice-cons, slice-empty, getD-take, getD-drop}
 use Rattle.spec.specs.Graph.{rowOf}
 use Rattle.levels_search.specs.Marks.{within, found, rows}
-use Rattle.levels_search.specs.Queue.{Readable, Ready, Pushed}
+use Rattle.levels_search.specs.Queue.{Readable, Ready, Pushed, Lent}
+use Rattle.levels_search.proofs.Halves.{front-length, behind-length}
 use Rattle.levels_search.proofs.Pushed.{pushed-none, pushed-count, pushed-append, pushed-size, pushed-past, pushed-ready, pushed-window}
 
 -- at the loop's head: the window from h on is still to be expanded
@@ -99,3 +100,35 @@ module _ {S N L₀ Q₀ : List ℕ} {bound a b j : ℕ} {L Q : List ℕ} {tail h
 
   pub all : bound ≤ tail → Pushed (rows S N (slice a b Q₀)) j L₀ Q₀ b L Q tail
   all l = idle (omega (arith, I .few))
+
+-- ---- the loop of `expand`: the same in one list of 2n words
+
+pub record Inside (S N : List ℕ) (n : ℕ) (W₀ : List ℕ) (bound a b j : ℕ) (W : List ℕ) (tail h : ℕ) : Type 0 where
+  pub legal : Readable n S N
+  pub size : length W ≡ n + n
+  pub on : Expanding S N (take n W₀) (drop n W₀) bound a b j (take n W) (drop n W) tail h
+
+pub inside-begin : {S N W : List ℕ} {n bound a b j : ℕ} → Lent n W b j → Readable n S N → a ≤ b → within n (slice a b (drop n W))
+    → b + length (found j (take n W) (rows S N (slice a b (drop n W)))) ≤ bound → Inside S N n W bound a b j W b a
+inside-begin {W = W} {n} R G le w f = record {
+  legal = G;
+  size = R .size;
+  on = expand-begin (R .ready) (rw (front-length n W (R .size)) G) le (rw (front-length n W (R .size)) w) f;
+}
+
+module _ {S N W₀ : List ℕ} {n bound a b j : ℕ} {W : List ℕ} {tail h : ℕ} (I : Inside S N n W₀ bound a b j W tail h) (l : h < b) where
+  pub h-in : n + h < length W
+  h-in = omega (arith, head-in (I .on) l, behind-length n W (I .size), I .size)
+
+  p-is : getD (drop n W) h 0 ≡ getD W (n + h) 0
+  p-is = getD-drop n W h 0
+
+  pub p-low : 1 ≤ getD W (n + h) 0
+  p-low = rw p-is at (head-node (I .on) l .0)
+
+  pub p-high : getD W (n + h) 0 ≤ n
+  p-high = rw (p-is, front-length n W (I .size)) at (head-node (I .on) l .1)
+
+  pub inside-step : {W′ : List ℕ} {tail′ : ℕ} → length W′ ≡ length W → Pushed (rowOf S N (getD W (n + h) 0)) j (take n W) (drop n W) tail (take n W′) (drop n W′) tail′
+      → Inside S N n W₀ bound a b j W′ tail′ (h + 1)
+  inside-step {W′} {tail′} e P = record { legal = I .legal; size = e ∙ I .size; on = expand-step (I .on) l (rw p-is P) }

@@ -11,6 +11,7 @@ pub mod Placed
 pub mod AfterRounds
 pub mod Window
 pub mod Searching
+pub mod SearchWords
 pub mod Toward
 pub mod Ahead
 pub mod Wiping

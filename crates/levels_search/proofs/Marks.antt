@@ -34,7 +34,7 @@ module _ (j : ℕ) (pos : 0 < j) where
       (λ e.
       rw e (mark-taken L v (eqb-false (ofNode L v) 0 e) ∙ sym (ap (set L (v - 1)) (ofNode-at L v lo) ∙ set-getD L (v - 1) 0)))
 
-  pub found-free : (L : List ℕ) (v : ℕ) (vs : List ℕ) → ofNode L v ≡ 0 → found j L (v ∷ vs) ≡ v ∷ found j (set L (v - 1) j) vs
+  found-free : (L : List ℕ) (v : ℕ) (vs : List ℕ) → ofNode L v ≡ 0 → found j L (v ∷ vs) ≡ v ∷ found j (set L (v - 1) j) vs
   unfolding found
   found-free L v vs e =
       ap (λ (b : Bool). consIf b v (found j (mark j L v) vs)) (eq-eqb (ofNode L v) 0 e) ∙ ap (λ (M : List ℕ). v ∷ found j M vs) (mark-free L v e)
@@ -44,11 +44,11 @@ module _ (j : ℕ) (pos : 0 < j) where
   found-taken L v vs e =
       ap (λ (b : Bool). consIf b v (found j (mark j L v) vs)) (ne-eqb (ofNode L v) 0 e) ∙ ap (λ (M : List ℕ). found j M vs) (mark-taken L v e)
 
-  pub marked-free : (L : List ℕ) (v : ℕ) (vs : List ℕ) → ofNode L v ≡ 0 → marked j L (v ∷ vs) ≡ marked j (set L (v - 1) j) vs
+  marked-free : (L : List ℕ) (v : ℕ) (vs : List ℕ) → ofNode L v ≡ 0 → marked j L (v ∷ vs) ≡ marked j (set L (v - 1) j) vs
   unfolding marked
   marked-free L v vs e = ap (λ (M : List ℕ). marked j M vs) (mark-free L v e)
 
-  pub marked-taken : (L : List ℕ) (v : ℕ) (vs : List ℕ) → (ofNode L v ≡ 0 → ⊥) → marked j L (v ∷ vs) ≡ marked j L vs
+  marked-taken : (L : List ℕ) (v : ℕ) (vs : List ℕ) → (ofNode L v ≡ 0 → ⊥) → marked j L (v ∷ vs) ≡ marked j L vs
   unfolding marked
   marked-taken L v vs e = ap (λ (M : List ℕ). marked j M vs) (mark-taken L v e)
 

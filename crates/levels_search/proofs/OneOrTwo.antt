@@ -17,7 +17,7 @@ use Rattle.levels_search.proofs.Pushed.{pushed-one, pushed-room, pushed
 use Rattle.levels_search.proofs.Halves.{write-front, write-behind, front-length, behind-length}
 
 module _ {n : ℕ} {W : List ℕ} {tail j : ℕ} (R : Lent n W tail j) where
-  pub lent-next : {vs W′ : List ℕ} {t : ℕ} → within n vs → length W′ ≡ length W → Moved n vs j W tail W′ t → Lent n W′ t j
+  lent-next : {vs W′ : List ℕ} {t : ℕ} → within n vs → length W′ ≡ length W → Moved n vs j W tail W′ t → Lent n W′ t j
   lent-next {vs} w e P =
       record { size = e ∙ R .size; ready = pushed-ready (R .ready) P (subst (λ (m : ℕ). within m vs) (sym (front-length n W (R .size))) w) }
 

@@ -3,7 +3,7 @@
 use mathlib.Core.Path.{_≡_, sym, ap, _∙_}
 use mathlib.Core.List.{List, [], _∷_, _++_}
 use Prim.Native.Nat.{ℕ, suc, _+_, _-_, _≤_, _<_, max}
-use native.Mathlib.Nat.{add-zero, le-refl}
+use native.Mathlib.Nat.{le-refl}
 use native.Mathlib.Numerals.{add-one}
 use native.Mathlib.Omega.{arith}
 use lib.ListN.{length, take, drop, set, replicate, drop-of-length-le, length-set, length-replicate, getD-replicate}
@@ -27,10 +27,9 @@ use Rattle.levels_search.specs.Queue.{Pushed}
 use Rattle.levels_search.specs.Answer.{rootedOf, Searched}
 use Rattle.levels_search.specs.declared.shape.Rooted.{Rooted}
 use Rattle.levels_search.proofs.AfterRounds.{AfterRounds, old-level, has-level, pos, kept, all, depth-is, depth-one, width-is, reached-is, first-level}
-use Rattle.levels_search.proofs.Halves.{write-front, write-behind}
 use Rattle.levels_search.proofs.Pushed.{pushed-past, pushed-window}
 use Rattle.levels_search.proofs.Placed.{level-of}
-use Rattle.levels_search.proofs.Stores.{drop-later, drop-replicate, take-replicate}
+use Rattle.levels_search.proofs.Stores.{drop-later, drop-replicate}
 use Rattle.levels_search.proofs.Tallies.{once-bit}
 use Rattle.levels_search.proofs.Window.{Window, b-most, ready, after, got, window-step, first-window, window-begin}
 
@@ -204,16 +203,3 @@ module _ (S N : List ℕ) {root : ℕ} (z : graphRefusal S N ≡ 0) (M : Node (g
         tail-count = λ l. absurd (omega arith);
         tail = λ l. absurd (omega arith);
       }
-
--- the 2n words, which were 0, once word i is 1 and the queue has the root
-module _ (n : ℕ) {i : ℕ} (root : ℕ) (h : i < n) where
-  pub first-front : take n (set (set (replicate (n + n) 0) i 1) n root) ≡ set (replicate n 0) i 1
-  first-front =
-      ap (λ (k : ℕ). take n (set (set (replicate (n + n) 0) i 1) k root)) (sym (add-zero n)) ∙ write-front n (replicate (n + n) 0) i 0 1 root h
-      ∙ ap (λ (l : List ℕ). set l i 1) (take-replicate n n 0)
-
-  pub first-behind : drop n (set (set (replicate (n + n) 0) i 1) n root) ≡ set (replicate n 0) 0 root
-  first-behind =
-      let m : n + n - n ≡ n = omega arith in
-      ap (λ (k : ℕ). drop n (set (set (replicate (n + n) 0) i 1) k root)) (sym (add-zero n)) ∙ write-behind n (replicate (n + n) 0) i 0 1 root h
-      ∙ ap (λ (l : List ℕ). set l 0 root) (drop-replicate n (n + n) 0 ∙ ap (λ (k : ℕ). replicate k 0) m)

@@ -33,7 +33,7 @@ going-begin R l w = record { ready = R; size = l; queue-size = refl; fine = w; m
 
 module _ {row : List ℕ} {n : ℕ} {L₀ Q₀ : List ℕ} {tail j : ℕ} {L Q : List ℕ} {t k : ℕ} (I : Going row n L₀ Q₀ tail j L Q t k) where
   -- the nodes vs from k up to k′ are visited
-  pub going-step : {vs L′ Q′ : List ℕ} {t′ k′ : ℕ} → drop k row ≡ vs ++ drop k′ row → within n vs → k′ ≤ length row → Pushed vs j L Q t L′ Q′ t′
+  going-step : {vs L′ Q′ : List ℕ} {t′ k′ : ℕ} → drop k row ≡ vs ++ drop k′ row → within n vs → k′ ≤ length row → Pushed vs j L Q t L′ Q′ t′
       → Going row n L₀ Q₀ tail j L′ Q′ t′ k′
   going-step {vs} r w m P = record {
     ready = pushed-ready (I .ready) P (subst (λ (x : ℕ). within x vs) (sym (I .size)) w);

@@ -20,7 +20,7 @@ within-at n [] k w h = absurd (not-suc-le-zero h)
 within-at n (x ∷ xs) zero w h = (w .0, w .1)
 within-at n (x ∷ xs) (suc k) w h = within-at n xs k (w .2) (le-of-suc-le-suc h)
 
-pub within-append : (n : ℕ) (xs ys : List ℕ) → within n xs → within n ys → within n (xs ++ ys)
+within-append : (n : ℕ) (xs ys : List ℕ) → within n xs → within n ys → within n (xs ++ ys)
 within-append n [] ys a b = b
 within-append n (x ∷ xs) ys a b = (a .0, a .1, within-append n xs ys (a .2) b)
 

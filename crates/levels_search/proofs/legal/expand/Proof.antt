@@ -1,49 +1,12 @@
--- `levels_search::legal::expand` meets its contract: the loop is `Expanding.antt`'s, in the two halves of one list. Assumes nothing.
-use mathlib.Core.Path.{_≡_, sym, _∙_}
-use mathlib.Core.List.{List}
-use Prim.Native.Nat.{ℕ, _+_, _-_, _≤_, _<_}
+-- `levels_search::legal::expand` meets its contract: the loop is `Expanding.antt`'s. Assumes nothing.
+use mathlib.Core.Path.{sym, _∙_}
+use Prim.Native.Nat.{_+_, _-_, _<_}
 use native.Mathlib.Omega.{arith}
-use lib.ListN.{length, take, drop, getD}
-use lib.Seq.{slice, getD-drop}
+use lib.ListN.{length}
 use borrow.Author.Tests.{ltb-false}
-use Rattle.spec.specs.Graph.{rowOf}
-use Rattle.levels_search.specs.Marks.{within, found, rows}
-use Rattle.levels_search.specs.Queue.{Readable, Pushed, Lent}
-use Rattle.levels_search.proofs.Expanding.{Expanding, expand-begin, head-in, head-node, expand-step, through, all}
-use Rattle.levels_search.proofs.Halves.{front-length, behind-length}
+use Rattle.levels_search.proofs.Expanding.{Inside, inside-begin, h-in, p-low, p-high, inside-step, through, all}
 use Rattle.levels_search.proofs.legal.expand.Statement.{statement}
 use Rattle.levels_search.proofs.legal.expand.Tie as tie
-
--- the same, of levels and queue in one list
-record Inside (S N : List ℕ) (n : ℕ) (W₀ : List ℕ) (bound a b j : ℕ) (W : List ℕ) (tail h : ℕ) : Type 0 where
-  legal : Readable n S N
-  size : length W ≡ n + n
-  on : Expanding S N (take n W₀) (drop n W₀) bound a b j (take n W) (drop n W) tail h
-
-begin : {S N W : List ℕ} {n bound a b j : ℕ} → Lent n W b j → Readable n S N → a ≤ b → within n (slice a b (drop n W))
-    → b + length (found j (take n W) (rows S N (slice a b (drop n W)))) ≤ bound → Inside S N n W bound a b j W b a
-begin {W = W} {n} R G le w f = record {
-  legal = G;
-  size = R .size;
-  on = expand-begin (R .ready) (rw (front-length n W (R .size)) G) le (rw (front-length n W (R .size)) w) f;
-}
-
-module _ {S N W₀ : List ℕ} {n bound a b j : ℕ} {W : List ℕ} {tail h : ℕ} (I : Inside S N n W₀ bound a b j W tail h) (l : h < b) where
-  h-in : n + h < length W
-  h-in = omega (arith, head-in (I .on) l, behind-length n W (I .size), I .size)
-
-  p-is : getD (drop n W) h 0 ≡ getD W (n + h) 0
-  p-is = getD-drop n W h 0
-
-  p-low : 1 ≤ getD W (n + h) 0
-  p-low = rw p-is at (head-node (I .on) l .0)
-
-  p-high : getD W (n + h) 0 ≤ n
-  p-high = rw (p-is, front-length n W (I .size)) at (head-node (I .on) l .1)
-
-  again : {W′ : List ℕ} {tail′ : ℕ} → length W′ ≡ length W → Pushed (rowOf S N (getD W (n + h) 0)) j (take n W) (drop n W) tail (take n W′) (drop n W′) tail′
-      → Inside S N n W₀ bound a b j W′ tail′ (h + 1)
-  again {W′} {tail′} e P = record { legal = I .legal; size = e ∙ I .size; on = expand-step (I .on) l (rw p-is P) }
 
 abbrev Inv-loop : tie.InvT-loop
 Inv-loop starts neighbours work₀ n most a b j tail₀ h₀ work tail h = Inside starts neighbours n work₀ most a b j work tail h
@@ -54,7 +17,7 @@ abbrev μ-loop : tie.MeasureT-loop
 loop-holds : tie.Need-loop-holds Inv-loop μ-loop
 loop-holds c =
     let s = c .before .before .before in
-    begin (s .pre .0) (s .pre .1 .0) (s .pre .1 .1 .0) (s .pre .1 .1 .1 .0) (s .pre .1 .1 .1 .1)
+    inside-begin (s .pre .0) (s .pre .1 .0) (s .pre .1 .1 .0) (s .pre .1 .1 .1 .0) (s .pre .1 .1 .1 .1)
 
 in-queue : (c : tie.Then1 Inv-loop μ-loop) → let at = c .before .before in at .before .before .before .before .args .n + at .loop .h < length (at .loop .work)
 in-queue c = h-in (c .before .before .loop .inv) (c .before .loop-test .taken)
@@ -84,7 +47,7 @@ loop-again : tie.Need-loop-again Inv-loop μ-loop
 loop-again c =
     let v = c .before .before in
     let at-test = v .before .before .before .before in
-    again (at-test .before .loop .inv) (at-test .loop-test .taken) (v .visit-node .kept .1 .1 .0) (v .visit-node .ensures)
+    inside-step (at-test .before .loop .inv) (at-test .loop-test .taken) (v .visit-node .kept .1 .1 .0) (v .visit-node .ensures)
 
 same-length : tie.Need-same-length Inv-loop μ-loop
 same-length c = let at = c .before .before in at .loop .inv .size ∙ sym (at .before .before .before .before .pre .0 .size)

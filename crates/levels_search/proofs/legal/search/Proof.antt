@@ -1,97 +1,17 @@
--- `levels_search::legal::search` meets its contract: the loop is `Searching.antt`'s, in the two halves of one list. Assumes nothing.
-use mathlib.Core.Path.{_≡_, refl, sym, ap, _∙_, subst}
-use mathlib.Core.List.{List}
-use Prim.Native.Nat.{ℕ, _+_, _-_, _≤_, _<_, max}
+-- `levels_search::legal::search` meets its contract: the loop is `Searching.antt`'s, in the words of `SearchWords.antt`. Assumes nothing.
+use mathlib.Core.Path.{refl, sym, _∙_}
+use Prim.Native.Nat.{_-_}
 use native.Mathlib.Nat.{le-trans}
 use native.Mathlib.Omega.{arith}
-use lib.ListN.{length, take, drop, set, replicate, length-set, length-replicate}
-use lib.Seq.{slice, take-set-le, drop-set-add}
+use lib.ListN.{length-set}
 use borrow.Author.Needs.{needs}
-use Rattle.spec.specs.Graph.{graphOf, sizeOf, graphRefusal}
-use Rattle.laws.specs.Legal.{Node}
-use Rattle.levels_search.specs.Marks.{within, rows}
-use Rattle.levels_search.specs.Queue.{Readable, Lent, Pushed}
-use Rattle.levels_search.specs.Answer.{Searched}
+use Rattle.spec.specs.Graph.{sizeOf}
 use Rattle.levels_search.proofs.Within.{readable}
-use Rattle.levels_search.proofs.AfterRounds.{w-most}
-use Rattle.levels_search.proofs.Searching.{Searching, begin, step, numbers, searched, first-front, first-behind}
-use Rattle.levels_search.proofs.Window.{nodes-in, b-most, ready, bound}
+use Rattle.levels_search.proofs.SearchWords.{Inside, Start, some, few, W-size, at-low, at-in, begins, lent, graph, window, again, found-all, d-small, b-small, w-small, last-small}
+use Rattle.levels_search.proofs.Searching.{numbers}
+use Rattle.levels_search.proofs.Window.{b-most, bound}
 use Rattle.levels_search.proofs.legal.search.Statement.{statement}
 use Rattle.levels_search.proofs.legal.search.Tie as tie
-
--- at the loop's head
-record Inside (S N : List ℕ) (root n : ℕ) (W : List ℕ) (last a b depth width : ℕ) : Type 0 where
-  is : n ≡ sizeOf S
-  full : length W ≡ n + n
-  on : Searching S N root (take n W) (drop n W) last a b depth width
-
--- what is had before the loop
-record Start (S N : List ℕ) (root : ℕ) (W : List ℕ) : Type 0 where
-  legal : graphRefusal S N ≡ 0
-  node : Node (graphOf S N) root
-  zero : W ≡ replicate (sizeOf S + sizeOf S) 0
-
-module _ {S N : List ℕ} {root : ℕ} {W₀ : List ℕ} (A : Start S N root W₀) where
-  some : 1 ≤ sizeOf S
-  some = readable S N (A .legal) .starts .some
-
-  few : sizeOf S ≤ 4096
-  few = readable S N (A .legal) .starts .few
-
-  module _ {at : ℕ} (e : at ≡ root) where
-    W-size : length W₀ ≡ sizeOf S + sizeOf S
-    W-size = ap length (A .zero) ∙ length-replicate (sizeOf S + sizeOf S) 0
-
-    at-low : 1 ≤ at
-    at-low = omega (arith, e, A .node .low)
-
-    at-in : at - 1 < length W₀
-    at-in = omega (arith, e, A .node .low, A .node .high, W-size)
-
-    begins : Inside S N root (length S - 1) (set (set W₀ (at - 1) 1) (length S - 1) root) 0 0 1 0 0
-    begins =
-        let h : root - 1 < sizeOf S = omega (arith, A .node .low, A .node .high) in
-        record {
-          is = refl;
-          full = length-set (set W₀ (at - 1) 1) (sizeOf S) root ∙ length-set W₀ (at - 1) 1 ∙ W-size;
-          on = rw (A .zero, e, first-front (sizeOf S) root h, first-behind (sizeOf S) root h) (begin S N (A .legal) (A .node));
-        }
-
-module _ {S N : List ℕ} {root n : ℕ} {W : List ℕ} {last a b d w : ℕ} (I : Inside S N root n W last a b d w) where
-  lent : Lent n W b (d + 1 + 1)
-  lent = record {
-    size = I .full;
-    ready = ready (I .on .window);
-  }
-
-  graph : Readable n S N
-  graph = rw (I .is) (readable S N (I .on .window .level .legal))
-
-  window : within n (slice a b (drop n W))
-  window = subst (λ (m : ℕ). within m (slice a b (drop n W))) (sym (I .is)) (nodes-in (I .on .window))
-
-  again : {W′ : List ℕ} {b′ w′ : ℕ} → a < b → length W′ ≡ length W
-      → Pushed (rows S N (slice a b (drop n W))) (d + 1 + 1) (take n W) (drop n W) b (take n W′) (drop n W′) b′ → w′ ≡ max w (b - a)
-      → Inside S N root n W′ a b b′ (d + 1) w′
-  again h e P ew = record { is = I .is; full = e ∙ I .full; on = step (I .on) h P ew }
-
-  found-all : b ≤ a → {X : List ℕ} → X ≡ set W (n + b) 0 → Searched S N root X
-  found-all h {X} e =
-      searched (I .on) h X (ap length e ∙ length-set W (n + b) 0 ∙ I .full ∙ ap (λ (m : ℕ). m + m) (I .is))
-      (sym (ap (take n) e ∙ take-set-le n W (n + b) 0 (omega arith)) ∙ ap (λ (m : ℕ). take m X) (I .is))
-      (sym (ap (drop n) e ∙ drop-set-add n W b 0) ∙ ap (λ (m : ℕ). drop m X) (I .is))
-
-  d-small : a < b → d < 4096
-  d-small h = omega (arith, I .on .window .level .early, b-most (I .on .window), readable S N (I .on .window .level .legal) .starts .few)
-
-  b-small : b ≤ 4096
-  b-small = omega (arith, b-most (I .on .window), readable S N (I .on .window .level .legal) .starts .few)
-
-  w-small : w ≤ 4096
-  w-small = omega (arith, w-most (I .on .window .level), readable S N (I .on .window .level .legal) .starts .few)
-
-  last-small : last ≤ 4096
-  last-small = omega (arith, b-small, I .on .tail-before, I .on .window .order)
 
 abbrev Inv-loop : tie.InvT-loop
 Inv-loop starts neighbours root most work₀ n at last₀ a₀ b₀ depth₀ width₀ work last a b depth width = Inside starts neighbours root n work last a b depth width
