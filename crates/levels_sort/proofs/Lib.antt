@@ -1,1 +1,2 @@
 pub mod Sift
+pub mod InE
