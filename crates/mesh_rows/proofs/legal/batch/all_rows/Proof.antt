@@ -21,10 +21,14 @@ abbrev μ-loop : tie.MeasureT-loop
 
 -- the places, from the end back to the start
 abbrev done : tie.After-slice-known10 Inv-loop μ-loop → tie.After-some-rows Inv-loop μ-loop
-done c = c .before .before .before .before .before .before
+done c =
+    let at-bits = c .before .before .before .before .before in
+    at-bits .before
 
 abbrev chosen : tie.After-some-rows Inv-loop μ-loop → tie.After-next-rows Inv-loop μ-loop
-chosen c = c .before .before .before .before .before .before .before
+chosen c =
+    let at-arg = c .before .before .before .before in
+    at-arg .before .before .before
 
 abbrev looped : tie.After-next-rows Inv-loop μ-loop → tie.At-loop Inv-loop μ-loop
 looped c = c .before .before .before
@@ -76,7 +80,8 @@ within c = (c .next-rows .ensures .0, omega (arith, c .next-rows .ensures .1, lo
 
 some-rows-requires : tie.Need-some-rows-requires Inv-loop μ-loop
 some-rows-requires c κs =
-    let d = c .before .before .before .before .before .before in
+    let at-lists = c .before .before .before .before .before in
+    let d = at-lists .before in
     let l = looped d .loop in
     let F = l .inv .3 in
     let W = now (first (looped d) .args .elements) in (

@@ -31,7 +31,9 @@ abbrev first : tie.At-loop Inv-loop μ-loop → tie.Start Inv-loop μ-loop
 first c = start (gathered c .before .before)
 
 abbrev closed : tie.After-slice-known7 Inv-loop μ-loop → tie.After-gathered-row Inv-loop μ-loop
-closed c = c .before .before .before .before .before .before
+closed c =
+    let at-group2 = c .before .before .before .before .before in
+    at-group2 .before
 
 -- all sets keep their number of words
 size : (s : tie.Start Inv-loop μ-loop) → length (now (s .args .group)) ≡ 4096

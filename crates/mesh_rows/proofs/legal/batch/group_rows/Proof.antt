@@ -4,7 +4,10 @@ use Rattle.mesh_rows.proofs.legal.batch.group_rows.Statement.{statement
 use Rattle.mesh_rows.proofs.legal.batch.group_rows.Tie as tie
 
 gathered-rows-requires : tie.Need-gathered-rows-requires
-gathered-rows-requires c κs = let s = c .before .before .before .before .before .before in (s .pre .0, (refl, s .pre .1))
+gathered-rows-requires c κs =
+    let at-group = c .before .before in
+    let s = at-group .before .before .before .before in
+    (s .pre .0, (refl, s .pre .1))
 
 pub group-rows-spec : {M : Type 1} → statement M
 group-rows-spec =

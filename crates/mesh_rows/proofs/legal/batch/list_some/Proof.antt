@@ -8,13 +8,19 @@ use lib.ListN.{length}
 use Rattle.mesh_rows.proofs.legal.batch.list_some.Statement.{statement}
 use Rattle.mesh_rows.proofs.legal.batch.list_some.Tie as tie
 
+-- where the function starts
+abbrev start-of : tie.Else2 → tie.Start
+start-of c = c .before .before .before .before
+
 -- the mean is small
-mean : (c : tie.Else2) → length (now (c .before .before .before .before .args .elements)) / length (now (c .before .before .before .before .args .lists)) ≤ 65536
-mean c = omega (arith, div-le-self (length (now (c .before .before .before .before .args .elements))) (length (now (c .before .before .before .before .args .lists))))
+mean : (c : tie.Else2) → let a = start-of c .args in length (now (a .elements)) / length (now (a .lists)) ≤ 65536
+mean c = let a = start-of c .args in omega (arith, div-le-self (length (now (a .elements))) (length (now (a .lists))))
 
 -- as many rows as there are words for
-most : (c : tie.After-smaller2) → (c .smaller2 .result + 2 ≤ length (now (c .before .before .before .before .before .before .before .args .lists))) × (c .before .before .before .before .before .before .before .args .base + c .smaller2 .result ≤ length (now (c .before .before .before .before .before .before .before .args .lists)))
-most c = (omega (arith, c .smaller2 .ensures), omega (arith, c .smaller2 .ensures, c .before .smaller .ensures, c .before .before .before .before .before .before .before .pre .0 .1))
+most : (c : tie.After-smaller2) → let a = start-of (c .before .before .before) .args in
+    let r = c .smaller2 .result in
+    (r + 2 ≤ length (now (a .lists))) × (a .base + r ≤ length (now (a .lists)))
+most c = (omega (arith, c .smaller2 .ensures), omega (arith, c .smaller2 .ensures, c .before .smaller .ensures, start-of (c .before .before .before) .pre .0 .1))
 
 pub list-some-spec : {M : Type 1} → statement M
 list-some-spec =
@@ -26,10 +32,10 @@ list-some-spec =
     (λ c. omega (arith, mean c))
     (λ c. omega (arith, mean c))
     (λ c. omega arith)
-    (λ c κs. c .before .before .before .before .pre .0 .2)
+    (λ c κs. start-of c .pre .0 .2)
     (λ c. omega (arith, c .before .before .before .before .before .pre .0 .1))
     (λ c κs. search needs)
     (λ c κs. search needs)
-    (λ c κs. ((c .before .before .before .before .before .before .before .before .pre .0 .0, most (c .before) .0, omega arith), c .before .before .before .before .before .before .before .before .pre .1))
+    (λ c κs. let s = start-of (c .before .before .before .before) in ((s .pre .0 .0, most (c .before) .0, omega arith), s .pre .1))
     (λ c. c .before .before .list-rows .kept .0)
     (λ c. (omega (arith, c .before .before .list-rows .ensures .0, most (c .before .before .before .before) .1), c .before .before .list-rows .ensures .1)))

@@ -18,9 +18,18 @@ Inv-loop bits₀ lists elements base rows at starts₀ neighbours₀ to₀ row�
 abbrev μ-loop : tie.MeasureT-loop
 μ-loop bits₀ lists elements base rows at starts₀ neighbours₀ to₀ row₀ bits starts neighbours to row = rows - row
 
+-- the places, from the end back to the start
+abbrev listed : tie.After-slice-known6 Inv-loop μ-loop → tie.After-listed-row Inv-loop μ-loop
+listed c =
+    let at-bits = c .before .before .before .before .before in
+    at-bits .before
+
+abbrev start-of : tie.After-slice-known3 Inv-loop μ-loop → tie.Start Inv-loop μ-loop
+start-of c = c .before .before .before .before .before
+
 loop-holds : tie.Need-loop-holds Inv-loop μ-loop
 loop-holds c =
-    let s = c .before .before .before .before .before in
+    let s = start-of c in
     let a = s .args in (
       omega arith,
       subst (λ (i : ℕ). Filling (length (now (a .lists))) (now (a .elements)) (a .base) (now (a .starts)) (now (a .neighbours)) (now (a .starts)) (now (a .neighbours)) (a .at) i)
@@ -31,18 +40,20 @@ loop-holds c =
 
 listed-row-requires : tie.Need-listed-row-requires Inv-loop μ-loop
 listed-row-requires c κs =
-    let F = c .before .before .before .before .loop .inv .1 in
-    let s = c .before .before .before .before .before .before .before .before .before .before in
-    ((F .ready, c .before .before .before .before .loop .inv .2), ((s .pre .1 .0 .0, omega arith, s .pre .1 .0 .1), F .gone .end))
+    let l = c .before .before .before .before in
+    let s = start-of (l .before) in
+    let F = l .loop .inv .1 in
+    ((F .ready, l .loop .inv .2), ((s .pre .1 .0 .0, omega arith, s .pre .1 .0 .1), F .gone .end))
 
 loop-again : tie.Need-loop-again Inv-loop μ-loop
 loop-again c =
-    let k = c .before .before .before .before .before .before .listed-row in
-    let l = c .before .before .before .before .before .before .before .before .before .before .before in
-    let s = c .before .before .before .before .before .before .before .before .before .before .before .before .before .before .before .before .before in
-    let a = s .args in
+    let d = listed c in
+    let k = d .listed-row in
+    let t = d .before .before .before .before in
+    let l = t .before in
+    let a = start-of (l .before) .args in
     let e : a .base + l .loop .row + 1 ≡ a .base + (l .loop .row + 1) = omega arith in (
-      omega (arith, c .before .before .before .before .before .before .before .before .before .before .loop-test .taken),
+      omega (arith, t .loop-test .taken),
       subst
           (λ (i : ℕ).
           Filling (length (now (a .lists))) (now (a .elements)) (a .base) (now (a .starts)) (now (a .neighbours)) (k .last .1 .1 .1 .1 .1 .1 .1 .0) (k .last .1 .1 .1 .1 .1 .1 .1 .1 .0)
@@ -56,7 +67,7 @@ loop-again c =
 returns : tie.Need-returns Inv-loop μ-loop
 returns c =
     let l = c .before in
-    let a = c .before .before .before .before .before .before .before .args in
+    let a = start-of (l .before) .args in
     let F = l .loop .inv .1 in
     let e : a .base + l .loop .row ≡ a .base + a .rows = omega arith in (
       l .loop .inv .2 .empty,
@@ -75,7 +86,7 @@ listed-rows-spec =
     (λ c. omega arith)
     (λ c. omega arith)
     loop-again
-    (λ c. c .before .loop .inv .2 .size ∙ sym (c .before .before .before .before .before .before .before .pre .0 .1 .size))
+    (λ c. c .before .loop .inv .2 .size ∙ sym (start-of (c .before .before) .pre .0 .1 .size))
     (λ c. c .before .loop .inv .1 .starts-length)
     (λ c. c .before .loop .inv .1 .neighbours-length)
     returns)

@@ -36,16 +36,16 @@ element c =
 
 loop-again : tie.Need-loop-again Inv-loop μ-loop
 loop-again c =
-    let d = c .before in
-    let l = c .before .before .before .before in
-    let W = now (c .before .before .before .before .before .before .args .elements) in
-    let i = l .loop .inv .1 in (
-      element d .2,
+    let at-loop = c .before .before .before .before in
+    let start = at-loop .before .before in
+    let W = now (start .args .elements) in
+    let i = at-loop .loop .inv .1 in (
+      element (c .before) .2,
       (
         i .0,
-        subst (λ (k : ℕ). Pairing (i .0) W (l .loop .at + 1 + k) (l .loop .total + k * (k - 1))) (sym (d .node-count .ensures))
-            (pairing-step (i .0) W (l .loop .at) (l .loop .total) (i .1) (omega arith)
-            (subst (λ (k : ℕ). l .loop .total + k * (k - 1) ≤ 32768) (d .node-count .ensures) (c .if1 .left))),
+        subst (λ (k : ℕ). Pairing (i .0) W (at-loop .loop .at + 1 + k) (at-loop .loop .total + k * (k - 1))) (sym (c .before .node-count .ensures))
+            (pairing-step (i .0) W (at-loop .loop .at) (at-loop .loop .total) (i .1) (omega arith)
+            (subst (λ (k : ℕ). at-loop .loop .total + k * (k - 1) ≤ 32768) (c .before .node-count .ensures) (c .if1 .left))),
       ),
     )
 

@@ -19,24 +19,29 @@ same : (s : tie.Start) → let a = s .args in
     members (a .base + a .row + 1) (midOf (64 * a .row) (64 * a .row + 64 - 64 * a .row) (now (a .group))) ≡ members (a .base + a .row + 1) (setAt (now (a .group)) (a .row))
 same s = let a = s .args in ap (members (a .base + a .row + 1)) (part-lent (now (a .group)) (a .row))
 
--- from the end back to the start
-abbrev before-call : tie.After-close-row → tie.Start
-before-call c = c .before .before .before .before .before .before .before
+-- the places, from the end back to the start
+abbrev closed : tie.After-slice-known6 → tie.After-close-row
+closed c =
+    let at-group = c .before .before .before .before .before in
+    at-group .before
 
-abbrev start : tie.After-slice-known6 → tie.Start
-start c = before-call (c .before .before .before .before .before .before)
+abbrev start-of : tie.After-close-row-arg3 → tie.Start
+start-of c =
+    let at-words = c .before .before .before in
+    at-words .before .before .before
 
 close-row-requires : tie.Need-close-row-requires
 close-row-requires c κs =
-    let s = c .before .before .before .before .before .before in (
+    let s = start-of c in (
       (part-size (now (s .args .group)) (64 * s .args .row) (omega (arith, s .pre .0)), covered-all _, s .pre .0 .3),
       λ h. omega (arith, ap length (same s), s .pre .1 h),
     )
 
 returns : tie.Need-returns
 returns c =
-    let k = c .before .before .before .before .before .before .close-row in
-    let s = start c in
+    let d = closed c in
+    let k = d .close-row in
+    let s = start-of (d .before) in
     let a = s .args in (
       k .ensures .0 ∙ ap (λ (l : List ℕ). a .at + length l) (same s),
       (
