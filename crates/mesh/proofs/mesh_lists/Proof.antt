@@ -24,23 +24,27 @@ returns c =
     (omega arith) (λ e. omega arith) in
     (E .answers, (E .starts, (E .neighbours, E .scratch)))
 
+-- where the function starts
+abbrev start-of : tie.Else1 → tie.Start
+start-of c = c .before .before .before .before .before
+
 returns-2 : tie.Need-returns-2
 returns-2 c =
-    let a = c .before .before .before .before .before .before .args in
+    let a = start-of (c .before) .args in
     let E = untouched (a .n) (now (a .elements)) (now (a .starts)) (now (a .neighbours)) (now (a .scratch)) 1
     (by-size (a .n) (now (a .elements)) (now (a .starts)) (now (a .neighbours)) (now (a .scratch)) (or-right (eqb (a .n) 0) (lt-ltb 4096 (a .n) (c .if2 .taken))))
     (omega arith) (λ e. omega arith) in
     (E .answers, (E .starts, (E .neighbours, E .scratch)))
 
 -- n is a number of nodes
-sized : (c : tie.Else2) → badSize (c .before .before .before .before .before .before .args .n) ≡ false
+sized : (c : tie.Else2) → badSize (start-of (c .before) .args .n) ≡ false
 sized c =
-    let a = c .before .before .before .before .before .before .args in
+    let a = start-of (c .before) .args in
     or-neither (ne-eqb (a .n) 0 (c .before .if1 .left)) (le-ltb 4096 (a .n) (c .if2 .left))
 
 returns-3 : tie.Need-returns-3
 returns-3 c =
-    let a = c .before .before .before .before .before .before .before .args in
+    let a = start-of (c .before .before) .args in
     let E = untouched (a .n) (now (a .elements)) (now (a .starts)) (now (a .neighbours)) (now (a .scratch)) 5
     (by-room (a .n) (now (a .elements)) (now (a .starts)) (now (a .neighbours)) (now (a .scratch)) (sized (c .before))
     (or-left (short (now (a .scratch)) (a .n)) (or-left (short (now (a .neighbours)) maxEntries) (lt-ltb (length (now (a .starts))) (suc (a .n)) (omega (arith, c .if3 .taken))))))
@@ -49,7 +53,7 @@ returns-3 c =
 
 returns-4 : tie.Need-returns-4
 returns-4 c =
-    let a = c .before .before .before .before .before .before .before .before .args in
+    let a = start-of (c .before .before .before) .args in
     let E = untouched (a .n) (now (a .elements)) (now (a .starts)) (now (a .neighbours)) (now (a .scratch)) 5
     (by-room (a .n) (now (a .elements)) (now (a .starts)) (now (a .neighbours)) (now (a .scratch)) (sized (c .before .before))
     (or-left (short (now (a .scratch)) (a .n)) (or-right (short (now (a .starts)) (suc (a .n))) (lt-ltb (length (now (a .neighbours))) maxEntries (c .if4 .taken)))))
@@ -58,7 +62,7 @@ returns-4 c =
 
 returns-5 : tie.Need-returns-5
 returns-5 c =
-    let a = c .before .before .before .before .before .before .before .before .before .args in
+    let a = start-of (c .before .before .before .before) .args in
     let E = untouched (a .n) (now (a .elements)) (now (a .starts)) (now (a .neighbours)) (now (a .scratch)) 5
     (by-room (a .n) (now (a .elements)) (now (a .starts)) (now (a .neighbours)) (now (a .scratch)) (sized (c .before .before .before))
     (or-right (short (now (a .starts)) (suc (a .n)) || short (now (a .neighbours)) maxEntries) (lt-ltb (length (now (a .scratch))) (a .n) (c .if5 .taken))))
@@ -67,10 +71,10 @@ returns-5 c =
 
 -- the buffers have room
 room : (c : tie.Else5)
-    → let a = c .before .before .before .before .before .before .before .before .before .args in
+    → let a = start-of (c .before .before .before .before) .args in
     short (now (a .starts)) (suc (a .n)) || short (now (a .neighbours)) maxEntries || short (now (a .scratch)) (a .n) ≡ false
 room c =
-    let a = c .before .before .before .before .before .before .before .before .before .args in
+    let a = start-of (c .before .before .before .before) .args in
     or-neither
     (or-neither (le-ltb (length (now (a .starts))) (suc (a .n)) (omega (arith, c .before .before .if3 .left))) (le-ltb (length (now (a .neighbours))) maxEntries (c .before .if4 .left)))
     (le-ltb (length (now (a .scratch))) (a .n) (c .if5 .left))
@@ -78,7 +82,7 @@ room c =
 returns-6 : tie.Need-returns-6
 returns-6 c =
     let e = c .before .before in
-    let a = e .before .before .before .before .before .before .before .before .before .args in
+    let a = start-of (e .before .before .before .before) .args in
     let r = c .before .elements-refusal in
     let E = untouched (a .n) (now (a .elements)) (now (a .starts)) (now (a .neighbours)) (now (a .scratch)) (r .result)
     (by-elements (a .n) (now (a .elements)) (now (a .starts)) (now (a .neighbours)) (now (a .scratch)) (sized (e .before .before .before)) (room e) (r .result) (r .ensures) (c .if6 .taken))
@@ -93,10 +97,11 @@ adjacency-requires c κs =
 
 returns-7 : tie.Need-returns-7
 returns-7 c =
-    let j = c .before .before .before .before .before .before in
+    let at-starts = c .before .before .before .before .before in
+    let j = at-starts .before in
     let i = j .before .before .before .before in
     let e = i .before .before in
-    let a = e .before .before .before .before .before .before .before .before .before .args in
+    let a = start-of (e .before .before .before .before) .args in
     let d = j .adjacency in
     let E = counted (a .n) (now (a .elements)) (now (a .starts)) (now (a .neighbours)) (now (a .scratch)) (meaning (d .result)) (d .last .1 .1 .0) (d .last .1 .1 .1 .0) (d .last .1 .1 .1 .1 .0)
     (by-entries (a .n) (now (a .elements)) (now (a .starts)) (now (a .neighbours)) (now (a .scratch)) (sized (e .before .before .before)) (room e) (sym (i .before .elements-refusal .ensures) ∙ i .if6 .left))

@@ -19,22 +19,38 @@ use Rattle.mesh.proofs.legal.adjacency.Tie as tie
 size : (s : tie.Start) → length (take (s .args .n) (now (s .args .scratch))) ≡ s .args .n
 size s = length-take-le (s .args .n) (now (s .args .scratch)) (s .pre .0 .3)
 
+-- the places, from the end back to the start
+abbrev filled : tie.After-slice-known10 → tie.After-fill
+filled c =
+    let at-scratch = c .before .before .before .before .before in
+    at-scratch .before
+
+abbrev tried : tie.After-slice-known6 → tie.After-over
+tried c =
+    let at-starts = c .before .before .before in
+    at-starts .before .before .before
+
+abbrev start-of : tie.After-over-arg3 → tie.Start
+start-of c =
+    let at-lists = c .before .before .before in
+    at-lists .before .before .before .before .before
+
 over-requires : tie.Need-over-requires
 over-requires c κs =
-    let s = c .before .before .before .before .before .before .before .before in
+    let s = start-of c in
     let W = now (s .args .elements) in
     (omega (arith, size s, s .pre .0 .0), ap (λ (n : ℕ). elementsRefusal (length W) n W) (size s) ∙ s .pre .1)
 
 -- whether 11 refuses
-decided : (c : tie.After-over) → c .over .result ≡ refuses11 (graphOfElements (c .before .before .before .before .before .before .before .before .before .args .n) (now (c .before .before .before .before .before .before .before .before .before .args .elements)))
+decided : (c : tie.After-over) → let a = start-of (c .before) .args in c .over .result ≡ refuses11 (graphOfElements (a .n) (now (a .elements)))
 decided c =
-    let s = c .before .before .before .before .before .before .before .before .before in
+    let s = start-of (c .before) in
     c .over .ensures .0 ∙ ap (λ (n : ℕ). refuses11 (graphOfElements n (now (s .args .elements)))) (size s)
 
 returns : tie.Need-returns
 returns c =
-    let k = c .before .before .before .before .before .before .before .before .before in
-    let s = c .before .before .before .before .before .before .before .before .before .before .before .before .before .before .before .before .before .before in
+    let k = tried (c .before .before .before) in
+    let s = start-of (k .before) in
     let a = s .args in
     let g = graphOfElements (a .n) (now (a .elements)) in
     let b = sym (decided k) ∙ c .before .before .if1 .taken in (
@@ -49,13 +65,13 @@ returns c =
     )
 
 -- the words that are filled with
-width : (c : tie.After-over) → length (c .over .last .0) ≡ c .before .before .before .before .before .before .before .before .before .args .n
-width c = c .over .kept .0 ∙ size (c .before .before .before .before .before .before .before .before .before)
+width : (c : tie.After-over) → length (c .over .last .0) ≡ start-of (c .before) .args .n
+width c = c .over .kept .0 ∙ size (start-of (c .before))
 
 fill-requires : tie.Need-fill-requires
 fill-requires c κs =
-    let k = c .before .before .before .before .before .before .before .before .before in
-    let s = c .before .before .before .before .before .before .before .before .before .before .before .before .before .before .before .before .before .before in
+    let k = tried (c .before .before .before) in
+    let s = start-of (k .before) in
     let a = s .args in
     let W = now (a .elements) in
     let h = few-entries (a .n) W (sym (decided k) ∙ c .before .before .if1 .left) in (
@@ -71,10 +87,10 @@ fill-requires c κs =
 
 -- the entries are the graph's, and few
 entries : (c : tie.After-fill)
-    → let a = c .before .before .before .before .before .before .before .before .before .before .before .before .before .before .before .before .before .before .before .args in (c .fill .result ≡ entryCount (graphOfElements (a .n) (now (a .elements)))) × (c .fill .result ≤ 32768)
+    → let a = start-of (tried (c .before .before .before .before) .before) .args in (c .fill .result ≡ entryCount (graphOfElements (a .n) (now (a .elements)))) × (c .fill .result ≤ 32768)
 entries c =
-    let k = c .before .before .before .before .before .before .before .before .before .before in
-    let a = c .before .before .before .before .before .before .before .before .before .before .before .before .before .before .before .before .before .before .before .args in
+    let k = tried (c .before .before .before .before) in
+    let a = start-of (k .before) .args in
     let W = now (a .elements) in
     let h = few-entries (a .n) W (sym (decided k) ∙ c .before .before .before .if1 .left) in
     let e : c .fill .result ≡ entryCount (graphOfElements (a .n) W) = c .fill .ensures .0 ∙ ap (λ (n : ℕ). entryCount (graphOfElements n W)) (width k) in
@@ -82,13 +98,13 @@ entries c =
 
 returns-2 : tie.Need-returns-2
 returns-2 c =
-    let f = c .before .before .before .before .before .before in
-    let k = c .before .before .before .before .before .before .before .before .before .before .before .before .before .before .before .before in
-    let s = c .before .before .before .before .before .before .before .before .before .before .before .before .before .before .before .before .before .before .before .before .before .before .before .before .before in
+    let f = filled c in
+    let k = tried (f .before .before .before .before) in
+    let s = start-of (k .before) in
     let a = s .args in
     let W = now (a .elements) in
     let g = graphOfElements (a .n) W in
-    let b = sym (decided k) ∙ c .before .before .before .before .before .before .before .before .before .if1 .left in (
+    let b = sym (decided k) ∙ f .before .before .before .if1 .left in (
       outcome-within (refuses11 g) (entryCount g) (f .fill .result) b (entries f .0),
       (
         filled-within (refuses11 g) (startList g) (now (a .starts)) (f .fill .last .1 .1 .0) b
@@ -108,13 +124,13 @@ adjacency-spec =
     (λ c. search needs)
     (λ c. sym (size (c .before .before .before .before .before)))
     over-requires
-    (λ c. c .before .before .before .before .before .before .before .before .before .over .kept .1 .1 .0)
-    (λ c. c .before .before .before .before .before .before .before .before .before .over .kept .1 .1 .1 .0)
+    (λ c. tried (c .before .before .before) .over .kept .1 .1 .0)
+    (λ c. tried (c .before .before .before) .over .kept .1 .1 .1 .0)
     (λ c. search needs)
     returns
     fill-requires
-    (λ c. omega (arith, entries (c .before .before .before .before .before .before)))
-    (λ c. c .before .before .before .before .before .before .fill .kept .1 .1 .0 ∙ c .before .before .before .before .before .before .before .before .before .before .before .before .before .before .before .before .over .kept .1 .1 .0)
-    (λ c. c .before .before .before .before .before .before .fill .kept .1 .1 .1 .0 ∙ c .before .before .before .before .before .before .before .before .before .before .before .before .before .before .before .before .over .kept .1 .1 .1 .0)
+    (λ c. omega (arith, entries (filled c)))
+    (λ c. filled c .fill .kept .1 .1 .0 ∙ tried (filled c .before .before .before .before) .over .kept .1 .1 .0)
+    (λ c. filled c .fill .kept .1 .1 .1 .0 ∙ tried (filled c .before .before .before .before) .over .kept .1 .1 .1 .0)
     (λ c. search needs)
     returns-2)

@@ -15,10 +15,11 @@ add-requires c κs = let s = c .before .before .before in (search needs, (s .pre
 
 returns : tie.Need-returns
 returns c =
-    let d = c .before .before .add in
-    let s = c .before .before .before .before .before .before in
-    let a = s .args in
-    grown-one (now (a .sets)) (d .last .0) (a .row) (s .pre .0) (s .pre .1) (d .kept .0 ∙ part-size (now (a .sets)) (64 * a .row) (omega (arith, s .pre))) (λ q. memb q (now (a .nodes))) (d .ensures .1)
+    let at-add = c .before .before in
+    let start = at-add .before .before .before .before in
+    let d = at-add .add in
+    let a = start .args in
+    grown-one (now (a .sets)) (d .last .0) (a .row) (start .pre .0) (start .pre .1) (d .kept .0 ∙ part-size (now (a .sets)) (64 * a .row) (omega (arith, start .pre))) (λ q. memb q (now (a .nodes))) (d .ensures .1)
 
 pub add-to-spec : {M : Type 1} → statement M
 add-to-spec =

@@ -21,25 +21,29 @@ abbrev μ-loop : tie.MeasureT-loop
 loop-holds : tie.Need-loop-holds Inv-loop μ-loop
 loop-holds c = let s = c .before .before in (omega arith, passing-begin (now (s .args .elements)) (s .args .base) (s .pre .1) (s .pre .0))
 
+-- where the function starts
+abbrev start-of : tie.At-loop Inv-loop μ-loop → tie.Start Inv-loop μ-loop
+start-of c = c .before .before .before
+
 -- the element at `at`
-sound : (c : tie.In-loop Inv-loop μ-loop) → Sound (now (c .before .before .before .before .args .elements)) (c .before .loop .at)
+sound : (c : tie.In-loop Inv-loop μ-loop) → Sound (now (start-of (c .before) .args .elements)) (c .before .loop .at)
 sound c =
     let l = c .before .loop in
-    let a = c .before .before .before .before .args in
+    let a = start-of (c .before) .args in
     passing-sound (now (a .elements)) (a .base) (l .at) (l .sets) (l .inv .1) (omega arith)
 
 -- its record ends within the words
-fits : (c : tie.After-node-count Inv-loop μ-loop) → c .before .before .before .loop .at + 1 + c .node-count .result ≤ length (now (c .before .before .before .before .before .before .args .elements))
+fits : (c : tie.After-node-count Inv-loop μ-loop) → c .before .before .before .loop .at + 1 + c .node-count .result ≤ length (now (start-of (c .before .before .before) .args .elements))
 fits c = omega (arith, c .node-count .ensures, sound (c .before .before) .within)
 
 -- what is lent of it are its nodes
 nodes : (c : tie.After-node-count Inv-loop μ-loop)
     → let l = c .before .before .before .loop in
-    let W = now (c .before .before .before .before .before .before .args .elements) in
+    let W = now (start-of (c .before .before .before) .args .elements) in
     take (l .at + 1 + c .node-count .result - (l .at + 1)) (drop (l .at + 1) W) ≡ take (nodeCount (getD W (l .at) 0)) (drop (l .at + 1) W)
 nodes c =
     let l = c .before .before .before .loop in
-    let W = now (c .before .before .before .before .before .before .args .elements) in
+    let W = now (start-of (c .before .before .before) .args .elements) in
     let e : l .at + 1 + c .node-count .result - (l .at + 1) ≡ nodeCount (getD W (l .at) 0) = omega (arith, c .node-count .ensures) in
     ap (λ (k : ℕ). take k (drop (l .at + 1) W)) e
 
@@ -53,7 +57,7 @@ loop-again c =
     let d = c .before .before .add-element in
     let n = c .before .before .before .before .before in
     let l = n .before .before .before .loop in
-    let a = n .before .before .before .before .before .before .args in
+    let a = start-of (n .before .before .before) .args in
     let W = now (a .elements) in (
       fits n,
       subst (λ (k : ℕ). Passing W (a .base) (l .at + 1 + k) (d .last .0)) (sym (n .node-count .ensures))
@@ -63,7 +67,7 @@ loop-again c =
 returns : tie.Need-returns Inv-loop μ-loop
 returns c =
     let l = c .before .loop in
-    let a = c .before .before .before .before .args in
+    let a = start-of (c .before) .args in
     passing-done (now (a .elements)) (a .base) (l .at) (l .sets) (l .inv .1) (omega arith)
 
 pub gather-spec : {M : Type 1} → statement M
@@ -85,5 +89,5 @@ gather-spec =
     add-element-requires
     (λ c. omega (arith, fits (c .before .before .before .before .before)))
     loop-again
-    (λ c. c .before .loop .inv .1 .size ∙ sym (ap length (c .before .before .before .before .pre .0) ∙ length-replicate {A = ℕ} 4096 0))
+    (λ c. c .before .loop .inv .1 .size ∙ sym (ap length (start-of (c .before) .pre .0) ∙ length-replicate {A = ℕ} 4096 0))
     returns)

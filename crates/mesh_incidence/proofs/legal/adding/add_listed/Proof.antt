@@ -17,9 +17,16 @@ Inv-loop bits₀ lists elements rows row mask₀ cell₀ bits mask cell = (K : L
 abbrev μ-loop : tie.MeasureT-loop
 μ-loop bits₀ lists elements rows row mask₀ cell₀ bits mask cell = cell
 
+-- the places, from the end back to the start
+abbrev tested : tie.After-add-element Inv-loop μ-loop → tie.In-loop Inv-loop μ-loop
+tested c = c .before .before .before .before
+
+abbrev start-of : tie.After-wide Inv-loop μ-loop → tie.Start Inv-loop μ-loop
+start-of c = c .before .before .before .before .before
+
 loop-holds : tie.Need-loop-holds Inv-loop μ-loop
 loop-holds c =
-    let s = c .before .before .before .before .before in
+    let s = start-of c in
     let a = s .args in
     let K = s .pre .1 .1 in (
       K,
@@ -28,39 +35,43 @@ loop-holds c =
     )
 
 -- the cell lies within the words
-within : (c : tie.In-loop Inv-loop μ-loop) → (1 ≤ c .before .loop .cell) × (c .before .before .before .before .before .before .before .args .rows + 2 * c .before .loop .cell + 1 < length (now (c .before .before .before .before .before .before .before .args .lists))) × (length (now (c .before .before .before .before .before .before .before .args .lists)) ≤ 4096)
+within : (c : tie.In-loop Inv-loop μ-loop) → let a = start-of (c .before .before) .args in
+    let cell = c .before .loop .cell in
+    (1 ≤ cell) × (a .rows + 2 * cell + 1 < length (now (a .lists))) × (length (now (a .lists)) ≤ 4096)
 within c =
     let i = c .before .loop .inv in
-    (omega (arith, c .loop-test .taken), omega (arith, i .0 .cells .room, i .1 .low), c .before .before .before .before .before .before .before .pre .0 .1)
+    (omega (arith, c .loop-test .taken), omega (arith, i .0 .cells .room, i .1 .low), start-of (c .before .before) .pre .0 .1)
 
 add-element-requires : tie.Need-add-element-requires Inv-loop μ-loop
 add-element-requires c κs =
     let i = c .before .before .before .before .loop .inv in
-    let a = c .before .before .before .before .before .before .before .before .before .before .args in
+    let a = start-of (c .before .before .before .before .before) .args in
     ((i .1 .size, subst (Sound (now (a .elements))) (sym (c .wide2 .ensures)) (i .0 .sound (c .before .before .before .before .loop .cell) (within (c .before .before .before) .0) (i .1 .low))), i .1 .covered)
 
 loop-again : tie.Need-loop-again Inv-loop μ-loop
 loop-again c =
     let d = c .before .before .before .before .add-element in
-    let l = c .before .before .before .before .before .before .before .before .before in
-    let a = c .before .before .before .before .before .before .before .before .before .before .before .before .before .before .before .args in
+    let t = tested (c .before .before .before .before) in
+    let l = t .before in
+    let a = start-of (l .before) .args in
     let i = l .loop .inv in (
       i .0,
       subst (λ (k : ℕ). Walking (now (a .elements)) (a .rows) (now (a .lists)) (a .row) (now (a .bits)) (i .0 .free) k (d .last .0) (d .result)) (sym (c .wide3 .ensures))
-          (walking-step (now (a .elements)) (a .rows) (now (a .lists)) (i .0) (a .row) (now (a .bits)) (l .loop .cell) (l .loop .bits) (l .loop .mask) (i .1) (within (c .before .before .before .before .before .before .before .before) .0) (d .last .0) (d .result)
+          (walking-step (now (a .elements)) (a .rows) (now (a .lists)) (i .0) (a .row) (now (a .bits)) (l .loop .cell) (l .loop .bits) (l .loop .mask) (i .1) (within t .0) (d .last .0) (d .result)
           (d .kept .0) (d .ensures .0) (subst (λ (x : ℕ). Added (nodeIn (now (a .elements)) x) (l .loop .bits) (d .last .0)) (c .before .before .before .before .before .wide2 .ensures) (d .ensures .1))),
     )
 
 loop-less : tie.Need-loop-less Inv-loop μ-loop
 loop-less c =
-    let l = c .before .before .before .before .before .before .before .before .before in
+    let t = tested (c .before .before .before .before) in
+    let l = t .before in
     let i = l .loop .inv in
-    omega (arith, c .wide3 .ensures, i .0 .cells .down (l .loop .cell) (within (c .before .before .before .before .before .before .before .before) .0) (i .1 .low))
+    omega (arith, c .wide3 .ensures, i .0 .cells .down (l .loop .cell) (within t .0) (i .1 .low))
 
 returns : tie.Need-returns Inv-loop μ-loop
 returns c =
     let l = c .before in
-    let a = c .before .before .before .before .before .before .before .args in
+    let a = start-of (l .before) .args in
     let i = l .loop .inv in
     (i .1 .covered, walking-done (now (a .elements)) (a .rows) (now (a .lists)) (i .0) (a .row) (now (a .bits)) (l .loop .cell) (l .loop .bits) (l .loop .mask) (i .1) (c .loop-test .left))
 
@@ -80,11 +91,11 @@ add-listed-spec =
     (λ c. omega (arith, within (c .before .before)))
     (λ c κs. search needs)
     add-element-requires
-    (λ c. omega (arith, within (c .before .before .before .before .before .before)))
-    (λ c. omega (arith, within (c .before .before .before .before .before .before)))
-    (λ c. omega (arith, within (c .before .before .before .before .before .before .before)))
+    (λ c. omega (arith, within (tested (c .before .before))))
+    (λ c. omega (arith, within (tested (c .before .before))))
+    (λ c. omega (arith, within (tested (c .before .before .before))))
     (λ c κs. search needs)
     loop-less
     loop-again
-    (λ c. c .before .loop .inv .1 .size ∙ sym (c .before .before .before .before .before .before .before .pre .0 .0))
+    (λ c. c .before .loop .inv .1 .size ∙ sym (start-of (c .before .before) .pre .0 .0))
     returns)

@@ -23,26 +23,33 @@ loop-holds c =
     let a = s .args in
     (omega arith, refl, entering-begin (a .at) (a .base) (a .rows) (now (a .nodes)) (now (a .lists)) (a .cell) (s .pre .1))
 
+-- the places, from the end back to the start
+abbrev looped : tie.After-enter-row-arg Inv-loop μ-loop → tie.At-loop Inv-loop μ-loop
+looped c = c .before .before .before .before .before
+
+abbrev start-of : tie.At-loop Inv-loop μ-loop → tie.Start Inv-loop μ-loop
+start-of c = c .before .before .before
+
 -- the words are few, and so are the rows
 few : (l : tie.At-loop Inv-loop μ-loop) → (length (l .loop .lists) ≤ 4096) × (l .before .before .before .args .rows ≤ 4096)
 few l =
-    let n : length (l .loop .lists) ≤ 4096 = omega (arith, l .loop .inv .1, l .before .before .before .pre .0) in
+    let n : length (l .loop .lists) ≤ 4096 = omega (arith, l .loop .inv .1, start-of l .pre .0) in
     (n, omega (arith, n, l .loop .inv .2 .entered .cells .room))
 
 -- the place of the node at j
 place : (c : tie.After-row-of Inv-loop μ-loop)
-    → let a = c .before .before .before .before .before .before .args in
+    → let a = start-of (c .before .before .before) .args in
     (k : ℕ) → k < a .rows → eqb (a .base + suc k) (getD (now (a .nodes)) (c .before .before .before .loop .j) 0) ≡ eqb k (c .row-of .result)
 place c k h = c .row-of .ensures k (omega (arith, few (c .before .before .before)))
 
 enter-row-requires : tie.Need-enter-row-requires Inv-loop μ-loop
-enter-row-requires c κs = (few (c .before .before .before .before .before) .0, c .before .before .before .before .before .loop .inv .2 .entered .cells, c .before .if1 .taken)
+enter-row-requires c κs = (few (looped c) .0, looped c .loop .inv .2 .entered .cells, c .before .if1 .taken)
 
 loop-again : tie.Need-loop-again Inv-loop μ-loop
 loop-again c =
     let r = c .before in
     let l = c .before .before .before .before .loop in
-    let a = c .before .before .before .before .before .before .before .args in
+    let a = start-of (r .before .before .before) .args in
     let h : l .j < length (now (a .nodes)) = omega (arith, c .before .before .before .loop-test .taken) in (
       omega arith,
       ⊎-elim (λ w. rw (w .6) (w .2 .kept .0 ∙ l .inv .1)) (λ w. rw (w .1) (l .inv .1)) (c .if1 .came),
@@ -56,7 +63,7 @@ loop-again c =
 returns-2 : tie.Need-returns-2 Inv-loop μ-loop
 returns-2 c =
     let l = c .before in
-    let a = c .before .before .before .before .args in
+    let a = start-of l .args in
     λ d. entering-done (a .at) (a .base) (a .rows) (now (a .nodes)) (now (a .lists)) (a .cell) (l .loop .j) (l .loop .lists) (l .loop .free) (l .loop .inv .2) (omega arith)
 
 pub enter-spec : {M : Type 1} → statement M
@@ -70,7 +77,7 @@ enter-spec =
     (λ c. omega arith)
     (λ c κs. search needs)
     enter-row-requires
-    (λ c. c .before .before .before .enter-row .kept .0 ∙ c .before .before .before .before .before .before .before .before .before .loop .inv .1)
+    (λ c. c .before .before .before .enter-row .kept .0 ∙ looped (c .before .before .before .before) .loop .inv .1)
     (λ c d. absurd (d refl))
     (λ c. omega arith)
     (λ c. omega arith)

@@ -21,6 +21,10 @@ list-requires c κs =
     let W = now (s .args .elements) in
     ((omega (arith, i .1, s .pre .0 .0), omega (arith, i .0, i .1, s .pre .0 .1), s .pre .0 .2), ap (λ (n : ℕ). elementsRefusal (length W) n W) (i .1) ∙ s .pre .1)
 
+-- from the call back to the loop
+abbrev looped : tie.After-list Inv-loop μ-loop → tie.At-loop Inv-loop μ-loop
+looped c = c .before .before .before
+
 pub list-rows-spec : {M : Type 1} → statement M
 list-rows-spec =
     tie.close
@@ -29,9 +33,9 @@ list-rows-spec =
     μ-loop
     (λ c. (omega arith, refl))
     list-requires
-    (λ c. c .before .before .before .list .kept .0 ∙ c .before .before .before .before .before .before .loop .inv .1)
-    (λ c. (c .before .before .before .before .before .before .loop .inv .0, λ l. c .before .before .before .list .ensures (c .if1 .taken)))
+    (λ c. c .before .before .before .list .kept .0 ∙ looped (c .before .before .before) .loop .inv .1)
+    (λ c. (looped (c .before .before .before) .loop .inv .0, λ l. c .before .before .before .list .ensures (c .if1 .taken)))
     (λ c. omega arith)
-    (λ c. (omega (arith, c .before .before .before .before .before .before .loop .inv .0), c .before .before .before .list .kept .0 ∙ c .before .before .before .before .before .before .loop .inv .1))
+    (λ c. (omega (arith, looped (c .before .before .before) .loop .inv .0), c .before .before .before .list .kept .0 ∙ looped (c .before .before .before) .loop .inv .1))
     (λ c. c .before .loop .inv .1)
     (λ c. (omega arith, λ l. absurd (omega arith))))
