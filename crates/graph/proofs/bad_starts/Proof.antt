@@ -16,22 +16,26 @@ returns c =
     let s = c .before .before .before .before in
     sym (first-start (now (s .args .starts)) (now (s .args .neighbours)) (s .pre) (c .if1 .taken))
 
+-- where the function starts
+abbrev start-of : tie.Else1 → tie.Start
+start-of c = c .before .before .before .before
+
 cast-last : tie.Need-cast-last
-cast-last c = omega (arith, c .shared-slice-known4 .given (length (now (c .before .before .before .before .before .args .starts)) - 1))
+cast-last c = omega (arith, c .shared-slice-known4 .given (length (now (start-of (c .before) .args .starts)) - 1))
 
 returns-2 : tie.Need-returns-2
 returns-2 c =
-    let s = c .before .before .before .before .before .before in
+    let s = start-of (c .before .before) in
     sym (last-start (now (s .args .starts)) (now (s .args .neighbours)) (s .pre) (c .if2 .taken))
 
 returns-3 : tie.Need-returns-3
 returns-3 c =
-    let s = c .before .before .before .before .before .before .before in
+    let s = start-of (c .before .before .before) in
     sym (over-start (now (s .args .starts)) (now (s .args .neighbours)) (s .pre) (c .if3 .taken))
 
 returns-4 : tie.Need-returns-4
 returns-4 c =
-    let s = c .before .before .before .before .before .before .before .before in
+    let s = start-of (c .before .before .before .before) in
     ap not (c .starts-rise .ensures)
     ∙ between-starts (now (s .args .starts)) (now (s .args .neighbours)) (s .pre)
     (c .before .before .before .before .if1 .left) (c .before .before .if2 .left) (c .before .if3 .left)

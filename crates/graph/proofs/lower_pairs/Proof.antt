@@ -22,6 +22,10 @@ Inv-loop starts neighbours p row pairs₀ j₀ pairs j = Counting starts neighbo
 abbrev μ-loop : tie.MeasureT-loop
 μ-loop starts neighbours p row pairs₀ j₀ pairs j = length row - j
 
+-- back to the loop's head
+abbrev looped : tie.After-row2 Inv-loop μ-loop → tie.At-loop Inv-loop μ-loop
+looped c = c .before .before .before .before
+
 -- at the loop's head: the entry, the two lists, the row and its word j
 abbrev entry : tie.At-loop Inv-loop μ-loop → tie.Start Inv-loop μ-loop
 entry l = l .before .before .before .before
@@ -69,17 +73,17 @@ row-requires-2 c κs =
 
 holds-requires : tie.Need-holds-requires Inv-loop μ-loop
 holds-requires c κs =
-    let l = c .before .before .before .before in
+    let l = looped c in
     let m = entry l .pre .1 in
     let w = named l (omega arith) in
     ap (chainb ltb) (c .row2 .ensures) ∙ entry l .pre .0 .rises _ (record { low = omega (arith, m .low, w .low); high = omega (arith, m .high, w .high) })
 
 add-pairs : tie.Need-add-pairs Inv-loop μ-loop
-add-pairs c = omega (arith, c .before .before .before .before .before .before .loop .inv .few)
+add-pairs c = omega (arith, looped (c .before .before) .loop .inv .few)
 
 loop-again : tie.Need-loop-again Inv-loop μ-loop
 loop-again c =
-    let l = c .before .before .before .before .before .before in
+    let l = looped (c .before .before) in
     let p = entry l .args .p in
     let e = ap (memb p) (sym (c .before .before .row2 .ensures)) ∙ sym (c .before .holds .ensures) in
     ⊎-elim (λ w. rw (w .1) (count-paired (S l) (N l) p (R l) (l .loop .inv) (omega arith) (omega arith) (e ∙ w .0 .taken)))

@@ -16,10 +16,11 @@ slice-aggregate-nodes-refusal c = simp length-take (omega (arith, c .before .bef
 
 returns : tie.Need-returns
 returns c =
-    let s = c .before .before .before .before .before .before .before in
+    let m = c .before .before .before .before in
+    let s = m .before .before .before in
     let W = now (s .args .rest) in
-    let e : c .before .before .before .before .smaller .result ≡ min (nodeCount (s .args .kind)) (length W) =
-    c .before .before .before .before .smaller .ensures ∙ ap (λ (k : ℕ). min k (length W)) (c .before .before .before .before .before .node-count .ensures) in
+    let e : m .smaller .result ≡ min (nodeCount (s .args .kind)) (length W) =
+    m .smaller .ensures ∙ ap (λ (k : ℕ). min k (length W)) (m .before .node-count .ensures) in
     c .first .ensures
     ∙ ap₂ _orElse_ (c .before .before .before .record-refusal .ensures)
     (c .before .nodes-refusal .ensures ∙ ap (λ (k : ℕ). refuse (badNodes (s .args .n) (take k W)) 10) e)

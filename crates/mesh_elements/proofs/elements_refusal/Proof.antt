@@ -21,22 +21,26 @@ abbrev μ-loop : tie.MeasureT-loop
 loop-holds : tie.Need-loop-holds Inv-loop μ-loop
 loop-holds c = (omega arith, refl)
 
+-- back to the loop's head
+abbrev looped : tie.After-element-refusal Inv-loop μ-loop → tie.At-loop Inv-loop μ-loop
+looped c = c .before .before .before .before
+
 -- what the element at `at` is refused by
 element : (c : tie.After-element-refusal Inv-loop μ-loop)
-    → let l = c .before .before .before .before in
+    → let l = looped c in
     let W = now (l .before .before .args .elements) in
     c .element-refusal .result ≡ elementRefusal 9 (l .before .before .args .n) (getD W (l .loop .at) 0) (drop (l .loop .at + 1) W)
 element c =
-    let l = c .before .before .before .before in
+    let l = looped c in
     let a = l .before .before .args in
     let W = now (a .elements) in
     c .element-refusal .ensures ∙ ap (elementRefusal 9 (a .n) (getD W (l .loop .at) 0)) (tail-part W (l .loop .at + 1))
 
 -- it isn't refused, so its record ends within the words
 fits : (c : tie.After-node-count Inv-loop μ-loop)
-    → c .before .before .before .before .before .before .loop .at + 1 + c .node-count .result ≤ length (now (c .before .before .before .before .before .before .before .before .args .elements))
+    → let l = looped (c .before .before) in l .loop .at + 1 + c .node-count .result ≤ length (now (l .before .before .args .elements))
 fits c =
-    let l = c .before .before .before .before .before .before in
+    let l = looped (c .before .before) in
     let a = l .before .before .args in
     let W = now (a .elements) in
     let at = l .loop .at in
@@ -45,7 +49,7 @@ fits c =
 
 returns : tie.Need-returns Inv-loop μ-loop
 returns c =
-    let l = c .before .before .before .before .before in
+    let l = looped (c .before) in
     let a = l .before .before .args in
     refusal-met (a .n) (now (a .elements)) (l .loop .at) (omega arith) (l .loop .inv .1) (c .before .element-refusal .result) (element (c .before)) (c .if1 .taken)
 
@@ -60,7 +64,7 @@ loop-less c = omega (arith, fits c)
 
 loop-again : tie.Need-loop-again Inv-loop μ-loop
 loop-again c =
-    let l = c .before .before .before .before .before .before in
+    let l = looped (c .before .before) in
     let a = l .before .before .args in
     let W = now (a .elements) in (
       fits c,

@@ -21,12 +21,16 @@ loop-holds c =
     let s = c .before .before in
     (omega arith, adding-begin (now (s .args .bits)) (now (s .args .nodes)) (s .pre .0) (s .args .mask) (s .pre .1 .1))
 
+-- where the function starts
+abbrev start-of : tie.At-loop Inv-loop μ-loop → tie.Start Inv-loop μ-loop
+start-of c = c .before .before .before
+
 -- the node at j is one of 1..4096
-inside : (c : tie.After-wide Inv-loop μ-loop) → (suc (c .wide .result - 1) ≡ getD (now (c .before .before .before .before .before .before .args .nodes)) (c .before .before .before .loop .j) 0)
+inside : (c : tie.After-wide Inv-loop μ-loop) → (suc (c .wide .result - 1) ≡ getD (now (start-of (c .before .before .before) .args .nodes)) (c .before .before .before .loop .j) 0)
     × (1 ≤ c .wide .result) × (c .wide .result - 1 < 4096)
 inside c =
     let l = c .before .before .before in
-    let s = l .before .before .before in
+    let s = start-of l in
     let w = s .pre .1 .0 (l .loop .j) (omega arith) in
     (omega (arith, c .wide .ensures, w .0), omega (arith, c .wide .ensures, w .0), omega (arith, c .wide .ensures, w .0, w .1))
 
@@ -37,7 +41,7 @@ loop-again : tie.Need-loop-again Inv-loop μ-loop
 loop-again c =
     let w = c .before in
     let l = w .before .before .before in
-    let a = l .before .before .before .args in
+    let a = start-of l .args in
     let i = inside w in
     let x : ℕ = w .wide .result - 1 in (
       omega arith,
@@ -48,7 +52,7 @@ loop-again c =
 returns : tie.Need-returns Inv-loop μ-loop
 returns c =
     let l = c .before in
-    let a = l .before .before .before .args in
+    let a = start-of l .args in
     (l .loop .inv .1 .covered, adding-done (now (a .bits)) (now (a .nodes)) (l .loop .j) (l .loop .bits) (l .loop .cover) (l .loop .inv .1) (omega arith))
 
 pub add-spec : {M : Type 1} → statement M
@@ -71,5 +75,5 @@ add-spec =
     (λ c. omega arith)
     (λ c. omega arith)
     loop-again
-    (λ c. size (c .before) ∙ sym (c .before .before .before .before .pre .0))
+    (λ c. size (c .before) ∙ sym (start-of (c .before) .pre .0))
     returns)

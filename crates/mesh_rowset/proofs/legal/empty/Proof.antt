@@ -90,7 +90,7 @@ empty-spec =
     (λ c. omega (arith, word-in (c .before)))
     write-word-requires
     (λ c. omega (arith, word-in (c .before .before .before .before .before)))
-    (λ c. omega (arith, word-in (c .before .before .before .before .before), c .before .before .before .before .before .before .loop .inv .1 .size))
+    (λ c. let i = c .before .before .before .before .before in omega (arith, word-in i, i .before .loop .inv .1 .size))
     (λ c. omega (arith, word-in (c .before .before .before .before .before)))
     (λ c. omega (arith, word-in (c .before .before .before .before .before)))
     (λ c. omega (arith, word-in (c .before .before .before .before .before)))
