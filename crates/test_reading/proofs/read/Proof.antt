@@ -12,9 +12,11 @@ use Rattle.test_reading.proofs.read.Tie as tie
 
 read-mesh-requires : tie.Need-read-mesh-requires
 read-mesh-requires c κs =
-    let s = c .before .before .before .before .before .before .before in
+    let t = c .before .before .before .before in
+    let h = t .before in
+    let s = h .before .before in
     let bs = now (s .args .file) in
-    let e : headerRefusal bs ≡ 0 = sym (c .before .before .before .before .before .header-refusal .ensures) ∙ c .before .before .before .before .if1 .left in
+    let e : headerRefusal bs ≡ 0 = sym (h .header-refusal .ensures) ∙ t .if1 .left in
     let few : fileNodes bs ≤ 4096 = header-good bs e .1 in
     ((e, omega (arith, body-length bs)), (omega arith, omega arith, omega arith))
 
