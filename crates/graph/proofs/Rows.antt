@@ -129,12 +129,19 @@ row-sorted r e = chain-rise r (chain-weaker ltb leb (λ x y l. le-leb x y (below
     below : (x y : ℕ) → ltb x y ≡ true → x ≤ y
     below x y l = let h = ltb-true x y l in omega arith
 
--- p stands nowhere in a row whose words are under p before lo and over p from lo on
-pub row-parted : (p : ℕ) (r : List ℕ) (lo : ℕ) → ((k : ℕ) → k < lo → getD r k 0 < p) → ((k : ℕ) → lo ≤ k → k < length r → p < getD r k 0) → memb p r ≡ false
-row-parted p r lo under over =
+-- what is left of the row to look for p in: the words before lo are under p, those from hi on over p
+pub record Sought (p : ℕ) (r : List ℕ) (lo hi : ℕ) : Type 0 where
+  pub order : lo ≤ hi
+  pub end : hi ≤ length r
+  pub under : (k : ℕ) → k < lo → getD r k 0 < p
+  pub over : (k : ℕ) → hi ≤ k → k < length r → p < getD r k 0
+
+-- p stands nowhere, once nothing is left
+pub row-parted : {p : ℕ} {r : List ℕ} {lo hi : ℕ} → Sought p r lo hi → hi ≤ lo → memb p r ≡ false
+row-parted {p} {r} {lo} T h =
     any-walked 0 (eqb p) r
     (λ k b. ne-eqb p (getD r k 0)
-    (λ e. ⊎-elim (λ (l : k < lo). omega (arith, under k l)) (λ (l : lo ≤ k). omega (arith, over k l b)) (lt-or-le k lo)))
+    (λ e. ⊎-elim (λ (l : k < lo). omega (arith, T .under k l)) (λ (l : lo ≤ k). omega (arith, T .over k (omega arith) b)) (lt-or-le k lo)))
 
 -- the entries of row p are nodes
 pub row-node : {S N : List ℕ} → Rows S N → {p : ℕ} → Node (graphOf S N) p → (r : List ℕ) → r ≡ rowOf S N p → (j : ℕ) → j < length r → Node (graphOf S N) (getD r j 0)

@@ -1,20 +1,18 @@
 -- `graph::holds` meets its contract: what stands before lo is under p, and what stands from hi on is over p.
 -- Assumes nothing.
-use Prim.Native.Nat.{ℕ, _+_, _-_, _/_, _≤_, _<_}
+use Prim.Native.Nat.{ℕ, _+_, _-_, _/_}
 use mathlib.Core.Path.{sym}
 use native.Mathlib.Omega.{arith}
 use borrow.Author.Tests.{eq-eqb}
 use denote.Ref.{now}
 use lib.Dec.{eqb}
-use lib.ListN.{length, getD}
 use Rattle.basis.proofs.Walk.{any-at}
-use Rattle.graph.proofs.Rows.{row-sorted, row-parted}
+use Rattle.graph.proofs.Rows.{Sought, row-sorted, row-parted}
 use Rattle.graph.proofs.holds.Statement.{statement}
 use Rattle.graph.proofs.holds.Tie as tie
 
 abbrev Inv-loop : tie.InvT-loop
-Inv-loop row p lo₀ hi₀ lo hi =
-    (lo ≤ hi) × (hi ≤ length row) × ((k : ℕ) → k < lo → getD row k 0 < p) × ((k : ℕ) → hi ≤ k → k < length row → p < getD row k 0)
+Inv-loop row p lo₀ hi₀ lo hi = Sought p row lo hi
 
 abbrev μ-loop : tie.MeasureT-loop
 μ-loop row p lo₀ hi₀ lo hi = hi - lo
@@ -24,7 +22,7 @@ abbrev mid : tie.At-loop Inv-loop μ-loop → ℕ
 mid l = l .loop .lo + (l .loop .hi - l .loop .lo) / 2
 
 loop-holds : tie.Need-loop-holds Inv-loop μ-loop
-loop-holds c = (omega arith, omega arith, (λ k l. omega arith), (λ k l l′. omega arith))
+loop-holds c = record { order = omega arith; end = omega arith; under = λ k l. omega arith; over = λ k l l′. omega arith }
 
 cast-word : tie.Need-cast-word Inv-loop μ-loop
 cast-word c = omega (arith, c .shared-slice-known .given (mid (c .before .before)))
@@ -37,27 +35,26 @@ returns c =
 
 loop-again : tie.Need-loop-again Inv-loop μ-loop
 loop-again c =
-    let l = c .before .before .before .before in (
-      omega arith,
-      omega arith,
-      (λ k h. omega (arith, row-sorted (now (l .before .args .row)) (l .before .pre) k (mid l) (omega arith) (omega arith))),
-      l .loop .inv .3,
-    )
+    let l = c .before .before .before .before in
+    record {
+      order = omega arith;
+      end = omega arith;
+      under = λ k h. omega (arith, row-sorted (now (l .before .args .row)) (l .before .pre) k (mid l) (omega arith) (omega arith));
+      over = l .loop .inv .over;
+    }
 
 loop-again-2 : tie.Need-loop-again-2 Inv-loop μ-loop
 loop-again-2 c =
-    let l = c .before .before .before .before in (
-      omega arith,
-      omega arith,
-      l .loop .inv .2,
-      (λ k h h′. omega (arith, row-sorted (now (l .before .args .row)) (l .before .pre) (mid l) k h h′)),
-    )
+    let l = c .before .before .before .before in
+    record {
+      order = omega arith;
+      end = omega arith;
+      under = l .loop .inv .under;
+      over = λ k h h′. omega (arith, row-sorted (now (l .before .args .row)) (l .before .pre) (mid l) k h h′);
+    }
 
 returns-2 : tie.Need-returns-2 Inv-loop μ-loop
-returns-2 c =
-    let l = c .before in
-    let a = l .before .args in
-    sym (row-parted (a .p) (now (a .row)) (l .loop .lo) (l .loop .inv .2) (λ k h h′. l .loop .inv .3 k (omega arith) h′))
+returns-2 c = sym (row-parted (c .before .loop .inv) (omega arith))
 
 pub holds-spec : {M : Type 1} → statement M
 holds-spec =
