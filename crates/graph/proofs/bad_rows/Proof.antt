@@ -36,20 +36,22 @@ loop-holds c = (omega arith, refl, (λ k l. absurd (omega arith)))
 row-requires : tie.Need-row-requires Inv-loop μ-loop
 row-requires c κs = (c .before .before .before .before .pre, record { low = omega arith; high = omega arith })
 
+-- the row's test is that of row p + 1
+tested : (c : tie.After-bad-row Inv-loop μ-loop) → let l = c .before .before .before in bad (S l) (N l) (l .loop .p + 1) ≡ c .bad-row .result
+tested c = let l = c .before .before .before in ap (badRow (sizeOf (S l)) (l .loop .p + 1)) (sym (c .before .row .ensures)) ∙ sym (c .bad-row .ensures)
+
 returns : tie.Need-returns Inv-loop μ-loop
 unfolding refuses3
 returns c =
     let l = c .before .before .before .before in
-    sym (nodes-at (graphOf (S l) (N l)) (bad (S l) (N l)) (l .loop .p) (omega arith)
-    (ap (badRow (sizeOf (S l)) (l .loop .p + 1)) (sym (c .before .before .row .ensures)) ∙ sym (c .before .bad-row .ensures) ∙ c .if1 .taken))
+    sym (nodes-at (graphOf (S l) (N l)) (bad (S l) (N l)) (l .loop .p) (omega arith) (tested (c .before) ∙ c .if1 .taken))
 
 loop-again : tie.Need-loop-again Inv-loop μ-loop
 loop-again c =
     let l = c .before .before .before .before in (
       omega arith,
       refl,
-      below-more _ (l .loop .p) (l .loop .inv .2)
-          (ap (badRow (sizeOf (S l)) (l .loop .p + 1)) (sym (c .before .before .row .ensures)) ∙ sym (c .before .bad-row .ensures) ∙ c .if1 .left),
+      below-more _ (l .loop .p) (l .loop .inv .2) (tested (c .before) ∙ c .if1 .left),
     )
 
 returns-2 : tie.Need-returns-2 Inv-loop μ-loop

@@ -1,6 +1,7 @@
 -- `mesh_rows::legal::batch::all_rows` meets its contract. Assumes nothing.
 use Prim.Native.Nat.{ℕ, _+_, _-_, _≤_}
 use mathlib.Core.Path.{_≡_, refl, sym, ap, subst, _∙_}
+use mathlib.Core.List.{List}
 use native.Mathlib.Nat.{zero-add}
 use native.Mathlib.Omega.{arith}
 use denote.Ref.{now}
@@ -12,9 +13,18 @@ use Rattle.mesh_rows.proofs.Laying.{to-none, laid-begin, Filling, filli
 use Rattle.mesh_rows.proofs.legal.batch.all_rows.Statement.{statement}
 use Rattle.mesh_rows.proofs.legal.batch.all_rows.Tie as tie
 
+-- the first `base` rows are laid
+record Laying (lists₀ elements starts₀ neighbours₀ : List ℕ) (n : ℕ) (bits lists starts neighbours : List ℕ) (to base rows : ℕ) : Type 0 where
+  nodes : n ≡ length lists₀
+  within : base ≤ length lists₀
+  size : length lists ≡ length lists₀
+  filling : Filling (length lists₀) elements 0 starts₀ neighbours₀ starts neighbours to base
+  clean : Clean bits
+  few : rows ≤ 4096
+
 abbrev Inv-loop : tie.InvT-loop
 Inv-loop bits₀ lists₀ elements starts₀ neighbours₀ n to₀ base₀ rows₀ bits lists starts neighbours to base rows =
-    (n ≡ length lists₀) × (base ≤ length lists₀) × (length lists ≡ length lists₀) × Filling (length lists₀) elements 0 starts₀ neighbours₀ starts neighbours to base × Clean bits × (rows ≤ 4096)
+    Laying lists₀ elements starts₀ neighbours₀ n bits lists starts neighbours to base rows
 
 abbrev μ-loop : tie.MeasureT-loop
 μ-loop bits₀ lists₀ elements starts₀ neighbours₀ n to₀ base₀ rows₀ bits lists starts neighbours to base rows = n - base
@@ -61,31 +71,38 @@ loop-holds : tie.Need-loop-holds Inv-loop μ-loop
 loop-holds c =
     let s = known (c .before) in
     let a = s .args in
-    (refl, omega arith, refl, filling-begin (length (now (a .lists))) (now (a .elements)) 0 (now (a .starts)) (now (a .neighbours)) 0 (s .pre .0) (to-none _), s .pre .1, omega arith)
+    record {
+      nodes = refl;
+      within = omega arith;
+      size = refl;
+      filling = filling-begin (length (now (a .lists))) (now (a .elements)) 0 (now (a .starts)) (now (a .neighbours)) 0 (s .pre .0) (to-none _);
+      clean = s .pre .1;
+      few = omega arith;
+    }
 
 next-rows-requires : tie.Need-next-rows-requires Inv-loop μ-loop
 next-rows-requires c κs =
     let l = c .before .before in
     let i = l .loop .inv in
     let W = now (first l .args .elements) in
-    ((omega (arith, i .2, i .3 .ready .few), omega (arith, i .2, i .0, c .before .loop-test .taken), i .5), ap (λ (n : ℕ). elementsRefusal (length W) n W) (i .2) ∙ i .3 .ready .good)
+    ((omega (arith, i .filling .ready .few), omega (arith, c .before .loop-test .taken), i .few), ap (λ (n : ℕ). elementsRefusal (length W) n W) (i .size) ∙ i .filling .ready .good)
 
 -- the lists keep their number of words
 same : (c : tie.After-next-rows Inv-loop μ-loop) → length (now (first (looped c) .args .lists)) ≡ length (c .next-rows .last .0)
-same c = sym (c .next-rows .kept .0 ∙ looped c .loop .inv .2)
+same c = sym (c .next-rows .kept .0 ∙ looped c .loop .inv .size)
 
 -- there are rows, within the graph
 within : (c : tie.After-next-rows Inv-loop μ-loop) → (1 ≤ c .next-rows .result) × (looped c .loop .base + c .next-rows .result ≤ length (now (first (looped c) .args .lists)))
-within c = (c .next-rows .ensures .0, omega (arith, c .next-rows .ensures .1, looped c .loop .inv .2))
+within c = (c .next-rows .ensures .0, omega (arith, c .next-rows .ensures .1, looped c .loop .inv .size))
 
 some-rows-requires : tie.Need-some-rows-requires Inv-loop μ-loop
 some-rows-requires c κs =
     let at-lists = c .before .before .before .before .before in
     let d = at-lists .before in
     let l = looped d .loop in
-    let F = l .inv .3 in
+    let F = l .inv .filling in
     let W = now (first (looped d) .args .elements) in (
-      (subst (λ (n : ℕ). Ready n W (l .starts)) (same d) (F .ready), l .inv .4),
+      (subst (λ (n : ℕ). Ready n W (l .starts)) (same d) (F .ready), l .inv .clean),
       ((d .next-rows .ensures .2, omega (arith, within d .1, same d)), F .gone .end ∙ ap (λ (n : ℕ). entriesTo (graphOfElements n W) (l .base)) (same d)),
     )
 
@@ -96,19 +113,20 @@ loop-again c =
     let l = looped d .loop in
     let a = first (looped d) .args in
     let W = now (a .elements) in
-    let i = l .inv in (
-      i .0,
-      within d .1,
-      d .next-rows .kept .0 ∙ i .2,
-      filling-step (length (now (a .lists))) W 0 (now (a .starts)) (now (a .neighbours)) (l .starts) (l .neighbours) (l .to) (l .base) (i .3) (k .last .1 .1 .1 .1 .1 .1 .0)
+    let i = l .inv in
+    record {
+      nodes = i .nodes;
+      within = within d .1;
+      size = d .next-rows .kept .0 ∙ i .size;
+      filling = filling-step (length (now (a .lists))) W 0 (now (a .starts)) (now (a .neighbours)) (l .starts) (l .neighbours) (l .to) (l .base) (i .filling) (k .last .1 .1 .1 .1 .1 .1 .0)
           (k .last .1 .1 .1 .1 .1 .1 .1 .0) (k .result) (l .base + d .next-rows .result) (k .kept .1 .1 .1 .1 .1 .1 .0) (k .kept .1 .1 .1 .1 .1 .1 .1 .0)
           (subst
           (λ (n : ℕ).
           Goes (graphOfElements n W) (l .base) (l .starts) (l .neighbours) (l .base + d .next-rows .result) (k .last .1 .1 .1 .1 .1 .1 .0) (k .last .1 .1 .1 .1 .1 .1 .1 .0) (k .result))
-          (sym (same d)) (k .ensures .1)),
-      record { size = k .kept .0 ∙ i .4 .size; empty = k .ensures .0 },
-      omega (arith, within d .1, i .3 .ready .few),
-    )
+          (sym (same d)) (k .ensures .1));
+      clean = record { size = k .kept .0 ∙ i .clean .size; empty = k .ensures .0 };
+      few = omega (arith, within d .1, i .filling .ready .few);
+    }
 
 returns-2 : tie.Need-returns-2 Inv-loop μ-loop
 returns-2 c =
@@ -116,10 +134,10 @@ returns-2 c =
     let a = first (c .before) .args in
     let i = l .inv in
     let g = graphOfElements (length (now (a .lists))) (now (a .elements)) in
-    let e : l .base ≡ length (now (a .lists)) = omega (arith, i .0, i .1, c .loop-test .left) in (
-      i .3 .gone .end ∙ ap (entriesTo g) e,
+    let e : l .base ≡ length (now (a .lists)) = omega (arith, i .nodes, i .within, c .loop-test .left) in (
+      i .filling .gone .end ∙ ap (entriesTo g) e,
       subst (λ (j : ℕ). Laid g (now (a .starts)) (now (a .neighbours)) j (l .starts) (l .neighbours)) e
-          (i .3 .gone .goes (now (a .starts)) (now (a .neighbours)) (laid-begin g (now (a .starts)) (now (a .neighbours)))),
+          (i .filling .gone .goes (now (a .starts)) (now (a .neighbours)) (laid-begin g (now (a .starts)) (now (a .neighbours)))),
     )
 
 pub all-rows-spec : {M : Type 1} → statement M
@@ -135,11 +153,11 @@ all-rows-spec =
     loop-holds
     next-rows-requires
     some-rows-requires
-    (λ c. let d = chosen (done c) in omega (arith, within d .1, looped d .loop .inv .3 .ready .few))
-    (λ c. let d = chosen (done c) in omega (arith, within d .0, within d .1, looped d .loop .inv .0, d .before .before .loop-test .taken))
+    (λ c. let d = chosen (done c) in omega (arith, within d .1, looped d .loop .inv .filling .ready .few))
+    (λ c. let d = chosen (done c) in omega (arith, within d .0, within d .1, looped d .loop .inv .nodes, d .before .before .loop-test .taken))
     loop-again
-    (λ c. c .before .loop .inv .4 .size ∙ sym (first (c .before) .pre .1 .size))
-    (λ c. c .before .loop .inv .2)
-    (λ c. c .before .loop .inv .3 .starts-length)
-    (λ c. c .before .loop .inv .3 .neighbours-length)
+    (λ c. c .before .loop .inv .clean .size ∙ sym (first (c .before) .pre .1 .size))
+    (λ c. c .before .loop .inv .size)
+    (λ c. c .before .loop .inv .filling .starts-length)
+    (λ c. c .before .loop .inv .filling .neighbours-length)
     returns-2)

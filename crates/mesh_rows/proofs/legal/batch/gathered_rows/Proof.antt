@@ -1,6 +1,7 @@
 -- `mesh_rows::legal::batch::gathered_rows` meets its contract. Assumes nothing.
 use Prim.Native.Nat.{ℕ, _+_, _-_, _≤_, _<_}
 use mathlib.Core.Path.{_≡_, sym, ap, subst, _∙_}
+use mathlib.Core.List.{List}
 use native.Mathlib.Nat.{add-zero}
 use native.Mathlib.Omega.{arith}
 use denote.Ref.{now}
@@ -13,9 +14,16 @@ use Rattle.mesh_rows.proofs.Rows.{SetOf, Left, left-begin, left-step, r
 use Rattle.mesh_rows.proofs.legal.batch.gathered_rows.Statement.{statement}
 use Rattle.mesh_rows.proofs.legal.batch.gathered_rows.Tie as tie
 
+-- the first `row` of the rows are laid, and the sets of the others are as gathered
+record Laying (n : ℕ) (elements : List ℕ) (base rows : ℕ) (starts₀ neighbours₀ group starts neighbours : List ℕ) (to row : ℕ) : Type 0 where
+  most : row ≤ rows
+  size : length group ≡ 4096
+  sets : Left elements base row group
+  filling : Filling n elements base starts₀ neighbours₀ starts neighbours to (base + row)
+
 abbrev Inv-loop : tie.InvT-loop
 Inv-loop group₀ n elements base rows at starts₀ neighbours₀ to₀ row₀ group starts neighbours to row =
-    (row ≤ rows) × (length group ≡ 4096) × Left elements base row group × Filling n elements base starts₀ neighbours₀ starts neighbours to (base + row)
+    Laying n elements base rows starts₀ neighbours₀ group starts neighbours to row
 
 abbrev μ-loop : tie.MeasureT-loop
 μ-loop group₀ n elements base rows at starts₀ neighbours₀ to₀ row₀ group starts neighbours to row = rows - row
@@ -43,13 +51,14 @@ loop-holds : tie.Need-loop-holds Inv-loop μ-loop
 loop-holds c =
     let g = c .before .before in
     let s = start (g .before .before) in
-    let a = s .args in (
-      omega arith,
-      g .gather .kept .0 ∙ size s,
-      left-begin (g .gather .ensures),
-      subst (λ (i : ℕ). Filling (a .n) (now (a .elements)) (a .base) (now (a .starts)) (now (a .neighbours)) (now (a .starts)) (now (a .neighbours)) (a .at) i) (sym (add-zero (a .base)))
-          (filling-begin (a .n) (now (a .elements)) (a .base) (now (a .starts)) (now (a .neighbours)) (a .at) (s .pre .0 .0) (s .pre .1 .1)),
-    )
+    let a = s .args in
+    record {
+      most = omega arith;
+      size = g .gather .kept .0 ∙ size s;
+      sets = left-begin (g .gather .ensures);
+      filling = subst (λ (i : ℕ). Filling (a .n) (now (a .elements)) (a .base) (now (a .starts)) (now (a .neighbours)) (now (a .starts)) (now (a .neighbours)) (a .at) i) (sym (add-zero (a .base)))
+          (filling-begin (a .n) (now (a .elements)) (a .base) (now (a .starts)) (now (a .neighbours)) (a .at) (s .pre .0 .0) (s .pre .1 .1));
+    }
 
 -- the row at hand is one of the graph's, and one of the group
 inside : (c : tie.In-loop Inv-loop μ-loop) → let a = first (c .before) .args in let i = c .before .loop .row in (a .base + i < a .n) × (i < 64)
@@ -59,16 +68,16 @@ inside c = let s = first (c .before) in (omega (arith, s .pre .0 .2), omega (ari
 set-is : (c : tie.In-loop Inv-loop μ-loop) → let a = first (c .before) .args in
     let l = c .before .loop in
     SetOf (now (a .elements)) (a .base + l .row + 1) (setAt (l .group) (l .row))
-set-is c = let l = c .before .loop in l .inv .2 .at (l .row) (omega arith) (inside c .1)
+set-is c = let l = c .before .loop in l .inv .sets .at (l .row) (omega arith) (inside c .1)
 
 gathered-row-requires : tie.Need-gathered-row-requires Inv-loop μ-loop
 gathered-row-requires c κs =
     let t = c .before .before .before in
     let l = t .before .loop in
     let a = first (t .before) .args in
-    let F = l .inv .3 in (
+    let F = l .inv .filling in (
       (
-        l .inv .1,
+        l .inv .size,
         inside t .1,
         omega (arith, inside t .0, F .ready .few),
         row-room (a .n) (now (a .elements)) (l .starts) (F .ready) (a .base + l .row) (inside t .0) (l .to) (F .gone .end),
@@ -82,24 +91,25 @@ loop-again c =
     let t = closed c .before .before .before .before in
     let l = t .before .loop in
     let a = first (t .before) .args in
-    let F = l .inv .3 in
-    let e : a .base + l .row + 1 ≡ a .base + (l .row + 1) = omega arith in (
-      omega (arith, t .loop-test .taken),
-      k .kept .0 ∙ l .inv .1,
-      left-step (l .inv .2) (k .ensures .1 .0),
-      subst (λ (i : ℕ). Filling (a .n) (now (a .elements)) (a .base) (now (a .starts)) (now (a .neighbours)) (k .last .1 .1 .1 .1 .0) (k .last .1 .1 .1 .1 .1 .0) (k .result) i) e
+    let F = l .inv .filling in
+    let e : a .base + l .row + 1 ≡ a .base + (l .row + 1) = omega arith in
+    record {
+      most = omega (arith, t .loop-test .taken);
+      size = k .kept .0 ∙ l .inv .size;
+      sets = left-step (l .inv .sets) (k .ensures .1 .0);
+      filling = subst (λ (i : ℕ). Filling (a .n) (now (a .elements)) (a .base) (now (a .starts)) (now (a .neighbours)) (k .last .1 .1 .1 .1 .0) (k .last .1 .1 .1 .1 .1 .0) (k .result) i) e
           (filling-step (a .n) (now (a .elements)) (a .base) (now (a .starts)) (now (a .neighbours)) (l .starts) (l .neighbours) (l .to) (a .base + l .row) F (k .last .1 .1 .1 .1 .0)
           (k .last .1 .1 .1 .1 .1 .0) (k .result) (a .base + l .row + 1) (k .kept .1 .1 .1 .1 .0) (k .kept .1 .1 .1 .1 .1 .0)
           (row-goes (a .n) (now (a .elements)) (l .starts) (F .ready) (a .base + l .row) (inside t .0) (l .to) (F .gone .end) (setAt (l .group) (l .row)) (set-is t) (l .neighbours)
-          (k .last .1 .1 .1 .1 .0) (k .last .1 .1 .1 .1 .1 .0) (k .result) (k .ensures .0) (k .ensures .1 .1 .0) (k .ensures .1 .1 .1))),
-    )
+          (k .last .1 .1 .1 .1 .0) (k .last .1 .1 .1 .1 .1 .0) (k .result) (k .ensures .0) (k .ensures .1 .1 .0) (k .ensures .1 .1 .1)));
+    }
 
 returns : tie.Need-returns Inv-loop μ-loop
 returns c =
     let l = c .before .loop in
     let a = first (c .before) .args in
-    let e : a .base + l .row ≡ a .base + a .rows = omega (arith, l .inv .0, c .loop-test .left) in
-    subst (λ (i : ℕ). Goes (graphOfElements (a .n) (now (a .elements))) (a .base) (now (a .starts)) (now (a .neighbours)) i (l .starts) (l .neighbours) (l .to)) e (l .inv .3 .gone)
+    let e : a .base + l .row ≡ a .base + a .rows = omega (arith, l .inv .most, c .loop-test .left) in
+    subst (λ (i : ℕ). Goes (graphOfElements (a .n) (now (a .elements))) (a .base) (now (a .starts)) (now (a .neighbours)) i (l .starts) (l .neighbours) (l .to)) e (l .inv .filling .gone)
 
 pub gathered-rows-spec : {M : Type 1} → statement M
 gathered-rows-spec =
@@ -113,7 +123,7 @@ gathered-rows-spec =
     (λ c. omega arith)
     (λ c. omega arith)
     loop-again
-    (λ c. c .before .loop .inv .1 ∙ sym (size (first (c .before))))
-    (λ c. c .before .loop .inv .3 .starts-length)
-    (λ c. c .before .loop .inv .3 .neighbours-length)
+    (λ c. c .before .loop .inv .size ∙ sym (size (first (c .before))))
+    (λ c. c .before .loop .inv .filling .starts-length)
+    (λ c. c .before .loop .inv .filling .neighbours-length)
     returns)
