@@ -144,13 +144,13 @@ pub record Filling (n : ℕ) (ws : List ℕ) (base : ℕ) (starts₀ neighbours�
   pub neighbours-length : length neighbours ≡ length neighbours₀
   pub gone : Goes (graphOfElements n ws) base starts₀ neighbours₀ i starts neighbours to
 
-pub filling-begin : (n : ℕ) (ws : List ℕ) (base : ℕ) (S N : List ℕ) (to : ℕ) → Ready n ws S → to ≡ entriesTo (graphOfElements n ws) base → Filling n ws base S N S N to base
-filling-begin n ws base S N to R e = record { ready = R; starts-length = refl; neighbours-length = refl; gone = goes-none (graphOfElements n ws) base S N to e }
+pub filling-begin : {n : ℕ} {ws : List ℕ} (base : ℕ) {S : List ℕ} (N : List ℕ) {to : ℕ} → Ready n ws S → to ≡ entriesTo (graphOfElements n ws) base → Filling n ws base S N S N to base
+filling-begin {n} {ws} base {S} N {to} R e = record { ready = R; starts-length = refl; neighbours-length = refl; gone = goes-none (graphOfElements n ws) base S N to e }
 
-pub filling-step : (n : ℕ) (ws : List ℕ) (base : ℕ) (S₀ N₀ S N : List ℕ) (to i : ℕ) → Filling n ws base S₀ N₀ S N to i
-    → (S′ N′ : List ℕ) (to′ j : ℕ) → length S′ ≡ length S → length N′ ≡ length N → Goes (graphOfElements n ws) i S N j S′ N′ to′
+pub filling-step : {n : ℕ} {ws : List ℕ} {base : ℕ} {S₀ N₀ S N : List ℕ} {to i : ℕ} → Filling n ws base S₀ N₀ S N to i
+    → {S′ N′ : List ℕ} {to′ j : ℕ} → length S′ ≡ length S → length N′ ≡ length N → Goes (graphOfElements n ws) i S N j S′ N′ to′
     → Filling n ws base S₀ N₀ S′ N′ to′ j
-filling-step n ws base S₀ N₀ S N to i F S′ N′ to′ j s m G =
+filling-step F s m G =
     let R = F .ready in
     record {
       ready = record { few = R .few; good = R .good; small = λ h. R .small (omega (arith, s)) };

@@ -75,7 +75,7 @@ loop-holds c =
       nodes = refl;
       within = omega arith;
       size = refl;
-      filling = filling-begin (length (now (a .lists))) (now (a .elements)) 0 (now (a .starts)) (now (a .neighbours)) 0 (s .pre .0) (to-none _);
+      filling = filling-begin 0 (now (a .neighbours)) (s .pre .0) (to-none _);
       clean = s .pre .1;
       few = omega arith;
     }
@@ -118,8 +118,7 @@ loop-again c =
       nodes = i .nodes;
       within = within d .1;
       size = d .next-rows .kept .0 ∙ i .size;
-      filling = filling-step (length (now (a .lists))) W 0 (now (a .starts)) (now (a .neighbours)) (l .starts) (l .neighbours) (l .to) (l .base) (i .filling) (k .last .1 .1 .1 .1 .1 .1 .0)
-          (k .last .1 .1 .1 .1 .1 .1 .1 .0) (k .result) (l .base + d .next-rows .result) (k .kept .1 .1 .1 .1 .1 .1 .0) (k .kept .1 .1 .1 .1 .1 .1 .1 .0)
+      filling = filling-step (i .filling) (k .kept .1 .1 .1 .1 .1 .1 .0) (k .kept .1 .1 .1 .1 .1 .1 .1 .0)
           (subst
           (λ (n : ℕ).
           Goes (graphOfElements n W) (l .base) (l .starts) (l .neighbours) (l .base + d .next-rows .result) (k .last .1 .1 .1 .1 .1 .1 .0) (k .last .1 .1 .1 .1 .1 .1 .1 .0) (k .result))

@@ -57,7 +57,7 @@ loop-holds c =
       size = g .gather .kept .0 ∙ size s;
       sets = left-begin (g .gather .ensures);
       filling = subst (λ (i : ℕ). Filling (a .n) (now (a .elements)) (a .base) (now (a .starts)) (now (a .neighbours)) (now (a .starts)) (now (a .neighbours)) (a .at) i) (sym (add-zero (a .base)))
-          (filling-begin (a .n) (now (a .elements)) (a .base) (now (a .starts)) (now (a .neighbours)) (a .at) (s .pre .0 .0) (s .pre .1 .1));
+          (filling-begin (a .base) (now (a .neighbours)) (s .pre .0 .0) (s .pre .1 .1));
     }
 
 -- the row at hand is one of the graph's, and one of the group
@@ -98,8 +98,7 @@ loop-again c =
       size = k .kept .0 ∙ l .inv .size;
       sets = left-step (l .inv .sets) (k .ensures .1 .0);
       filling = subst (λ (i : ℕ). Filling (a .n) (now (a .elements)) (a .base) (now (a .starts)) (now (a .neighbours)) (k .last .1 .1 .1 .1 .0) (k .last .1 .1 .1 .1 .1 .0) (k .result) i) e
-          (filling-step (a .n) (now (a .elements)) (a .base) (now (a .starts)) (now (a .neighbours)) (l .starts) (l .neighbours) (l .to) (a .base + l .row) F (k .last .1 .1 .1 .1 .0)
-          (k .last .1 .1 .1 .1 .1 .0) (k .result) (a .base + l .row + 1) (k .kept .1 .1 .1 .1 .0) (k .kept .1 .1 .1 .1 .1 .0)
+          (filling-step F (k .kept .1 .1 .1 .1 .0) (k .kept .1 .1 .1 .1 .1 .0)
           (row-goes (a .n) (now (a .elements)) (l .starts) (F .ready) (a .base + l .row) (inside t .0) (l .to) (F .gone .end) (setAt (l .group) (l .row)) (set-is t) (l .neighbours)
           (k .last .1 .1 .1 .1 .0) (k .last .1 .1 .1 .1 .1 .0) (k .result) (k .ensures .0) (k .ensures .1 .1 .0) (k .ensures .1 .1 .1)));
     }

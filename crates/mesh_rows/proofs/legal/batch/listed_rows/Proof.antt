@@ -34,7 +34,7 @@ loop-holds c =
       omega arith,
       subst (λ (i : ℕ). Filling (length (now (a .lists))) (now (a .elements)) (a .base) (now (a .starts)) (now (a .neighbours)) (now (a .starts)) (now (a .neighbours)) (a .at) i)
           (sym (add-zero (a .base)))
-          (filling-begin (length (now (a .lists))) (now (a .elements)) (a .base) (now (a .starts)) (now (a .neighbours)) (a .at) (s .pre .0 .0) (s .pre .1 .1)),
+          (filling-begin (a .base) (now (a .neighbours)) (s .pre .0 .0) (s .pre .1 .1)),
       s .pre .0 .1,
     )
 
@@ -58,9 +58,7 @@ loop-again c =
           (λ (i : ℕ).
           Filling (length (now (a .lists))) (now (a .elements)) (a .base) (now (a .starts)) (now (a .neighbours)) (k .last .1 .1 .1 .1 .1 .1 .1 .0) (k .last .1 .1 .1 .1 .1 .1 .1 .1 .0)
           (k .result) i) e
-          (filling-step (length (now (a .lists))) (now (a .elements)) (a .base) (now (a .starts)) (now (a .neighbours)) (l .loop .starts) (l .loop .neighbours) (l .loop .to)
-          (a .base + l .loop .row) (l .loop .inv .1) (k .last .1 .1 .1 .1 .1 .1 .1 .0) (k .last .1 .1 .1 .1 .1 .1 .1 .1 .0) (k .result) (a .base + l .loop .row + 1)
-          (k .kept .1 .1 .1 .1 .1 .1 .1 .0) (k .kept .1 .1 .1 .1 .1 .1 .1 .1 .0) (k .ensures .1)),
+          (filling-step (l .loop .inv .1) (k .kept .1 .1 .1 .1 .1 .1 .1 .0) (k .kept .1 .1 .1 .1 .1 .1 .1 .1 .0) (k .ensures .1)),
       record { size = k .kept .0 ∙ l .loop .inv .2 .size; empty = k .ensures .0 },
     )
 
