@@ -6,9 +6,10 @@ use Prim.Native.Nat.{ℕ, zero, suc, _≤_, _<_}
 use native.Mathlib.Nat.{not-suc-le-zero, le-of-suc-le-suc}
 use lib.ListN.{length, getD}
 use lib.Dec.{eqb}
+use borrow.Author.Tests.{eqb-true}
 use Rattle.basis.specs.Lists.{memb}
 use Rattle.basis.proofs.Lists.{memb-here}
-use Rattle.basis.proofs.Logic.{or-right}
+use Rattle.basis.proofs.Logic.{by-test, clash, or-right}
 use Rattle.spec.specs.Graph.{graphOf, sizeOf, rowOf, adjoins, graphRefusal}
 use Rattle.laws.specs.Legal.{LegalGraph}
 use Rattle.laws.proofs.Refused.{passed, starts-of, legal-graph}
@@ -28,6 +29,13 @@ pub within-make : (n : ℕ) (xs : List ℕ) → ((q : ℕ) → memb q xs ≡ tru
 within-make n [] h = tt
 within-make n (x ∷ xs) h =
     (h x (memb-here x xs) .0, h x (memb-here x xs) .1, within-make n xs (λ q m. h q (or-right (eqb q x) m)))
+
+pub within-memb : (n : ℕ) (xs : List ℕ) (q : ℕ) → within n xs → memb q xs ≡ true → (1 ≤ q) × (q ≤ n)
+within-memb n [] q w m = clash m refl
+within-memb n (x ∷ xs) q w m =
+    by-test (eqb q x)
+    (λ t. let e : q ≡ x = eqb-true q x t in (rw e (w .0), rw e (w .1)))
+    (λ t. within-memb n xs q (w .2) (rw t at m))
 
 -- ---- what the code asks of the two lists
 

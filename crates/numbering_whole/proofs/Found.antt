@@ -29,7 +29,7 @@ use Rattle.laws.proofs.Parts.{leaders-in}
 use Rattle.laws.proofs.Passes.{leaders-most}
 use Rattle.laws.proofs.Results.{orders, all-once}
 use Rattle.numbering_parts.specs.Walked.{Walked, leaderAt}
-use Rattle.numbering_parts.proofs.Walk.{next-node}
+use Rattle.numbering_parts.proofs.PartByPart.{next-node}
 use Rattle.numbering_part.specs.Part.{numberFrom, renewed}
 use Rattle.numbering_whole.specs.Ran.{foundTo}
 

@@ -32,8 +32,8 @@ use Rattle.levels.specs.Part.{PartGiven}
 use Rattle.levels.proofs.OnePart.{members-lent}
 use Rattle.numbering_parts.specs.Found.{Sized}
 use Rattle.numbering_parts.specs.Walked.{Walked, leaderAt}
-use Rattle.numbering_parts.proofs.Leads.{parts-length}
-use Rattle.numbering_parts.proofs.Walk.{walk-begin, walk-end, walk-next, next-leads, next-node, next-some, next-fits, scratch-first, scratch-part}
+use Rattle.numbering_parts.proofs.Seen.{parts-length}
+use Rattle.numbering_parts.proofs.PartByPart.{walk-begin, walk-end, walk-next, next-leads, next-node, next-some, next-fits, scratch-first, scratch-part}
 use Rattle.numbering_part.specs.Part.{numberFrom, renewed, lowestIn, newNumbers, newLevels, partFiguresOf}
 use Rattle.numbering_part.specs.declared.shape.PartFigures.{PartFigures}
 use Rattle.numbering_part.proofs.Single.{figures-one, numbers-one, levels-one}

@@ -1,31 +1,47 @@
--- The walk over the nodes that finds the parts: a node without a label leads the next part, and one with a label leads none. Assumes nothing.
+-- The parts found so far, as a walk over the nodes meets them: a node that is seen, in one of them, leads no part; one that is not leads the
+-- next, whose nodes get the next label. Assumes nothing.
 use mathlib.Core.Path.{_≡_, refl, sym, ap, _∙_}
-use mathlib.Core.Logic.{_⊎_, inl, inr, ⊎-elim}
+use mathlib.Core.Logic.{_⊎_, ⊎-elim}
 use mathlib.Core.Bool.{Bool, true, false, cond}
 use mathlib.Core.List.{List, [], _∷_, _++_, map}
 use Prim.Native.Nat.{ℕ, zero, suc, _+_, _-_, _≤_, _<_}
 use native.Mathlib.Omega.{arith}
-use lib.ListN.{length, getD, length-append, length-map}
-use lib.Seq.{ext-getD}
-use lib.Dec.{eqb, ltb}
+use lib.ListN.{length, length-append, length-map}
+use lib.Dec.{ltb}
 use borrow.Author.Tests.{eq-eqb, eqb-true, lt-ltb}
-use Rattle.basis.specs.Lists.{filterb, joinAll, memb, upFrom, greatest, position}
+use Rattle.basis.specs.Lists.{filterb, joinAll, memb, upFrom}
 use Rattle.basis.proofs.Count.{length-filter, count-length}
-use Rattle.basis.proofs.Index.{getD-map, getD-map-upFrom, memb-getD, position-hit, once-index, greatest-unique}
-use Rattle.basis.proofs.Lists.{filter-in, filter-make, filter-cong, filter-again, upFrom-in, upFrom-make, length-upFrom, upFrom-append, map-append, map-cong, join-make, join-in, filter-append, join-append}
-use Rattle.basis.proofs.Logic.{by-test, clash, fails, same, eq-or-ne}
+use Rattle.basis.proofs.Lists.{filter-in, filter-make, upFrom-in, upFrom-make, length-upFrom, upFrom-append, memb-append, map-append, map-cong, join-make, join-in, filter-append, join-last, join-append}
+use Rattle.basis.proofs.Logic.{by-test, clash, fails, eq-or-ne}
 use Rattle.basis.proofs.Perm.{perm-length}
 use Rattle.spec.specs.Graph.{Graph, nodes, ofNode}
-use Rattle.spec.specs.Levels.{levels, levelCounted, levelOf, levelList, part, leads, leaders, parts}
+use Rattle.spec.specs.Levels.{levelCounted, levelOf, levelList, part, leads, leaders, parts}
 use Rattle.laws.specs.Legal.{Node, LegalGraph}
 use Rattle.laws.proofs.Legal.{node-in, in-nodes, length-nodes}
 use Rattle.laws.proofs.Figures.{length-levelList}
 use Rattle.laws.proofs.Levels.{levelList-at, part-self}
-use Rattle.laws.proofs.Parts.{leader, leader-lowest, leader-leads, leader-has, leaders-in, leader-unique, parts-apart, leaders-once, parts-perm}
-use Rattle.numbering_parts.specs.Labels.{labelled, class, classes}
+use Rattle.laws.proofs.Parts.{leader, leader-lowest, leader-leads, leader-has, leader-unique, parts-apart, parts-perm}
+use Rattle.numbering_parts.specs.Labels.{labelled}
 use Rattle.numbering_parts.specs.Found.{partsTo}
-use Rattle.numbering_parts.proofs.Classes.{filter-hit, filter-miss}
-use Rattle.numbering_parts.proofs.Labels.{counted-in, counted-last, counted-hit}
+use Rattle.numbering_parts.proofs.NextNode.{filter-hit, filter-miss}
+
+-- ---- the number of the list that holds q, counted from i
+
+module _ (q : ℕ) where
+  counted-in : (i : ℕ) (ls : List (List ℕ)) → 1 ≤ i → memb q (joinAll ls) ≡ ltb 0 (levelCounted i ls q)
+  unfolding levelCounted
+  counted-in i [] h = refl
+  counted-in i (l ∷ ls) h =
+      memb-append q l (joinAll ls)
+      ∙ by-test (memb q l) (λ e. rw e (sym (lt-ltb 0 i h))) (λ e. rw e (counted-in (suc i) ls (omega arith)))
+
+  counted-last : (i : ℕ) (ls : List (List ℕ)) (l : List ℕ) → 1 ≤ i
+      → levelCounted i (ls ++ (l ∷ [])) q ≡ cond (memb q (joinAll ls)) (levelCounted i ls q) (cond (memb q l) (i + length ls) 0)
+  unfolding levelCounted
+  counted-last i [] l h = let e : i + 0 ≡ i = omega arith in rw e
+  counted-last i (m ∷ ls) l h =
+      let c : suc i + length ls ≡ i + suc (length ls) = omega arith in
+      rw (memb-append q m (joinAll ls)) (by-test (memb q m) (λ e. rw e) (λ e. rw e (rw c at (counted-last (suc i) ls l (omega arith)))))
 
 -- ---- the parts found so far
 
@@ -36,6 +52,12 @@ leadersTo g p = filterb (leads g) (upFrom 1 p)
 pub partsTo-hit : (g : Graph) (p : ℕ) → leads g (suc p) ≡ true → partsTo g (suc p) ≡ partsTo g p ++ (part g (suc p) ∷ [])
 unfolding partsTo
 partsTo-hit g p e = ap (map (part g)) (filter-hit (leads g) p e) ∙ map-append (part g) (leadersTo g p) (suc p ∷ [])
+
+-- and the nodes in them
+pub filled-hit : (g : Graph) (p : ℕ) → leads g (suc p) ≡ true → length (joinAll (partsTo g (suc p))) ≡ length (joinAll (partsTo g p)) + length (part g (suc p))
+filled-hit g p e =
+    ap (λ (ls : List (List ℕ)). length (joinAll ls)) (partsTo-hit g p e) ∙ ap length (join-last (partsTo g p) (part g (suc p)))
+    ∙ length-append (joinAll (partsTo g p)) (part g (suc p))
 
 pub partsTo-miss : (g : Graph) (p : ℕ) → leads g (suc p) ≡ false → partsTo g (suc p) ≡ partsTo g p
 unfolding partsTo
@@ -167,92 +189,3 @@ module _ {g : Graph} (G : LegalGraph g) where
             none : (x : ℕ) → ltb 0 x ≡ false → x ≡ 0
             none zero t = refl
             none (suc x) t = clash (lt-ltb 0 (suc x) (omega arith)) t
-
--- ---- all parts
-
-module _ {g : Graph} (G : LegalGraph g) where
-  part-at : (i : ℕ) → i < length (leaders g) → getD (parts g) i [] ≡ part g (getD (leaders g) i 0)
-  unfolding parts
-  part-at i h = getD-map (part g) (leaders g) i 0 [] h
-
-  count-parts : length (parts g) ≡ length (leaders g)
-  unfolding parts
-  count-parts = length-map (leaders g) (part g)
-
-  -- the leader of the part that holds q
-  module _ (q : ℕ) (Q : Node g q) where
-    abbrev place : ℕ
-    place = position (leader g q) (leaders g)
-
-    at : (place < length (leaders g)) × (getD (leaders g) place 0 ≡ leader g q)
-    at = position-hit (leader g q) (leaders g) (leader-leads G Q)
-
-    only : (i : ℕ) → i < length (leaders g) → memb q (getD (parts g) i []) ≡ true → i ≡ place
-    only i h m =
-        once-index (leaders g) (leaders-once g) i place h (at .0)
-        (leader-unique G (getD (leaders g) i 0) q (memb-getD (leaders g) i h) (sym (ap (memb q) (part-at i h)) ∙ m) ∙ sym (at .1))
-
-    there : memb q (getD (parts g) place []) ≡ true
-    there = ap (memb q) (part-at place (at .0) ∙ ap (part g) (at .1)) ∙ leader-has G Q
-
-    -- the number of its part, counted from 1
-    number : levelOf (parts g) q ≡ suc place
-    unfolding levelOf
-    number =
-        counted-hit q 1 (parts g) place (omega (arith, at .0, count-parts)) there
-        (λ j b. fails (memb q (getD (parts g) j [])) (λ m. omega (arith, only j (omega (arith, at .0)) m)))
-        ∙ omega arith
-
-    label : ofNode (levelList g (parts g)) q ≡ suc place
-    label = levelList-at g (parts g) q Q ∙ number
-
-    pub label-some : 1 ≤ ofNode (levelList g (parts g)) q
-    label-some = omega (arith, label)
-
-    label-most : levelOf (parts g) q ≤ length (parts g)
-    label-most = omega (arith, number, at .0, count-parts)
-
-    -- part i + 1 holds it exactly if that is its label
-    holds : (i : ℕ) → i < length (leaders g) → eqb (ofNode (levelList g (parts g)) q) (suc i) ≡ memb q (part g (getD (leaders g) i 0))
-    holds i h =
-        same _ _
-        (λ e.
-        let c : place ≡ i = omega (arith, label, eqb-true (ofNode (levelList g (parts g)) q) (suc i) e) in
-        ap (memb q) (sym (part-at i h)) ∙ ap (λ (k : ℕ). memb q (getD (parts g) k [])) (sym c) ∙ there)
-        (λ m. eq-eqb (ofNode (levelList g (parts g)) q) (suc i) (omega (arith, label, only i h (ap (memb q) (part-at i h) ∙ m))))
-
-  -- the greatest label is the number of parts
-  pub greatest-label : greatest (levelList g (parts g)) ≡ length (parts g)
-  unfolding levelList
-  greatest-label =
-      sym (greatest-unique (levelOf (parts g)) (nodes g) (length (parts g)) (λ q m. label-most q (node-in g q m)) (met (length (parts g)) refl))
-    where
-      met : (k : ℕ) → length (parts g) ≡ k → (k ≡ 0) ⊎ ((q : ℕ) × (memb q (nodes g) ≡ true) × (levelOf (parts g) q ≡ k))
-      met zero e = inl refl
-      met (suc k) e =
-          let h : k < length (leaders g) = omega (arith, count-parts) in
-          let z : ℕ = getD (leaders g) k 0 in
-          let L = leaders-in g z (memb-getD (leaders g) k h) in
-          let m = ap (memb z) (part-at k h) ∙ part-self G (L .0) in
-          inr (z, in-nodes g z (L .0), number z (L .0) ∙ ap suc (sym (only z (L .0) k h m)))
-
-  -- the classes by label are the parts
-  pub classes-parts : classes (levelList g (parts g)) ≡ parts g
-  unfolding classes class part parts nodes
-  classes-parts =
-      let L : List ℕ = levelList g (parts g) in
-      ap (λ (k : ℕ). map (class L) (upFrom 1 k)) (greatest-label ∙ count-parts)
-      ∙ ext-getD [] (map (class L) (upFrom 1 (length (leaders g)))) (map (part g) (leaders g))
-      (length-map (upFrom 1 (length (leaders g))) (class L) ∙ length-upFrom 1 (length (leaders g)) ∙ sym (length-map (leaders g) (part g)))
-      (λ i b.
-      let h : i < length (leaders g) = omega (arith, length-map (upFrom 1 (length (leaders g))) (class L), length-upFrom 1 (length (leaders g))) in
-      let c : 1 + i ≡ suc i = omega arith in
-      getD-map-upFrom (class L) 1 (length (leaders g)) i [] h ∙ ap (class L) c ∙ one i h ∙ sym (getD-map (part g) (leaders g) i 0 [] h))
-    where
-      one : (i : ℕ) → i < length (leaders g) → class (levelList g (parts g)) (suc i) ≡ part g (getD (leaders g) i 0)
-      one i h =
-          let L : List ℕ = levelList g (parts g) in
-          let z : ℕ = getD (leaders g) i 0 in
-          ap (λ (k : ℕ). filterb (λ q. eqb (ofNode L q) (suc i)) (upFrom 1 k)) (length-levelList g (parts g))
-          ∙ filter-cong (λ q. eqb (ofNode L q) (suc i)) (λ q. memb q (part g z)) (nodes g) (λ q m. holds q (node-in g q m) i h)
-          ∙ sym (filter-again (λ q. ltb 0 (levelOf (levels g z) q)) (nodes g))

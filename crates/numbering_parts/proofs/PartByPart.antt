@@ -12,14 +12,13 @@ use Rattle.basis.specs.Lists.{joinAll, headOr, memb}
 use Rattle.basis.proofs.Index.{getD-map, memb-getD}
 use Rattle.basis.proofs.Lists.{memb-length}
 use Rattle.spec.specs.Graph.{Graph}
-use Rattle.spec.specs.Levels.{levels, reached, part, leaders, parts}
+use Rattle.spec.specs.Levels.{part, leaders, parts}
 use Rattle.laws.specs.Legal.{Node, LegalGraph}
-use Rattle.laws.proofs.Figures.{reached-part}
 use Rattle.laws.proofs.Levels.{part-self}
 use Rattle.laws.proofs.Parts.{leaders-in}
 use Rattle.numbering_parts.specs.Walked.{Walked, leaderAt}
 use Rattle.numbering_parts.proofs.Joins.{offset, join-at, offset-suc, offset-most}
-use Rattle.numbering_parts.proofs.Leads.{parts-length}
+use Rattle.numbering_parts.proofs.Seen.{parts-length}
 
 pub walk-begin : (g : Graph) → Walked g 0 0
 walk-begin g = record { some = omega arith; nodes = refl }
@@ -57,13 +56,7 @@ module _ {g : Graph} (G : LegalGraph g) {j a : ℕ} (P : Walked g j a) where
         ∙ join-at (parts g) j h
         ∙ ap (λ (l : List ℕ). l ++ joinAll (drop (suc j) (parts g))) part-is
 
-    -- its members
-    pub next-part : take (length (part g (leaderAt g j))) (drop a (joinAll (parts g))) ≡ part g (leaderAt g j)
-    next-part =
-        ap (take (length (part g (leaderAt g j)))) next-split
-        ∙ take-at (part g (leaderAt g j)) (joinAll (drop (suc j) (parts g))) (length (part g (leaderAt g j))) refl
-
-    -- the first of them is its lowest node
+    -- the first of its members is its lowest node
     pub next-first : getD (joinAll (parts g)) a 0 ≡ leaderAt g j
     next-first =
         let z : a + 0 ≡ a = omega arith in
@@ -85,10 +78,6 @@ module _ {g : Graph} (G : LegalGraph g) {j a : ℕ} (P : Walked g j a) where
           ∙ sym (offset-suc (parts g) j h)
           ∙ ap (offset (parts g)) (sym (add-one j));
     }
-
-    -- as many as a search from it reaches
-    pub next-count : reached (levels g (leaderAt g j)) ≡ length (part g (leaderAt g j))
-    next-count = reached-part G next-node
 
     -- it has a node, and all of them are nodes
     pub next-some : 1 ≤ length (part g (leaderAt g j))
