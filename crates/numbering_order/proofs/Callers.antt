@@ -1,38 +1,31 @@
 -- For callers of `forward`: what it asks, and the levels that it speaks of, from a level structure of the part.
 -- Assumes nothing.
 use mathlib.Core.Path.{_≡_, sym, ap, _∙_}
-use mathlib.Core.Bool.{true, false, _&&_, cond}
+use mathlib.Core.Bool.{true, _&&_}
 use mathlib.Core.List.{List}
-use Prim.Native.Nat.{ℕ, _+_, _-_, _*_, _≤_}
+use Prim.Native.Nat.{ℕ, _+_, _-_, _≤_, _*_}
 use native.Mathlib.Omega.{arith}
-use lib.ListN.{length, drop, length-map}
-use lib.Dec.{leb, ltb}
+use lib.ListN.{length, drop}
+use lib.Dec.{ltb, leb}
 use Rattle.basis.specs.Lists.{bit, memb, upFrom}
 use Rattle.basis.specs.Perm.{times}
-use Rattle.basis.proofs.Count.{bit-most, bit-none, count-every, count-length, count-range, count-sum, memb-times}
+use Rattle.basis.proofs.Count.{bit-none, memb-times, bit-most, count-every, count-length, count-range, count-sum}
 use Rattle.basis.proofs.Index.{memb-getD}
 use Rattle.basis.proofs.Lists.{length-upFrom, upFrom-in, sum-mono}
-use Rattle.basis.proofs.Logic.{by-test}
+use Rattle.basis.proofs.Logic.{by-test, same}
 use Rattle.basis.proofs.Perm.{perm-length}
-use Rattle.spec.specs.Graph.{Graph, nodes, ofNode}
-use Rattle.spec.specs.Levels.{part, levels}
+use Rattle.spec.specs.Graph.{Graph, ofNode, nodes}
 use Rattle.spec.specs.Numbering.{forwardOrder}
-use Rattle.laws.specs.Legal.{Node, LegalGraph}
+use Rattle.spec.specs.Levels.{part, levels}
+use Rattle.laws.specs.Legal.{LegalGraph, Node}
 use Rattle.laws.specs.Structure.{LevelStructure}
-use Rattle.laws.proofs.Legal.{by-node, ofNode-at, ofNode-map, length-nodes}
-use Rattle.laws.proofs.Levels.{part-node}
+use Rattle.laws.proofs.Legal.{ofNode-at}
 use Rattle.laws.proofs.PartOrder.{forward-perm}
+use Rattle.laws.proofs.Levels.{part-node}
 use Rattle.laws.proofs.Parts.{part-again, part-closed}
 use Rattle.numbering_stacks.specs.Part.{membersIn, Behind}
 use Rattle.numbering_order.specs.Model.{ownLevels, Starting}
-
--- levels of the part's nodes as ls has them, and ls 0 outside the part: the part's own levels are ls
-pub own-is : (g : Graph) (P L ls : List ℕ) → length ls ≡ g .size → ((q : ℕ) → memb q P ≡ true → ofNode L q ≡ ofNode ls q)
-    → ((q : ℕ) → Node g q → memb q P ≡ false → ofNode ls q ≡ 0) → ownLevels g P L ≡ ls
-unfolding ownLevels
-own-is g P L ls l same out =
-    by-node g (ownLevels g P L) ls (length-map (nodes g) (λ z. cond (memb z P) (ofNode L z) 0) ∙ length-nodes g) l
-    (λ q X. ofNode-map g (λ z. cond (memb z P) (ofNode L z) 0) q X ∙ by-test (memb q P) (λ e. rw e (same q e)) (λ e. rw e (sym (out q X e))))
+use Rattle.numbering_order.proofs.OwnLevels.{own-is}
 
 -- there are no more levels than nodes: each is occupied
 levels-few : {g : Graph} → LegalGraph g → {z : ℕ} → Node g z → {k v u : ℕ} {ls : List ℕ} → LevelStructure g z k v u ls → k ≤ g .size

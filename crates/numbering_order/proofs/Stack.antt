@@ -1,58 +1,33 @@
 -- The stack of a level while the level is numbered: from where the code has gone down to, it has all the level's nodes that are left.
 -- Assumes nothing.
 use mathlib.Core.Path.{_≡_, refl, sym, ap, _∙_}
-use mathlib.Core.Bool.{Bool, true, false, not, _&&_, and-comm}
+use mathlib.Core.Bool.{true, not, _&&_, and-comm}
 use mathlib.Core.List.{List}
 use Prim.Native.Nat.{ℕ, _+_, _-_, _≤_}
 use native.Mathlib.Omega.{arith}
 use lib.ListN.{length, drop, getD}
-use lib.Seq.{getD-drop}
 use lib.Dec.{eqb}
-use borrow.Author.Tests.{ne-eqb}
-use Rattle.basis.specs.Lists.{bit, filterb, headOr, memb}
+use Rattle.basis.specs.Lists.{filterb, memb, headOr}
 use Rattle.basis.specs.Perm.{Once}
 use Rattle.basis.proofs.Count.{filter-once}
-use Rattle.basis.proofs.Lists.{memb-append, filter-cong}
-use Rattle.basis.proofs.Logic.{by-test, or-left}
+use Rattle.basis.proofs.Lists.{filter-cong}
+use Rattle.basis.proofs.Logic.{by-test}
 use Rattle.basis.proofs.Rise.{rise-once}
-use Rattle.spec.specs.Graph.{Graph, graphOf, sortE, firstInE, ofNode}
+use Rattle.spec.specs.Graph.{Graph, graphOf, sortE, ofNode, firstInE}
 use Rattle.spec.specs.Numbering.{levelNodes}
-use Rattle.laws.proofs.Orders.{perm-sortE}
 use Rattle.laws.proofs.Refused.{not-refused}
+use Rattle.laws.proofs.Orders.{perm-sortE}
 use Rattle.numbering_stacks.specs.Stacks.{Chain, isMarked, Rest}
+use Rattle.numbering_stacks.proofs.Sort.{once-most, filter-sortE}
 use Rattle.numbering_stacks.proofs.Deal.{rising-chain}
-use Rattle.numbering_stacks.proofs.Sort.{filter-sortE, once-most}
-use Rattle.numbering_stacks.proofs.Stacks.{chain-same, chain-range}
-use Rattle.numbering_order.specs.Model.{Far, free, ownLevels, Spread, at-end, on, Standing}
-use Rattle.numbering_order.proofs.Stand.{mark-at}
-use Rattle.numbering_order.proofs.Free.{kept}
-use Rattle.numbering_order.proofs.Walk.{Walk}
-use Rattle.numbering_order.proofs.Settle.{leftFirst}
-use Rattle.numbering_order.proofs.Part.{filter-filter, left-same}
+use Rattle.numbering_stacks.proofs.Stacks.{chain-same, chain-range, stacks-same}
+use Rattle.numbering_order.specs.Model.{Far, free, ownLevels, Standing}
+use Rattle.numbering_order.proofs.Walk.{Walk, walk-levels, walk-kept, walk-mark}
+use Rattle.numbering_order.proofs.Cursor.{leftFirst}
+use Rattle.numbering_order.proofs.OwnLevels.{filter-filter, left-same}
 
 pub standing-far : {g : Graph} {n at : ℕ} {P W : List ℕ} → Standing g n at P W → Far n at W
 standing-far B = record { behind = omega (arith, B .behind); held = B .held }
-
--- ---- what the walk leaves
-
-module _ {S N : List ℕ} {n at : ℕ} {W₀ o W : List ℕ} {e : ℕ} (K : Walk S N n at W₀ o W e) where
-  -- words behind the order
-  pub walk-kept : (i : ℕ) → n + n ≤ i → getD W i 0 ≡ getD W₀ i 0
-  walk-kept i h =
-      let f : n + n + (i - (n + n)) ≡ i = omega arith in
-      ap (λ (k : ℕ). getD W k 0) (sym f) ∙ sym (getD-drop (n + n) W (i - (n + n)) 0)
-      ∙ ap (λ (l : List ℕ). getD l (i - (n + n)) 0) (kept n (n + n) W₀ (omega arith) (K .now))
-      ∙ getD-drop (n + n) W₀ (i - (n + n)) 0 ∙ ap (λ (k : ℕ). getD W₀ k 0) f
-
-  -- the marks
-  pub walk-mark : (q : ℕ) → 1 ≤ q → q ≤ n → isMarked W q ≡ memb q o
-  walk-mark q lo hi =
-      rw (ne-eqb q 0 (λ z. omega arith))
-      (ap (λ (l : List ℕ). not (eqb (getD l (q - 1) 0) 0)) (K .now .is) ∙ ap (λ (x : ℕ). not (eqb x 0)) (mark-at n o (drop n W₀) q lo hi) ∙ bit-not (memb q o))
-    where
-      bit-not : (b : Bool) → not (eqb (bit b) 0) ≡ b
-      bit-not true = refl
-      bit-not false = refl
 
 -- ---- the stack of level i
 
@@ -135,7 +110,20 @@ module _ {S N : List ℕ} {n at : ℕ} {W₀ o W : List ℕ} {e : ℕ} (K : Walk
         ∙ filter-sortE g (free L i o) P
         ∙ ap (sortE g) (left-same (not-refused S N (K .ok)) P L (B .rising) (B .closed) i h o))
 
--- a cursor only adds
-pub spread-more : {by : List ℕ → ℕ → List ℕ} {c : ℕ} {o o′ : List ℕ} → Spread by c o o′ → (x : ℕ) → memb x o ≡ true → memb x o′ ≡ true
-spread-more (at-end h) x m = m
-spread-more {by} {c} {o} (on h s) x m = spread-more s x (memb-append x o (by o (getD o c 0)) ∙ or-left (memb x (by o (getD o c 0))) m)
+-- ---- what stands behind goes on to stand there
+
+module _ {S N : List ℕ} {n at : ℕ} {P W₀ o W : List ℕ} {e : ℕ} (K : Walk S N n at W₀ o W e) (B : Standing (graphOf S N) n at P W₀) where
+  pub standing-on : Standing (graphOf S N) n at P W
+  standing-on = record {
+    behind = B .behind;
+    held = omega (arith, B .held, K .size);
+    rising = B .rising;
+    closed = B .closed;
+    stacks =
+        rw (walk-levels K)
+        (stacks-same n (n + n + n) (n + n) (ofNode (drop at W₀)) (sortE (graphOf S N) P) W₀ W
+        (λ k lo hi. walk-kept K (n + n + n + (k - 1)) (omega arith)) (λ q m lo hi. walk-kept K (n + n + (q - 1)) (omega arith)) (B .stacks));
+  }
+
+  pub levels-on : ownLevels (graphOf S N) P (drop at W) ≡ ownLevels (graphOf S N) P (drop at W₀)
+  levels-on = ap (ownLevels (graphOf S N) P) (walk-levels K)

@@ -3,7 +3,7 @@ use Prim.Native.Nat.{_-_}
 use native.Mathlib.Omega.{arith}
 use lib.ListN.{length}
 use borrow.Author.Needs.{needs}
-use Rattle.numbering_order.proofs.Free.{Appending, append-begin, append-far, append-open, row-node, append-step, append-done}
+use Rattle.numbering_order.proofs.Append.{Appending, append-begin, append-far, append-open, row-node, append-step, append-done}
 use Rattle.numbering_order.proofs.legal.append.Statement.{statement}
 use Rattle.numbering_order.proofs.legal.append.Tie as tie
 

@@ -2,7 +2,7 @@
 use mathlib.Core.Path.{_∙_}
 use borrow.Author.Needs.{needs}
 use Rattle.laws.proofs.Refused.{passed, starts-of}
-use Rattle.numbering_order.proofs.Free.{extend-open, extend-done, row-fine}
+use Rattle.numbering_order.proofs.Extend.{extend-open, extend-done, row-fine}
 use Rattle.numbering_order.proofs.legal.extend.Statement.{statement}
 use Rattle.numbering_order.proofs.legal.extend.Tie as tie
 

@@ -7,10 +7,10 @@ use lib.ListN.{length, getD}
 use borrow.Author.Needs.{needs}
 use Rattle.spec.specs.Graph.{graphOf}
 use Rattle.numbering_order.specs.Model.{Fills}
-use Rattle.numbering_order.proofs.Stand.{at-most}
+use Rattle.numbering_order.proofs.Words.{at-most}
 use Rattle.numbering_order.proofs.Walk.{walk-open, walk-far}
 use Rattle.numbering_order.proofs.Stack.{standing-far}
-use Rattle.numbering_order.proofs.Level.{Filling, Found, fill-room, fill-begin, fill-asks, fill-on, fill-spread, fill-step, fill-done, left-range, left-unseen}
+use Rattle.numbering_order.proofs.Fill.{Filling, Found, fill-room, fill-begin, fill-asks, fill-on, fill-spread, fill-step, fill-done, left-range, left-unseen}
 use Rattle.numbering_order.proofs.legal.fill.Statement.{statement}
 use Rattle.numbering_order.proofs.legal.fill.Tie as tie
 

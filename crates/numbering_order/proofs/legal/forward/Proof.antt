@@ -3,7 +3,7 @@ use mathlib.Core.Path.{refl}
 use native.Mathlib.Omega.{arith}
 use Rattle.laws.proofs.Refused.{passed, starts-of}
 use Rattle.numbering_stacks.specs.Part.{membersIn}
-use Rattle.numbering_order.proofs.Whole.{whole-zeros, whole-standing, whole-start, whole-placed, whole-held, whole-done}
+use Rattle.numbering_order.proofs.Forward.{whole-zeros, whole-standing, whole-start, whole-placed, whole-held, whole-done}
 use borrow.Author.Needs.{needs}
 use Rattle.numbering_order.proofs.legal.forward.Statement.{statement}
 use Rattle.numbering_order.proofs.legal.forward.Tie as tie

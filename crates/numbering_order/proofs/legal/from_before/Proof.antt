@@ -1,7 +1,8 @@
 -- `numbering_order::legal::from_before` meets its contract. The invariant: what the rest of the level before adds from here is what all of it adds from the start. Assumes nothing.
 use Prim.Native.Nat.{_-_}
 use native.Mathlib.Omega.{arith}
-use Rattle.numbering_order.proofs.Walk.{Before, before-begin, before-in, before-step, before-done, walk-open, walk-far, walk-range, walk-index}
+use Rattle.numbering_order.proofs.Walk.{walk-open, walk-far, walk-range, walk-index}
+use Rattle.numbering_order.proofs.FromBefore.{Before, before-begin, before-in, before-step, before-done}
 use Rattle.numbering_order.proofs.legal.from_before.Statement.{statement}
 use Rattle.numbering_order.proofs.legal.from_before.Tie as tie
 

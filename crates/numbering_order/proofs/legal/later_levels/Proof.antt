@@ -5,7 +5,7 @@ use native.Mathlib.Omega.{arith}
 use Rattle.spec.specs.Graph.{graphOf}
 use Rattle.numbering_order.specs.Model.{Follows}
 use Rattle.numbering_order.proofs.Walk.{walk-open}
-use Rattle.numbering_order.proofs.Forward.{Advancing, advance-begin, advance-standing, advance-levelled, advance-step, advance-done}
+use Rattle.numbering_order.proofs.LaterLevels.{Advancing, advance-begin, advance-standing, advance-levelled, advance-step, advance-done}
 use Rattle.numbering_order.proofs.legal.later_levels.Statement.{statement}
 use Rattle.numbering_order.proofs.legal.later_levels.Tie as tie
 

@@ -1,10 +1,9 @@
 -- `numbering_order::legal::level` meets its contract. Assumes nothing.
 use native.Mathlib.Omega.{arith}
-use Rattle.numbering_order.proofs.Stand.{open-at}
+use Rattle.numbering_order.proofs.Words.{open-at}
 use Rattle.numbering_order.proofs.Walk.{walk-open}
-use Rattle.numbering_order.proofs.Stack.{standing-far}
-use Rattle.numbering_order.proofs.Level.{standing-on}
-use Rattle.numbering_order.proofs.Forward.{level-walk, level-begun, level-done}
+use Rattle.numbering_order.proofs.Stack.{standing-far, standing-on}
+use Rattle.numbering_order.proofs.LaterLevels.{level-walk, level-begun, level-done}
 use borrow.Author.Needs.{needs}
 use Rattle.numbering_order.proofs.legal.level.Statement.{statement}
 use Rattle.numbering_order.proofs.legal.level.Tie as tie

@@ -2,8 +2,8 @@
 use mathlib.Core.Path.{refl}
 use native.Mathlib.Omega.{arith}
 use Rattle.numbering_order.proofs.Walk.{walk-open}
-use Rattle.numbering_order.proofs.Level.{standing-on}
-use Rattle.numbering_order.proofs.Forward.{start-open, start-range, start-levels, walk-one, begun-one, walk-two, levelled-two, walk-all, forward-done}
+use Rattle.numbering_order.proofs.Stack.{standing-on}
+use Rattle.numbering_order.proofs.Number.{start-open, start-range, start-levels, walk-one, begun-one, walk-two, levelled-two, walk-all, forward-done}
 use borrow.Author.Needs.{needs}
 use Rattle.numbering_order.proofs.legal.number.Statement.{statement}
 use Rattle.numbering_order.proofs.legal.number.Tie as tie

@@ -1,5 +1,5 @@
 -- `numbering_order::legal::offer` meets its contract. Assumes nothing.
-use Rattle.numbering_order.proofs.Free.{free-read, free-unseen, offer-none, offer-new}
+use Rattle.numbering_order.proofs.Offer.{free-read, free-unseen, offer-none, offer-new}
 use borrow.Author.Needs.{needs}
 use Rattle.numbering_order.proofs.legal.offer.Statement.{statement}
 use Rattle.numbering_order.proofs.legal.offer.Tie as tie

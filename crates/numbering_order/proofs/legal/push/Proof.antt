@@ -2,7 +2,7 @@
 use Prim.Native.Nat.{_-_}
 use native.Mathlib.Omega.{arith}
 use lib.Seq.{lt-length-set}
-use Rattle.numbering_order.proofs.Free.{push-room, push-is}
+use Rattle.numbering_order.proofs.Offer.{push-room, push-is}
 use borrow.Author.Needs.{needs}
 use Rattle.numbering_order.proofs.legal.push.Statement.{statement}
 use Rattle.numbering_order.proofs.legal.push.Tie as tie

@@ -1,6 +1,6 @@
 -- `numbering_order::legal::resume` meets its contract. Assumes nothing.
-use Rattle.numbering_order.proofs.Walk.{walk-open, walk-far}
-use Rattle.numbering_order.proofs.Level.{push-walk, resume-done}
+use Rattle.numbering_order.proofs.Walk.{walk-open, walk-far, push-walk}
+use Rattle.numbering_order.proofs.Spread.{resume-done}
 use borrow.Author.Needs.{needs}
 use Rattle.numbering_order.proofs.legal.resume.Statement.{statement}
 use Rattle.numbering_order.proofs.legal.resume.Tie as tie

@@ -1,6 +1,6 @@
 -- `numbering_order::legal::sort_tail` meets its contract. Assumes nothing.
 use Rattle.spec.specs.Graph.{graphOf}
-use Rattle.numbering_order.proofs.Free.{tail-nodes, tail-done}
+use Rattle.numbering_order.proofs.Extend.{tail-nodes, tail-done}
 use borrow.Author.Needs.{needs}
 use Rattle.numbering_order.proofs.legal.sort_tail.Statement.{statement}
 use Rattle.numbering_order.proofs.legal.sort_tail.Tie as tie

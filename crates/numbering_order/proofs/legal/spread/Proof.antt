@@ -1,8 +1,9 @@
 -- `numbering_order::legal::spread` meets its contract. The invariant: where the cursor goes from here, it goes from the start. Assumes nothing.
 use Prim.Native.Nat.{_-_}
 use native.Mathlib.Omega.{arith}
-use Rattle.numbering_order.proofs.Stand.{at-most}
-use Rattle.numbering_order.proofs.Walk.{Spreading, spread-begin, spread-step, spread-done, walk-open, walk-far, walk-range, walk-index}
+use Rattle.numbering_order.proofs.Words.{at-most}
+use Rattle.numbering_order.proofs.Walk.{walk-open, walk-far, walk-range, walk-index}
+use Rattle.numbering_order.proofs.Spread.{Spreading, spread-begin, spread-step, spread-done}
 use Rattle.numbering_order.proofs.legal.spread.Statement.{statement}
 use Rattle.numbering_order.proofs.legal.spread.Tie as tie
 

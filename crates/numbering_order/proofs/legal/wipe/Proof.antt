@@ -1,7 +1,7 @@
 -- `numbering_order::legal::wipe` meets its contract: all marks are those of the order. Assumes nothing.
 use mathlib.Core.Path.{_∙_}
 use borrow.Author.Needs.{needs}
-use Rattle.numbering_order.proofs.Wipe.{wipe-ask, wipe-done}
+use Rattle.numbering_order.proofs.Marks.{wipe-ask, wipe-done}
 use Rattle.numbering_order.proofs.legal.wipe.Statement.{statement}
 use Rattle.numbering_order.proofs.legal.wipe.Tie as tie
 

@@ -2,7 +2,7 @@
 use Prim.Native.Nat.{_-_}
 use native.Mathlib.Omega.{arith}
 use Rattle.numbering_order.proofs.Walk.{walk-open, walk-far}
-use Rattle.numbering_order.proofs.Rooting.{Rooting, rooting-begin, rooting-inside, rooting-step, rooting-done}
+use Rattle.numbering_order.proofs.Rooted.{Rooting, rooting-begin, rooting-inside, rooting-step, rooting-done}
 use Rattle.numbering_order.proofs.legal.rooted.befores.Statement.{statement}
 use Rattle.numbering_order.proofs.legal.rooted.befores.Tie as tie
 

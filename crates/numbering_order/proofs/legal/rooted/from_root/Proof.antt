@@ -4,7 +4,7 @@ use native.Mathlib.Omega.{arith}
 use denote.Ref.{now}
 use Rattle.laws.proofs.Refused.{passed, starts-of}
 use Rattle.numbering_order.proofs.Walk.{walk-open, walk-far}
-use Rattle.numbering_order.proofs.Rooting.{root-open, root-range, root-walk, root-levelled, root-all, root-done}
+use Rattle.numbering_order.proofs.Rooted.{root-open, root-range, root-walk, root-levelled, root-all, root-done}
 use borrow.Author.Needs.{needs}
 use Rattle.numbering_order.proofs.legal.rooted.from_root.Statement.{statement}
 use Rattle.numbering_order.proofs.legal.rooted.from_root.Tie as tie

@@ -1,58 +1,29 @@
--- The numbering of one level in the working words: the loop that fills it. Assumes nothing.
-use mathlib.Core.Path.{_≡_, refl, sym, ap, _∙_}
+-- The numbering of one level in the working words: the loop of `fill`. Assumes nothing.
+use mathlib.Core.Path.{_≡_, sym, _∙_}
 use mathlib.Core.Bool.{true, false}
 use mathlib.Core.List.{List, [], _∷_, _++_}
 use Prim.Native.Nat.{ℕ, _+_, _-_, _≤_, _<_}
 use native.Mathlib.Omega.{arith}
 use lib.ListN.{length, take, drop, getD, length-append, take-append-drop}
 use lib.Seq.{length-take-le}
-use Rattle.basis.specs.Lists.{memb}
 use borrow.Author.Tests.{eqb-true}
+use Rattle.basis.specs.Lists.{memb}
 use Rattle.basis.proofs.Lists.{memb-append, memb-one}
 use Rattle.basis.proofs.Logic.{fails, or-left}
-use Rattle.spec.specs.Graph.{Graph, graphOf, graphRefusal, sizeOf, sortE, ofNode}
+use Rattle.spec.specs.Graph.{Graph, graphOf, graphRefusal, sizeOf}
 use Rattle.spec.specs.Numbering.{levelNodes}
 use Rattle.laws.specs.Order.{Grown}
-use Rattle.laws.proofs.PartOrder.{level-in}
 use Rattle.laws.proofs.Refused.{not-refused}
+use Rattle.laws.proofs.PartOrder.{level-in}
 use Rattle.numbering_stacks.specs.Stacks.{Chain, Rest}
-use Rattle.numbering_stacks.proofs.Stacks.{stacks-same}
-use Rattle.numbering_order.specs.Model.{orderIn, Listed, Open, Became, Far, foundBy, Spread, at-end, on, Spreads, stand, ownLevels, Standing, Begun, filledIn}
-use Rattle.numbering_order.proofs.Stand.{open-at, at-order, at-next, at-became, listed-append, listed-one}
-use Rattle.numbering_order.proofs.Free.{row-fine, found-listed, push-listed}
-use Rattle.numbering_order.proofs.Walk.{Walk, walk-begin, walk-levels}
-use Rattle.numbering_order.proofs.Settle.{Cursor, cursor-start, cursor-end, cursor-left, cursor-done, leftFirst}
-use Rattle.numbering_order.proofs.Part.{level-member, found-same, left-in}
-use Rattle.numbering_order.proofs.Stack.{standing-far, walk-kept, Stack, stack-begin, stack-more, stack-on, stack-left, spread-more}
-
--- a cursor keeps the order a list of nodes, and it grows
-pub spread-listed : (S N L : List ℕ) (i : ℕ) {n c : ℕ} {o o′ : List ℕ} → graphRefusal S N ≡ 0 → n ≡ sizeOf S
-    → Spread (foundBy (graphOf S N) L i) c o o′ → Listed n o → Listed n o′ × (length o ≤ length o′)
-spread-listed S N L i ok q (at-end h) A = (A, omega arith)
-spread-listed S N L i {c = c} {o = o} ok q (on h s) A =
-    let w : ℕ = getD o c 0 in
-    let f = row-fine S N ok q w refl in
-    let r = spread-listed S N L i ok q s (found-listed (graphOf S N) L i o w A (f .0) (f .1)) in
-    (r .0, omega (arith, r .1, length-append o (foundBy (graphOf S N) L i o w)))
-
--- the words go on as a cursor has left them
-pub walk-spread : {S N : List ℕ} {n at : ℕ} {W₀ o W : List ℕ} {e : ℕ} (K : Walk S N n at W₀ o W e) (i c : ℕ) (o₁ : List ℕ) → Listed n o₁ → length o ≤ length o₁
-    → {r : ℕ} {W′ : List ℕ} → length W′ ≡ length W → Spreads n (foundBy (graphOf S N) (drop at W) i) c o₁ W r W′
-    → Walk S N n at W₀ (orderIn n r W′) W′ r × Spread (foundBy (graphOf S N) (drop at W₀) i) c o₁ (orderIn n r W′) × (length o₁ ≤ r)
-walk-spread {S} {N} {n} {at} {W₀} {o} {W} {e} K i c o₁ A h {r} {W′} s X =
-    let y = rw (walk-levels K) at (X .spread) in
-    let z = spread-listed S N (drop at W₀) i (K .ok) (K .sized) y A in (
-      record {
-        ok = K .ok;
-        sized = K .sized;
-        now = at-next (K .now) (z .0) (omega (arith, z .1)) (X .became);
-        behind = K .behind;
-        room = K .room;
-        size = s ∙ K .size;
-      },
-      y,
-      omega (arith, z .1, X .became .count),
-    )
+use Rattle.numbering_order.specs.Model.{orderIn, Listed, Open, Became, foundBy, ownLevels, Standing, Spreads, Begun, filledIn}
+use Rattle.numbering_order.proofs.Listed.{listed-append, listed-one}
+use Rattle.numbering_order.proofs.Words.{at-order, at-became}
+use Rattle.numbering_order.proofs.Walk.{Walk, walk-begin}
+use Rattle.numbering_order.proofs.Spread.{spread-more, walk-spread}
+use Rattle.numbering_order.proofs.Cursor.{leftFirst, Cursor, cursor-end, cursor-left, cursor-done, cursor-start, left-in}
+use Rattle.numbering_order.proofs.OwnLevels.{level-member, found-same}
+use Rattle.numbering_order.proofs.Stack.{standing-far, Stack, stack-begin, stack-more, stack-on, stack-left}
 
 -- Level i is filled from b on, in the words W₀. The order has e nodes now, with the cursor at c, and what is left of the level stands on its
 -- stack from q down.
@@ -176,46 +147,3 @@ fill-step {S} {N} {n} {at} {P} {W₀} {i = i} {z = z} F h s X =
     let Y = spread-on I (I .order ++ (z ∷ [])) A (omega (arith, length-append (I .order) (z ∷ [])))
     (λ x k. memb-append x (I .order) (z ∷ []) ∙ or-left (memb x (z ∷ [])) k) (rw (← K .now .count) at C) s (rw (at-order (K .now)) at X) in
     (Y .0, omega (arith, Y .1, length-append (I .order) (z ∷ []), K .now .count))
-
--- ---- a leftover, and the cursor from it
-
-pub push-walk : {S N : List ℕ} {n at t : ℕ} {W : List ℕ} → graphRefusal S N ≡ 0 → n ≡ sizeOf S → Open n t W → Far n at W → (z : ℕ) → (1 ≤ z) × (z ≤ n)
-    → memb z (orderIn n t W) ≡ false → {W₁ : List ℕ} → length W₁ ≡ length W → W₁ ≡ stand n (orderIn n t W ++ (z ∷ [])) (drop n W)
-    → Walk S N n at W (orderIn n t W ++ (z ∷ [])) W₁ (t + 1)
-push-walk {n = n} {t = t} {W = W} ok q O F z w u s e = record {
-  ok = ok;
-  sized = q;
-  now = record {
-    is = e;
-    count = ap (λ (k : ℕ). k + 1) (open-at O .count) ∙ sym (length-append (orderIn n t W) (z ∷ []));
-    listed = push-listed O z (w .0) (w .1) u;
-    wide = open-at O .wide;
-  };
-  behind = F;
-  room = O .room;
-  size = s;
-}
-
-pub resume-done : {S N : List ℕ} {n at t : ℕ} {W o W₁ : List ℕ} {e : ℕ} (K : Walk S N n at W o W₁ e) (i : ℕ) → {r : ℕ} {W₂ : List ℕ} → length W₂ ≡ length W₁
-    → Spreads n (foundBy (graphOf S N) (drop at W₁) i) t (orderIn n e W₁) W₁ r W₂ → Spreads n (foundBy (graphOf S N) (drop at W) i) t o W r W₂
-resume-done {t = t} {o = o} K i s X =
-    let Y = walk-spread K i t o (K .now .listed) (omega arith) s (rw (at-order (K .now)) at X) in
-    record { spread = Y .1; became = at-became (Y .0 .now) }
-
--- ---- what stands behind goes on to stand there
-
-module _ {S N : List ℕ} {n at : ℕ} {P W₀ o W : List ℕ} {e : ℕ} (K : Walk S N n at W₀ o W e) (B : Standing (graphOf S N) n at P W₀) where
-  pub standing-on : Standing (graphOf S N) n at P W
-  standing-on = record {
-    behind = B .behind;
-    held = omega (arith, B .held, K .size);
-    rising = B .rising;
-    closed = B .closed;
-    stacks =
-        rw (walk-levels K)
-        (stacks-same n (n + n + n) (n + n) (ofNode (drop at W₀)) (sortE (graphOf S N) P) W₀ W
-        (λ k lo hi. walk-kept K (n + n + n + (k - 1)) (omega arith)) (λ q m lo hi. walk-kept K (n + n + (q - 1)) (omega arith)) (B .stacks));
-  }
-
-  pub levels-on : ownLevels (graphOf S N) P (drop at W) ≡ ownLevels (graphOf S N) P (drop at W₀)
-  levels-on = ap (ownLevels (graphOf S N) P) (walk-levels K)

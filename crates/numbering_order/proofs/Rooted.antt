@@ -1,28 +1,28 @@
--- The order level after level, each level from the level before alone. Assumes nothing.
+-- The order level after level, each level from the level before alone (module `rooted`: `befores`, `from_root`). Assumes nothing.
 use mathlib.Core.Path.{_≡_, refl, sym, ap, _∙_, subst}
 use mathlib.Core.Bool.{true}
 use mathlib.Core.List.{List, [], _∷_, _++_, foldl}
 use Prim.Native.Nat.{ℕ, zero, suc, _+_, _-_, _≤_, _<_}
 use native.Mathlib.Omega.{arith}
 use native.Mathlib.Numerals.{add-one}
-use lib.ListN.{length, take, drop, replicate, length-drop}
+use lib.ListN.{length, take, drop, length-drop, replicate}
 use lib.Seq.{length-take-le, getD-take}
 use Rattle.basis.specs.Lists.{memb, upFrom, overwrite}
 use Rattle.basis.proofs.Logic.{clash}
-use Rattle.spec.specs.Graph.{Graph, nodes, graphOf, graphRefusal, sizeOf, ofNode}
+use Rattle.spec.specs.Graph.{Graph, graphOf, graphRefusal, sizeOf, ofNode, nodes}
 use Rattle.laws.specs.Legal.{LegalGraph, Closed}
+use Rattle.laws.proofs.Refused.{not-refused}
 use Rattle.laws.proofs.Legal.{node-in, in-nodes, ofNode-at}
 use Rattle.laws.proofs.PartOrder.{level-make}
-use Rattle.laws.proofs.Refused.{not-refused}
 use Rattle.levels_sort.specs.Nodes.{Nodes}
-use Rattle.numbering_order.specs.Model.{stand, orderIn, Listed, Open, Became, Far, foundBy, addBy, ownLevels, Levelled}
+use Rattle.numbering_order.specs.Model.{stand, orderIn, Listed, Open, Became, Far, foundBy, addBy, ownLevels, Levelled, on}
 use Rattle.numbering_order.specs.Root.{levelsFrom, beforeIn, beforesIn, rootOrder, Rooted}
-use Rattle.numbering_order.proofs.Stand.{at-order, at-next, at-became, stand-behind, listed-none, listed-one}
-use Rattle.numbering_order.proofs.Walk.{Walk, walk-begin, walk-levels}
-use Rattle.numbering_order.proofs.Level.{push-walk}
-use Rattle.numbering_order.proofs.Wipe.{marks-none}
-use Rattle.numbering_order.proofs.Forward.{filter-every, before-same, levelled-one, levelled-before, before-listed, before-longer}
-use Rattle.numbering_order.proofs.Callers.{own-is}
+use Rattle.numbering_order.proofs.Listed.{listed-none, listed-one}
+use Rattle.numbering_order.proofs.Marks.{marks-none}
+use Rattle.numbering_order.proofs.Words.{stand-behind, at-order, at-became}
+use Rattle.numbering_order.proofs.Walk.{Walk, walk-begin, walk-levels, walk-next, push-walk}
+use Rattle.numbering_order.proofs.OwnLevels.{own-is}
+use Rattle.numbering_order.proofs.Levelled.{filter-every, levelled-one, levelled-before, before-longer, before-listed, before-same}
 
 -- ---- what is found along rows by the levels of all nodes: these are a part like any other
 
@@ -72,16 +72,9 @@ module _ {S N : List ℕ} {n at : ℕ} {W₀ : List ℕ} {k : ℕ} {W : List ℕ
       let same = all-same (not-refused S N (K .ok)) (K .sized) (drop at W₀) wide (I .levelled) (K .now .listed .inside) in
       rw (add-one i) (record {
         order = beforeIn g ls (I .order) (suc i);
-        walk = record {
-          ok = K .ok;
-          sized = K .sized;
-          now =
-              at-next (K .now) (before-listed g ls (I .levelled) (K .sized) (K .now .listed)) (before-longer g ls (I .levelled))
-              (rw (walk-levels K, at-order (K .now), add-one i, same) at X);
-          behind = K .behind;
-          room = K .room;
-          size = s ∙ K .size;
-        };
+        walk =
+            walk-next K (before-listed g ls (I .levelled) (K .sized) (K .now .listed)) (before-longer g ls (I .levelled)) s
+            (rw (walk-levels K, at-order (K .now), add-one i, same) at X);
         levelled = rw (K .now .count) (levelled-before g ls (I .levelled));
         goes = ap (λ (d : ℕ). foldl (beforeIn g ls) (I .order) (upFrom (suc i) d)) (sym c) ∙ I .goes;
       })
@@ -128,14 +121,8 @@ module _ (S N : List ℕ) {n at v : ℕ} {W : List ℕ} (ok : graphRefusal S N �
         (H : Became n W₁ (beforesIn (graphOf S N) (levelsFrom at n W₁) k (orderIn n 1 W₁)) t W₂) where
       pub root-all : Walk S N n at W (rootOrder (graphOf S N) (levelsFrom at n W) k v) W₂ t
       root-all =
-          let r = befores-listed (graphOf S N) (levelsFrom at n W) sized (k - 1) 2 0 (v ∷ []) root-first (listed-one v (root-range .0) (root-range .1)) in record {
-            ok = ok;
-            sized = sized;
-            now = at-next (root-walk .now) (r .0) (r .1) (rw (walk-levels root-walk, at-order (root-walk .now)) at H);
-            behind = R .far;
-            room = root-open .room;
-            size = s₂ ∙ s₁;
-          }
+          let r = befores-listed (graphOf S N) (levelsFrom at n W) sized (k - 1) 2 0 (v ∷ []) root-first (listed-one v (root-range .0) (root-range .1)) in
+          walk-next root-walk (r .0) (r .1) s₂ (rw (walk-levels root-walk, at-order (root-walk .now)) at H)
 
       pub root-done : {W₃ : List ℕ} → W₃ ≡ replicate n 0 ++ drop n W₂
           → W₃ ≡ replicate n 0 ++ overwrite (rootOrder (graphOf S N) (levelsFrom at n W) k v) (drop n W)

@@ -1,90 +1,16 @@
--- The working words with an order in them: what is read, what a store does, and how a function's words go on from another's.
--- Assumes nothing.
+-- The working words with an order in them: what is read, what a store does, and how a function's words go on from another's. Assumes nothing.
 use mathlib.Core.Path.{_≡_, refl, sym, ap, ap₂, _∙_}
-use mathlib.Core.Logic.{⊎-elim}
-use mathlib.Core.Bool.{Bool, true, false, _||_, or-false}
 use mathlib.Core.List.{List, [], _∷_, _++_, append-assoc}
 use Prim.Native.Nat.{ℕ, suc, _+_, _-_, _≤_, _<_}
 use native.Mathlib.Omega.{arith}
-use lib.ListN.{length, take, drop, getD, set, length-append, length-drop, length-map, length-set, take-append-drop, List·getD-append}
-use lib.Seq.{ext-getD, drop-append-add, drop-drop, take-at, drop-at, drop-cons, set-append-left, set-at, getD-drop, getD-set-same, getD-set-other, length-take-le}
-use lib.Dec.{eqb}
-use borrow.Author.Tests.{eq-eqb, ne-eqb, eqb-true}
-use Rattle.basis.specs.Lists.{bit, memb, upFrom}
+use lib.ListN.{length, take, drop, getD, set, length-append, length-drop, take-append-drop, List·getD-append}
+use lib.Seq.{getD-drop, drop-drop, drop-cons, take-at, drop-at, length-take-le, drop-append-add, set-append-left, set-at}
+use Rattle.basis.specs.Lists.{bit, memb}
 use Rattle.basis.specs.Perm.{Perm}
-use Rattle.basis.proofs.Count.{bit-one, bit-none, count-append, times-none}
-use Rattle.basis.proofs.Index.{getD-map-upFrom}
-use Rattle.basis.proofs.Lists.{length-upFrom, memb-append, memb-one, map-cong}
-use Rattle.basis.proofs.Logic.{clash, by-test, or-split, or-right, eq-or-ne}
-use Rattle.basis.proofs.Perm.{perm-memb, perm-append, perm-refl, perm-length}
-use Rattle.numbering_stacks.proofs.Sort.{once-most}
-use Rattle.numbering_order.specs.Model.{marksOf, stand, orderIn, Listed, Open, Became}
-
--- ---- lists of nodes
-
--- no more nodes than there are
-pub listed-most : {n : ℕ} {o : List ℕ} → Listed n o → length o ≤ n
-listed-most {n} {o} L = once-most n o (L .once) (L .inside)
-
-pub listed-none : (n : ℕ) → Listed n []
-listed-none n = record { once = λ x. omega arith; inside = λ z m. clash m refl }
-
--- lists that share nothing, one after the other
-pub listed-append : {n : ℕ} {a b : List ℕ} → Listed n a → Listed n b → ((x : ℕ) → memb x b ≡ true → memb x a ≡ false) → Listed n (a ++ b)
-listed-append {n} {a} {b} A B apart = record {
-  once = λ x.
-      by-test (memb x b)
-      (λ e. omega (arith, count-append (eqb x) a b, B .once x, times-none x a (apart x e)))
-      (λ e. omega (arith, count-append (eqb x) a b, A .once x, times-none x b e));
-  inside = λ z m. ⊎-elim (λ e. A .inside z e) (λ e. B .inside z e) (or-split (memb z a) (memb z b) (sym (memb-append z a b) ∙ m));
-}
-
-pub listed-one : {n : ℕ} (z : ℕ) → 1 ≤ z → z ≤ n → Listed n (z ∷ [])
-listed-one {n} z a b = record {
-  once = λ x. by-test (eqb x z) (λ e. omega (arith, bit-one (eqb x z) e)) (λ e. omega (arith, bit-none (eqb x z) e));
-  inside = λ x m. let q : x ≡ z = eqb-true x z (sym (memb-one x z) ∙ m) in (omega arith, omega arith);
-}
-
--- the same nodes in another order
-pub listed-perm : {n : ℕ} {a b : List ℕ} → Perm a b → Listed n b → Listed n a
-listed-perm P L = record { once = λ x. omega (arith, P .alike x, L .once x); inside = λ z m. L .inside z (sym (perm-memb P z) ∙ m) }
-
--- ---- marks
-
-pub marks-length : (n : ℕ) (o : List ℕ) → length (marksOf n o) ≡ n
-unfolding marksOf
-marks-length n o = length-map (upFrom 1 n) (λ z. bit (memb z o)) ∙ length-upFrom 1 n
-
-pub marks-at : (n : ℕ) (o : List ℕ) (i : ℕ) → i < n → getD (marksOf n o) i 0 ≡ bit (memb (suc i) o)
-unfolding marksOf
-marks-at n o i h = let e : 1 + i ≡ suc i = omega arith in getD-map-upFrom (λ z. bit (memb z o)) 1 n i 0 h ∙ ap (λ (z : ℕ). bit (memb z o)) e
-
--- marks see only which nodes are numbered
-pub marks-same : (n : ℕ) (a b : List ℕ) → ((z : ℕ) → memb z a ≡ memb z b) → marksOf n a ≡ marksOf n b
-unfolding marksOf
-marks-same n a b h = map-cong (λ z. bit (memb z a)) (λ z. bit (memb z b)) (upFrom 1 n) (λ z m. ap bit (h z))
-
--- one more mark
-marks-set : (n : ℕ) (o : List ℕ) (z : ℕ) → 1 ≤ z → z ≤ n → set (marksOf n o) (z - 1) 1 ≡ marksOf n (o ++ (z ∷ []))
-marks-set n o z lo hi =
-    ext-getD 0 (set (marksOf n o) (z - 1) 1) (marksOf n (o ++ (z ∷ [])))
-    (length-set (marksOf n o) (z - 1) 1 ∙ marks-length n o ∙ sym (marks-length n (o ++ (z ∷ []))))
-    (λ i h. at i (omega (arith, h, length-set (marksOf n o) (z - 1) 1, marks-length n o)))
-  where
-    at : (i : ℕ) → i < n → getD (set (marksOf n o) (z - 1) 1) i 0 ≡ getD (marksOf n (o ++ (z ∷ []))) i 0
-    at i h =
-        let e : memb (suc i) (o ++ (z ∷ [])) ≡ memb (suc i) o || eqb (suc i) z = memb-append (suc i) o (z ∷ []) ∙ ap (λ (b : Bool). memb (suc i) o || b) (memb-one (suc i) z) in
-        let r : getD (marksOf n (o ++ (z ∷ []))) i 0 ≡ bit (memb (suc i) o || eqb (suc i) z) = marks-at n (o ++ (z ∷ [])) i h ∙ ap bit e in
-        ⊎-elim
-        (λ (q : suc i ≡ z).
-        let k : i ≡ z - 1 = omega arith in
-        ap (λ (j : ℕ). getD (set (marksOf n o) (z - 1) 1) j 0) k ∙ getD-set-same (marksOf n o) (z - 1) 1 0 (omega (arith, marks-length n o))
-        ∙ sym (r ∙ ap bit (or-right (memb (suc i) o) (eq-eqb (suc i) z q))))
-        (λ (q : suc i ≡ z → ⊥).
-        let u : memb (suc i) o || eqb (suc i) z ≡ memb (suc i) o = rw (ne-eqb (suc i) z q) (or-false (memb (suc i) o)) in
-        getD-set-other (marksOf n o) (z - 1) i 1 0 (λ k. q (omega arith)) ∙ marks-at n o i h
-        ∙ sym (r ∙ ap bit u))
-        (eq-or-ne (suc i) z)
+use Rattle.basis.proofs.Perm.{perm-append, perm-refl, perm-length, perm-memb}
+use Rattle.numbering_order.specs.Model.{stand, orderIn, Listed, Open, Became, Far, marksOf}
+use Rattle.numbering_order.proofs.Listed.{listed-most}
+use Rattle.numbering_order.proofs.Marks.{marks-length, marks-at, marks-same, marks-set}
 
 -- ---- the words
 
@@ -218,3 +144,15 @@ module _ {n : ℕ} {o R W : List ℕ} {t : ℕ} (A : At n o R W t) where
 -- what was reached from W₀ is what the function that began there leaves
 pub at-became : {n : ℕ} {o W₀ W : List ℕ} {t : ℕ} → At n o (drop n W₀) W t → Became n W₀ o t W
 at-became A = record { count = A .count; is = A .is }
+
+-- what stands behind the order is as it was
+pub kept : (n a : ℕ) (W₀ : List ℕ) {o W : List ℕ} {t : ℕ} → n + n ≤ a → At n o (drop n W₀) W t → drop a W ≡ drop a W₀
+kept n a W₀ {o} h A =
+    let e : n + (a - n) ≡ a = omega arith in
+    ap (drop a) (A .is) ∙ far n o (drop n W₀) a (omega (arith, listed-most (A .listed))) ∙ drop-drop (a - n) n W₀ ∙ ap (λ (k : ℕ). drop k W₀) e
+
+pub far-same : {n at : ℕ} {o W₀ W : List ℕ} {t : ℕ} → Far n at W₀ → At n o (drop n W₀) W t → drop at W ≡ drop at W₀
+far-same {n} {at} {W₀ = W₀} F A = kept n at W₀ (F .behind) A
+
+pub far-on : {n at : ℕ} {o W₀ W : List ℕ} {t : ℕ} → n ≤ length W₀ → Far n at W₀ → At n o (drop n W₀) W t → Far n at W
+far-on {n} {at} {o} {W₀} h F A = record { behind = F .behind; held = omega (arith, F .held, at-length A, length-drop n W₀) }

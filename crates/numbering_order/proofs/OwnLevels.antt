@@ -1,26 +1,26 @@
 -- What the code finds along rows and among the part's nodes is what `spec` says of the level: by the part's levels, 0 outside it.
 -- Assumes nothing.
-use mathlib.Core.Path.{_≡_, refl, sym, ap, _∙_, subst}
+use mathlib.Core.Path.{_≡_, refl, sym, ap, _∙_}
 use mathlib.Core.Bool.{Bool, true, false, not, _&&_, cond, and-comm}
 use mathlib.Core.List.{List, [], _∷_, _++_, foldl}
 use Prim.Native.Nat.{ℕ, _≤_}
 use native.Mathlib.Omega.{arith}
+use lib.ListN.{length, length-map}
 use lib.Dec.{eqb}
-use borrow.Author.Tests.{eq-eqb, eqb-true, not-true}
-use Rattle.basis.specs.Lists.{filterb, headOr, memb}
+use borrow.Author.Tests.{eqb-true, eq-eqb}
+use Rattle.basis.specs.Lists.{filterb, memb}
 use Rattle.basis.specs.Perm.{Once}
 use Rattle.basis.proofs.Count.{filter-once}
-use Rattle.basis.proofs.Lists.{filter-in, filter-make, filter-cong, memb-here}
-use Rattle.basis.proofs.Logic.{by-test, same, clash, fails, and-split, and-make, or-right}
-use Rattle.basis.proofs.Perm.{perm-trans, perm-memb, once-perm}
-use Rattle.spec.specs.Graph.{Graph, nodes, adjoins, sortE, firstInE, ofNode}
+use Rattle.basis.proofs.Lists.{filter-in, filter-cong, filter-make, memb-here}
+use Rattle.basis.proofs.Logic.{by-test, and-split, clash, or-right, same, fails, and-make}
+use Rattle.basis.proofs.Perm.{perm-trans, once-perm}
+use Rattle.spec.specs.Graph.{Graph, adjoins, ofNode, nodes}
 use Rattle.spec.specs.Numbering.{levelNodes, unnumberedBy}
-use Rattle.laws.specs.Legal.{Node, LegalGraph, Closed}
-use Rattle.laws.proofs.Legal.{node-in, row-once, ofNode-map}
+use Rattle.laws.specs.Legal.{LegalGraph, Closed, Node}
 use Rattle.laws.proofs.Orders.{perm-sortE, sortE-sorted, sortE-unique}
-use Rattle.laws.proofs.PartOrder.{level-in, level-make, level-once}
+use Rattle.laws.proofs.Legal.{node-in, row-once, ofNode-map, by-node, length-nodes}
+use Rattle.laws.proofs.PartOrder.{level-make, level-in, level-once}
 use Rattle.numbering_order.specs.Model.{free, foundBy, addBy, ownLevels}
-use Rattle.numbering_order.proofs.Settle.{leftFirst}
 
 pub filter-filter : (s t : ℕ → Bool) (l : List ℕ) → filterb s (filterb t l) ≡ filterb (λ x. t x && s x) l
 filter-filter s t [] = refl
@@ -36,18 +36,6 @@ fold-same by by′ [] o h = refl
 fold-same by by′ (w ∷ l) o h =
     ap (λ (k : List ℕ). foldl (addBy by) (o ++ k) l) (h o w (memb-here w l))
     ∙ fold-same by by′ l (o ++ by′ o w) (λ o x m. h o x (or-right (eqb x w) m))
-
--- the first that is left is left
-pub left-in : (g : Graph) (level o : List ℕ) (z : ℕ) → leftFirst g level o ≡ z → 1 ≤ z → (memb z level ≡ true) × (memb z o ≡ false)
-unfolding firstInE
-left-in g level o z e h =
-    let l : List ℕ = filterb (λ q. not (memb q o)) level in
-    let w = filter-in (λ q. not (memb q o)) level z (sym (perm-memb (perm-sortE g l) z) ∙ go (sortE g l) e) in
-    (w .0, not-true _ (w .1))
-  where
-    go : (s : List ℕ) → headOr 0 s ≡ z → memb z s ≡ true
-    go [] e = absurd (omega arith)
-    go (x ∷ s) e = subst (λ (y : ℕ). memb y (x ∷ s) ≡ true) e (memb-here x s)
 
 module _ {g : Graph} (G : LegalGraph g) (P L : List ℕ) (rising : P ≡ filterb (λ q. memb q P) (nodes g)) (closed : Closed g P) where
   abbrev ls : List ℕ
@@ -127,3 +115,11 @@ module _ {g : Graph} (G : LegalGraph g) (P L : List ℕ) (rising : P ≡ filterb
                 let p : memb x P ≡ true = level-member x (a .0) in
                 filter-make (free L i o) (g .row w) x (b .1)
                 (and-make (b .0) (eq-eqb (ofNode L x) i (sym (own-in x p) ∙ level-in g ls i x (a .0) .1)))
+
+-- levels of the part's nodes as ls has them, and ls 0 outside the part: the part's own levels are ls
+pub own-is : (g : Graph) (P L ls : List ℕ) → length ls ≡ g .size → ((q : ℕ) → memb q P ≡ true → ofNode L q ≡ ofNode ls q)
+    → ((q : ℕ) → Node g q → memb q P ≡ false → ofNode ls q ≡ 0) → ownLevels g P L ≡ ls
+unfolding ownLevels
+own-is g P L ls l same out =
+    by-node g (ownLevels g P L) ls (length-map (nodes g) (λ z. cond (memb z P) (ofNode L z) 0) ∙ length-nodes g) l
+    (λ q X. ofNode-map g (λ z. cond (memb z P) (ofNode L z) 0) q X ∙ by-test (memb q P) (λ e. rw e (same q e)) (λ e. rw e (sym (out q X e))))

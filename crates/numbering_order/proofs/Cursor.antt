@@ -3,23 +3,23 @@
 use mathlib.Core.Path.{_≡_, refl, sym, ap, _∙_, subst}
 use mathlib.Core.Logic.{⊎-elim}
 use mathlib.Core.Bool.{Bool, true, false, not, _&&_}
-use mathlib.Core.List.{List, [], _∷_, _++_, map, append-assoc, append-nil}
+use mathlib.Core.List.{List, [], _∷_, _++_, append-assoc, append-nil, map}
 use Prim.Native.Nat.{ℕ, zero, suc, _+_, _-_, _≤_, _<_}
 use native.Mathlib.Omega.{arith}
 use lib.ListN.{length, take, drop, getD, length-append, List·getD-append}
-use lib.Seq.{split-at, length-take-le, getD-take}
+use lib.Seq.{length-take-le, getD-take, split-at}
 use borrow.Author.Tests.{not-true}
-use Rattle.basis.specs.Lists.{filterb, headOr, memb, All}
+use Rattle.basis.specs.Lists.{filterb, memb, headOr, All}
 use Rattle.basis.proofs.Count.{length-filter, memb-times, times-memb}
 use Rattle.basis.proofs.Index.{memb-getD, getD-right}
-use Rattle.basis.proofs.Lists.{memb-append, memb-here, map-append, filter-in, filter-make, filter-none, filter-append}
-use Rattle.basis.proofs.Logic.{by-test, clash, fails, and-split, or-left, or-right, lt-or-le}
-use Rattle.basis.proofs.Perm.{perm-memb, perm-length}
+use Rattle.basis.proofs.Lists.{memb-append, filter-in, filter-make, memb-here, map-append, filter-none, filter-append}
+use Rattle.basis.proofs.Logic.{by-test, and-split, clash, or-right, same, fails, or-left, lt-or-le}
+use Rattle.basis.proofs.Perm.{perm-length, perm-memb}
 use Rattle.spec.specs.Graph.{Graph, adjoins, sortE, firstInE}
 use Rattle.spec.specs.Numbering.{unnumberedBy, firstFilled, nextWithin, within}
-use Rattle.laws.specs.Order.{Fresh, Grown, leftIn}
-use Rattle.laws.proofs.LevelOrder.{grow, left-le, left-less, left-length, fresh-by, fresh-next, some-next}
+use Rattle.laws.specs.Order.{Grown, Fresh, leftIn}
 use Rattle.laws.proofs.Orders.{perm-sortE}
+use Rattle.laws.proofs.LevelOrder.{grow, left-le, left-less, left-length, fresh-by, fresh-next, some-next}
 use Rattle.numbering_order.specs.Model.{Spread, at-end, on}
 
 -- ---- lists
@@ -276,3 +276,15 @@ module _ (g : Graph) (level : List ℕ) where
     where
       at : (j : ℕ) → j < length pre → getD o j 0 ≡ getD pre j 0
       at j l = ap (λ (k : List ℕ). getD k j 0) (G .is) ∙ List·getD-append pre (G .cur) 0 j l
+
+-- the first that is left is left
+pub left-in : (g : Graph) (level o : List ℕ) (z : ℕ) → leftFirst g level o ≡ z → 1 ≤ z → (memb z level ≡ true) × (memb z o ≡ false)
+unfolding firstInE
+left-in g level o z e h =
+    let l : List ℕ = filterb (λ q. not (memb q o)) level in
+    let w = filter-in (λ q. not (memb q o)) level z (sym (perm-memb (perm-sortE g l) z) ∙ go (sortE g l) e) in
+    (w .0, not-true _ (w .1))
+  where
+    go : (s : List ℕ) → headOr 0 s ≡ z → memb z s ≡ true
+    go [] e = absurd (omega arith)
+    go (x ∷ s) e = subst (λ (y : ℕ). memb y (x ∷ s) ≡ true) e (memb-here x s)
