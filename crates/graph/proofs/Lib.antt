@@ -1,3 +1,4 @@
+pub mod Ways
 pub mod Rows
 pub mod Counting
 pub mod Pairs

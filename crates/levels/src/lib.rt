@@ -44,8 +44,8 @@ pub fn rooted_levels(
                 starts,
                 neighbours,
                 root,
-                &mut levels[0..n],
-                &mut sizes[0..n],
+                &mut levels[..n],
+                &mut sizes[..n],
             );
             RootedAnswer::Levels {
                 depth: f.depth,
@@ -106,7 +106,7 @@ pub fn combined_levels(
             if no_node(n, node) {
                 return CombinedAnswer::Refused(6);
             }
-            let f = part::find_levels(starts, neighbours, node, &mut levels[0..n], scratch);
+            let f = part::find_levels(starts, neighbours, node, &mut levels[..n], scratch);
             CombinedAnswer::Levels {
                 k: f.k,
                 width: f.width,

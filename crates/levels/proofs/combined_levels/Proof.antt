@@ -2,127 +2,111 @@
 use mathlib.Core.Path.{_≡_, sym, _∙_}
 use mathlib.Core.Logic.{⊎-elim}
 use mathlib.Core.Bool.{false}
-use Prim.Native.Nat.{ℕ, _-_, _≤_}
+use Prim.Native.Nat.{_*_, _≤_}
 use native.Mathlib.Omega.{arith}
 use lib.ListN.{length}
 use lib.Seq.{length-take-le}
 use borrow.Author.Needs.{needs}
 use borrow.Author.Tests.{ltb-false}
+use Rattle.basis.proofs.Logic.{or-right}
 use Rattle.spec.specs.Graph.{sizeOf, outside}
+use Rattle.spec.specs.Lent.{wordsPerNode, short}
 use Rattle.graph.specs.Facts.{LegalLists}
 use Rattle.graph.proofs.Answers.{legal-lists, refused-lists}
-use Rattle.levels.proofs.Refusals.{combined-lists, combined-short-levels, combined-short-scratch, combined-outside, combined-answer, combined-levels, combined-scratch, node-inside}
+use Rattle.graph.proofs.Ways.{by-lists, by-short, by-last}
+use Rattle.levels.proofs.Refusals.{node-inside, first-short, both-long, combined-refused, combined-accepted}
 use Rattle.levels.proofs.combined_levels.Statement.{statement}
 use Rattle.levels.proofs.combined_levels.Tie as tie
 
-test-adjacency-requires : tie.Need-test-adjacency-requires
-test-adjacency-requires c κs = search needs
+-- ---- places
 
-enum-known-c : tie.Need-enum-known-c
-enum-known-c c = search needs
+abbrev tested : tie.After-test-adjacency → tie.Start
+tested t = t .before .before .before .before .before
 
-enum-told : tie.Need-enum-told
-enum-told c = search needs
+-- the two lists are legal
+abbrev start : tie.After-enum-told → tie.Start
+start c = tested (c .before .before)
 
--- the two lists, where the adjacency test passed
-legal : (c : tie.After-enum-told) → let s = c .before .before .before .before .before .before .before in LegalLists (s .args .starts .now) (s .args .neighbours .now)
+-- the node is a node, and both lists are long enough
+abbrev told : tie.Else3 → tie.After-enum-told
+told e = e .before .before .before .before
+
+-- ---- the tests
+
+legal : (c : tie.After-enum-told) → LegalLists (start c .args .starts .now) (start c .args .neighbours .now)
 legal c =
-    let s = c .before .before .before .before .before .before .before in
-    legal-lists (s .args .starts .now) (s .args .neighbours .now) (c .before .before .test-adjacency .ensures) (c .enum-told .given .1)
+    let a = start c .args in
+    legal-lists (a .starts .now) (a .neighbours .now) (c .before .before .test-adjacency .ensures) (c .enum-told .given .1)
 
-sub-n : tie.Need-sub-n
-sub-n c = omega (arith, legal c .starts .count)
+inside : (e : tie.Else3) → outside (sizeOf (start (told e) .args .starts .now)) (start (told e) .args .node) ≡ false
+inside e = sym (e .before .no-node .ensures) ∙ e .if3 .left
 
-mul-if2 : tie.Need-mul-if2
-mul-if2 c = omega (arith, legal (c .before) .starts .few)
+room : (e : tie.Else3) → sizeOf (start (told e) .args .starts .now) ≤ length (start (told e) .args .levels .now)
+room e = e .before .before .before .if1 .left
 
 returns : tie.Need-returns
 returns c =
-    let s = c .before .before .before .before .before .before .before .before in
-    let L = legal (c .before) in
-    let R = ⊎-elim
-    (λ w. combined-short-levels (s .args .starts .now) (s .args .neighbours .now) (s .args .node) (s .args .levels .now) (s .args .scratch .now) L (w .taken))
-    (λ w. combined-short-scratch (s .args .starts .now) (s .args .neighbours .now) (s .args .node) (s .args .levels .now) (s .args .scratch .now) L (w .1 .taken))
-    (c .if1 .came) in
-    (R .answer, (R .untouched, R .kept))
-
-no-node-requires : tie.Need-no-node-requires
-no-node-requires c κs = search needs
+    let a = start (c .before) .args in
+    let n = sizeOf (a .starts .now) in
+    combined-refused (a .starts .now) (a .neighbours .now) (a .node) (a .levels .now) (a .scratch .now)
+    (λ T. by-short T (legal (c .before)) (⊎-elim (λ w. first-short (a .levels .now) n (a .scratch .now) (wordsPerNode * n) (w .taken)) (λ w. or-right (short (a .levels .now) n) (w .1 .taken)) (c .if1 .came)))
 
 returns-2 : tie.Need-returns-2
 returns-2 c =
-    let s = c .before .before .before .before .before .before .before .before .before .before .before in
-    let R = combined-outside (s .args .starts .now) (s .args .neighbours .now) (s .args .node) (s .args .levels .now) (s .args .scratch .now) (legal (c .before .before .before .before)) (c .before .before .before .if1 .left) (c .before .before .if2 .left) (sym (c .before .no-node .ensures) ∙ c .if3 .taken) in
-    (R .answer, (R .untouched, R .kept))
-
-sub-find-levels : tie.Need-sub-find-levels
-sub-find-levels c = search needs
-
-part-find-levels-start : tie.Need-part-find-levels-start
-part-find-levels-start c = search needs
-
-part-find-levels-end : tie.Need-part-find-levels-end
-part-find-levels-end c = search needs
-
--- the node given is one
-inside : (c : tie.Else3) → let s = c .before .before .before .before .before .before .before .before .before .before .before in outside (sizeOf (s .args .starts .now)) (s .args .node) ≡ false
-inside c = sym (c .before .no-node .ensures) ∙ c .if3 .left
-
-find-levels-requires : tie.Need-find-levels-requires
-find-levels-requires c κs =
-    let s = c .before .before .before .before .before .before .before .before .before .before .before .before .before in
-    let n : ℕ = sizeOf (s .args .starts .now) in
-    let z : n - 0 ≡ n = omega arith in
-    let h : n - 0 ≤ length (s .args .levels .now) = omega (arith, c .before .before .before .before .before .if1 .left) in (
-      legal (c .before .before .before .before .before .before) .refusal,
-      (
-        node-inside n (s .args .node) (inside (c .before .before)),
-        (length-take-le (n - 0) (s .args .levels .now) h ∙ z, ltb-false _ _ (c .before .before .before .before .if2 .left)),
-      ),
-    )
+    let t = c .before .before in
+    let e = t .before .before in
+    let a = start e .args in
+    let n = sizeOf (a .starts .now) in
+    combined-refused (a .starts .now) (a .neighbours .now) (a .node) (a .levels .now) (a .scratch .now)
+    (λ T. by-last T (legal e) (both-long (a .levels .now) n (a .scratch .now) (wordsPerNode * n) (t .before .if1 .left) (t .if2 .left)) (sym (c .before .no-node .ensures) ∙ c .if3 .taken) (omega arith))
 
 returns-3 : tie.Need-returns-3
 returns-3 c =
-    let s = c .before .before .before .before .before .before .before .before in
-    let R = combined-lists (s .args .starts .now) (s .args .neighbours .now) (s .args .node) (s .args .levels .now) (s .args .scratch .now)
-    (refused-lists (s .args .starts .now) (s .args .neighbours .now) (c .before .before .before .test-adjacency .ensures) (c .before .c .given .1)) in
-    (R .answer, (R .untouched, R .kept))
+    let t = c .before .before .before in
+    let a = tested t .args in
+    combined-refused (a .starts .now) (a .neighbours .now) (a .node) (a .levels .now) (a .scratch .now)
+    (λ T. by-lists T (refused-lists (a .starts .now) (a .neighbours .now) (t .test-adjacency .ensures) (c .before .c .given .1)))
 
-same-length : tie.Need-same-length
-same-length c = search needs
+-- ---- the call
 
-same-length-2 : tie.Need-same-length-2
-same-length-2 c = search needs
+-- the levels are lent as far as there are nodes
+lent : tie.Need-slice-aggregate-find-levels
+lent c = sym (length-take-le _ (start (told (c .before)) .args .levels .now) (room (c .before)))
+
+find-levels-requires : tie.Need-find-levels-requires
+find-levels-requires c κs =
+    let e = c .before .before in
+    let a = start (told e) .args in (
+      legal (told e) .refusal,
+      (node-inside (sizeOf (a .starts .now)) (a .node) (inside e), (length-take-le _ (a .levels .now) (room e), ltb-false _ _ (e .before .before .if2 .left))),
+    )
 
 returns-4 : tie.Need-returns-4
 returns-4 c =
-    let s = c .before .before .before .before .before .before .before .before .before .before .before .before .before .before .before .before .before .before in
-    let o = inside (c .before .before .before .before .before .before .before) in
-    let L = legal (c .before .before .before .before .before .before .before .before .before .before .before) in
-    let w = c .before .before .before .before .find-levels .ensures in
-    let l = c .before .before .before .before .before .before .before .before .before .before .if1 .left in
-    let m = c .before .before .before .before .before .before .before .before .before .if2 .left in (
-      combined-answer (s .args .starts .now) (s .args .neighbours .now) (s .args .node) (s .args .levels .now) (s .args .scratch .now) L l m o (w .0),
-      (combined-levels (s .args .starts .now) (s .args .neighbours .now) (s .args .node) (s .args .levels .now) (s .args .scratch .now) L l m o (w .1 .0), combined-scratch (s .args .starts .now) (s .args .neighbours .now) (s .args .node) (s .args .levels .now) (s .args .scratch .now) L l m o (w .1 .1)),
-    )
+    let f = c .before .before .before .before in
+    let e = f .before .before .before in
+    let a = start (told e) .args in
+    let n = sizeOf (a .starts .now) in
+    let w = f .find-levels .ensures in
+    combined-accepted (a .starts .now) (a .neighbours .now) (a .node) (a .levels .now) (a .scratch .now) (legal (told e))
+    (both-long (a .levels .now) n (a .scratch .now) (wordsPerNode * n) (room e) (e .before .before .if2 .left)) (inside e) (w .0) (w .1 .0) (w .1 .1)
 
 pub combined-levels-spec : {M : Type 1} → statement M
 combined-levels-spec =
     tie.close
     (tie.spec
-    test-adjacency-requires
-    enum-known-c
-    enum-told
-    sub-n
-    mul-if2
+    (λ c κs. search needs)
+    (λ c. search needs)
+    (λ c. search needs)
+    (λ c. omega (arith, legal c .starts .count))
+    (λ c. omega (arith, legal (c .before) .starts .few))
     returns
-    no-node-requires
+    (λ c κs. search needs)
     returns-2
-    sub-find-levels
-    part-find-levels-start
-    part-find-levels-end
+    room
+    lent
     find-levels-requires
     returns-3
-    same-length
-    same-length-2
+    (λ c. search needs)
+    (λ c. search needs)
     returns-4)

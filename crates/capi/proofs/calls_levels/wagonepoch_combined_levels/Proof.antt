@@ -1,36 +1,10 @@
 -- `capi::calls_levels::wagonepoch_combined_levels` meets its contract: the call is `levels::combined_levels`. Assumes nothing.
-use mathlib.Core.Path.{ap, _∙_}
-use mathlib.Core.List.{List}
-use Prim.Native.Nat.{ℕ}
 use borrow.Author.Needs.{needs}
-use denote.Ref.{now}
-use Rattle.spec.specs.CallsLevels.{CombinedFigures, combinedAnswer, combinedLevels, combinedScratch}
-use Rattle.spec.specs.Graph.{graphRefusal}
-use Rattle.spec.specs.Lent.{Outcome}
-use Rattle.spec.specs.Refusal.{_orElse_}
-use Rattle.capi_figures.specs.Figures.{combinedList}
-use Rattle.capi.proofs.Calls.{ended-short, ended-long, lent-short, lent-long}
+use Rattle.capi.proofs.Calls.{short-answer, short-list, short-lent, long-answer, long-list, long-lent}
 use Rattle.capi.proofs.calls_levels.wagonepoch_combined_levels.Statement.{statement}
 use Rattle.capi.proofs.calls_levels.wagonepoch_combined_levels.Tie as tie
 
--- what the call answers, and what it leaves
-abbrev answer : tie.Start → Outcome CombinedFigures
-answer s = combinedAnswer (now (s .args .starts)) (now (s .args .neighbours)) (s .args .node) (now (s .args .levels)) (now (s .args .scratch))
-
-abbrev levels : tie.Start → List ℕ
-levels s = combinedLevels (now (s .args .starts)) (now (s .args .neighbours)) (s .args .node) (now (s .args .levels)) (now (s .args .scratch))
-
-abbrev scratch : tie.Start → List ℕ
-scratch s = combinedScratch (now (s .args .starts)) (now (s .args .neighbours)) (s .args .node) (now (s .args .levels)) (now (s .args .scratch))
-
--- the tests before 5
-abbrev first : tie.Start → ℕ
-first s = graphRefusal (now (s .args .starts)) (now (s .args .neighbours))
-
 -- ---- places
-
-abbrev start : tie.After-slice-known3 → tie.Start
-start k = k .before .before .before .before .before
 
 -- the list of figures is long enough
 abbrev long : tie.After-combined-levels → tie.Else1
@@ -47,22 +21,16 @@ answered p = left p .before .before
 
 returns : tie.Need-returns
 returns c =
-    let s = start (c .before .before .before) in
-    let F = now (s .args .figures) in
     let h = c .before .before .if1 .taken in
-    let E = ended-short 2 (first s) F combinedList (answer s) h (c .or-five .ensures ∙ ap (λ (x : ℕ). x orElse 5) (c .before .lists-refusal .ensures)) in
-    (E .answer, (E .list, (lent-short 2 F (now (s .args .levels)) (levels s) h, lent-short 2 F (now (s .args .scratch)) (scratch s) h)))
+    (short-answer _ _ h _ (c .before .lists-refusal .ensures) (c .or-five .ensures), (short-list _ _ h _ _, (short-lent _ _ h _, short-lent _ _ h _)))
 
 returns-2 : tie.Need-returns-2
 returns-2 c =
     let p = c .before .before in
     let r = answered p in
-    let s = start (long r .before) in
-    let F = now (s .args .figures) in
     let h = long r .if1 .left in
     let e = r .combined-levels .ensures in
-    let E = ended-long 2 (first s) F combinedList (answer s) h (e .0) (p .put-combined .ensures .0) (p .put-combined .ensures .1) in
-    (E .answer, (E .list, (lent-long 2 F (now (s .args .levels)) (levels s) h (e .1 .0), lent-long 2 F (now (s .args .scratch)) (scratch s) h (e .1 .1))))
+    (long-answer _ _ h _ (p .put-combined .ensures .0) (e .0), (long-list _ _ h _ (p .put-combined .ensures .1) (e .0), (long-lent _ _ h _ (e .1 .0), long-lent _ _ h _ (e .1 .1))))
 
 pub wagonepoch-combined-levels-spec : {M : Type 1} → statement M
 wagonepoch-combined-levels-spec =

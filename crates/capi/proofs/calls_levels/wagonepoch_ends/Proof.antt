@@ -1,34 +1,10 @@
 -- `capi::calls_levels::wagonepoch_ends` meets its contract: the call is `levels::ends`. Assumes nothing.
-use mathlib.Core.Path.{ap, _∙_}
-use mathlib.Core.List.{List}
-use Prim.Native.Nat.{ℕ}
 use borrow.Author.Needs.{needs}
-use denote.Ref.{now}
-use Rattle.spec.specs.CallsLevels.{endsAnswer, endsScratch}
-use Rattle.spec.specs.Ends.{Ends}
-use Rattle.spec.specs.Graph.{graphRefusal}
-use Rattle.spec.specs.Lent.{Outcome}
-use Rattle.spec.specs.Refusal.{_orElse_}
-use Rattle.capi_figures.specs.Figures.{endsList}
-use Rattle.capi.proofs.Calls.{ended-short, ended-long, lent-short, lent-long}
+use Rattle.capi.proofs.Calls.{short-answer, short-list, short-lent, long-answer, long-list, long-lent}
 use Rattle.capi.proofs.calls_levels.wagonepoch_ends.Statement.{statement}
 use Rattle.capi.proofs.calls_levels.wagonepoch_ends.Tie as tie
 
--- what the call answers, and what it leaves
-abbrev answer : tie.Start → Outcome Ends
-answer s = endsAnswer (now (s .args .starts)) (now (s .args .neighbours)) (s .args .node) (now (s .args .scratch))
-
-abbrev scratch : tie.Start → List ℕ
-scratch s = endsScratch (now (s .args .starts)) (now (s .args .neighbours)) (s .args .node) (now (s .args .scratch))
-
--- the tests before 5
-abbrev first : tie.Start → ℕ
-first s = graphRefusal (now (s .args .starts)) (now (s .args .neighbours))
-
 -- ---- places
-
-abbrev start : tie.After-slice-known2 → tie.Start
-start k = k .before .before .before .before
 
 -- the list of figures is long enough
 abbrev long : tie.After-ends → tie.Else1
@@ -42,22 +18,16 @@ answered p = p .before .before .before .before
 
 returns : tie.Need-returns
 returns c =
-    let s = start (c .before .before .before) in
-    let F = now (s .args .figures) in
     let h = c .before .before .if1 .taken in
-    let E = ended-short 6 (first s) F endsList (answer s) h (c .or-five .ensures ∙ ap (λ (x : ℕ). x orElse 5) (c .before .lists-refusal .ensures)) in
-    (E .answer, (E .list, lent-short 6 F (now (s .args .scratch)) (scratch s) h))
+    (short-answer _ _ h _ (c .before .lists-refusal .ensures) (c .or-five .ensures), (short-list _ _ h _ _, short-lent _ _ h _))
 
 returns-2 : tie.Need-returns-2
 returns-2 c =
     let p = c .before .before in
     let r = answered p in
-    let s = start (long r .before) in
-    let F = now (s .args .figures) in
     let h = long r .if1 .left in
     let e = r .ends .ensures in
-    let E = ended-long 6 (first s) F endsList (answer s) h (e .0) (p .put-ends .ensures .0) (p .put-ends .ensures .1) in
-    (E .answer, (E .list, lent-long 6 F (now (s .args .scratch)) (scratch s) h (e .1)))
+    (long-answer _ _ h _ (p .put-ends .ensures .0) (e .0), (long-list _ _ h _ (p .put-ends .ensures .1) (e .0), long-lent _ _ h _ (e .1)))
 
 pub wagonepoch-ends-spec : {M : Type 1} → statement M
 wagonepoch-ends-spec =
