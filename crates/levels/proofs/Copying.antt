@@ -1,31 +1,29 @@
--- The loop that copies words. Assumes nothing.
-use mathlib.Core.Path.{_≡_, refl, sym, ap, _∙_}
-use mathlib.Core.List.{List, [], _∷_, _++_}
+-- A list copied into the front of another, word by word. Assumes nothing.
+use mathlib.Core.Path.{_≡_, ap, ap₂, _∙_}
+use mathlib.Core.List.{List, _++_, append-nil}
 use Prim.Native.Nat.{ℕ, _+_, _≤_, _<_}
+use native.Mathlib.Nat.{zero-add}
 use native.Mathlib.Numerals.{add-one}
 use native.Mathlib.Omega.{arith}
-use lib.ListN.{length, getD, set, take, length-set}
-use lib.Seq.{take-suc, take-suc-set, take-all}
+use lib.ListN.{length, take, drop, getD, set, drop-of-length-le}
+use lib.Seq.{paste-suc, take-all}
+use Rattle.basis.specs.Lists.{overwrite}
 
--- the first i of the words F stand in U, which was T
-pub record Copying (T F U : List ℕ) (i : ℕ) : Type 0 where
-  pub many : length T ≡ length F
-  pub size : length U ≡ length T
-  pub most : i ≤ length F
-  pub on : take i U ≡ take i F
+module _ (xs l : List ℕ) (i : ℕ) where
+  -- the next word
+  pub copied-next : {m : List ℕ} → i < length xs → i < length l → m ≡ take i xs ++ drop i l → set m i (getD xs i 0) ≡ take (i + 1) xs ++ drop (i + 1) l
+  copied-next h k e =
+      let step = paste-suc l 0 xs i 0 (omega (arith, zero-add i)) h in
+      ap (λ (t : List ℕ). set t i (getD xs i 0)) e ∙ rw add-one (simp zero-add at step)
 
-pub copy-begin : {T F : List ℕ} → length T ≡ length F → Copying T F T 0
-copy-begin e = record { many = e; size = refl; most = omega arith; on = refl }
+  -- after the last word
+  pub copied-all : {m : List ℕ} → i ≡ length xs → m ≡ take i xs ++ drop i l → m ≡ overwrite xs l
+  copied-all h e =
+      let t : take i xs ≡ xs = take-all i xs (omega arith) in
+      e ∙ ap₂ (λ (x : List ℕ) (j : ℕ). x ++ drop j l) t h
 
-pub copy-step : {T F U : List ℕ} {i : ℕ} → Copying T F U i → i < length F → Copying T F (set U i (getD F i 0)) (i + 1)
-copy-step {T} {F} {U} {i} I h = record {
-  many = I .many;
-  size = length-set U i (getD F i 0) ∙ I .size;
-  most = omega arith;
-  on =
-      ap (λ (k : ℕ). take k (set U i (getD F i 0))) (add-one i) ∙ take-suc-set U i (getD F i 0) (omega (arith, I .many, I .size))
-      ∙ ap (λ (l : List ℕ). l ++ (getD F i 0 ∷ [])) (I .on) ∙ sym (take-suc F i 0 h) ∙ ap (λ (k : ℕ). take k F) (sym (add-one i));
-}
-
-pub copy-done : {T F U : List ℕ} {i : ℕ} → Copying T F U i → length F ≤ i → U ≡ F
-copy-done {T} {F} {U} {i} I h = sym (take-all i U (omega (arith, I .many, I .size))) ∙ I .on ∙ take-all i F h
+  -- over as many words
+  pub copied-over : {m : List ℕ} → length l ≡ length xs → i ≡ length xs → m ≡ take i xs ++ drop i l → m ≡ xs
+  copied-over s h e =
+      let n : length l ≤ length xs = omega arith in
+      copied-all h e ∙ ap (λ (t : List ℕ). xs ++ t) (drop-of-length-le l n) ∙ append-nil xs

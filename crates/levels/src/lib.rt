@@ -40,13 +40,7 @@ pub fn rooted_levels(
             if no_node(n, root) {
                 return RootedAnswer::Refused(6);
             }
-            let f = rooted(
-                starts,
-                neighbours,
-                root,
-                &mut levels[..n],
-                &mut sizes[..n],
-            );
+            let f = rooted(starts, neighbours, root, &mut levels[..n], &mut sizes[..n]);
             RootedAnswer::Levels {
                 depth: f.depth,
                 width: f.width,

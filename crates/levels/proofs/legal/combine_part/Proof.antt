@@ -70,12 +70,15 @@ part-ends-from-start : tie.Need-part-ends-from-start
 part-ends-from-start c = search needs
 
 part-ends-from-end : tie.Need-part-ends-from-end
-part-ends-from-end c = let s = c .before .before .before .before .before .before in omega (arith, words s)
+part-ends-from-end c =
+    let start′ = start c in
+    omega (arith, words start′)
 
 ends-from-requires : tie.Need-ends-from-requires
 ends-from-requires c κs =
-    let s = c .before .before .before .before .before .before .before in
-    ends-ask (s .args .starts .now) (s .args .neighbours .now) (s .pre .0) (s .args .scratch .now) (s .pre .1) (c .before .first-in-e .ensures)
+    let at-first-in-e = c .before in
+    let start′ = start at-first-in-e in
+    ends-ask (start′ .args .starts .now) (start′ .args .neighbours .now) (start′ .pre .0) (start′ .args .scratch .now) (start′ .pre .1) (at-first-in-e .first-in-e .ensures)
 
 end-widths-requires : tie.Need-end-widths-requires
 end-widths-requires c κs =

@@ -25,10 +25,15 @@ search-requires c κs =
     let s = c .before .before .before .before in
     search-ask (s .args .starts .now) (s .args .neighbours .now) (s .args .node) (s .args .scratch .now) (s .pre .0) (s .pre .1 .0) (s .pre .1 .1 .0) (s .pre .1 .1 .1)
 
+-- where the function starts
+abbrev start-of : tie.After-search → tie.Start
+start-of c = c .before .before .before .before .before
+
 collect-requires : tie.Need-collect-requires
 collect-requires c κs =
-    let s = c .before .before .before .before .before .before .before .before in
-    collect-ask (s .args .starts .now) (s .args .neighbours .now) (s .args .node) (s .args .scratch .now) (s .pre .0) (s .pre .1 .0) (s .pre .1 .1 .0) (s .pre .1 .1 .1) (c .before .before .before .search .ensures .1)
+    let at-search = c .before .before .before in
+    let start = start-of at-search in
+    collect-ask (start .args .starts .now) (start .args .neighbours .now) (start .args .node) (start .args .scratch .now) (start .pre .0) (start .pre .1 .0) (start .pre .1 .1 .0) (start .pre .1 .1 .1) (at-search .search .ensures .1)
 
 mul-wipe : tie.Need-mul-wipe
 mul-wipe c = search needs
@@ -47,21 +52,26 @@ wide-requires c κs = search needs
 
 wipe-requires : tie.Need-wipe-requires
 wipe-requires c κs =
-    let s = c .before .before .before .before .before .before .before .before .before .before .before .before .before in
-    let w = c .before .before .before .before .before .before .before .before .search .ensures in
-    let x = c .before .before .before .before .collect .ensures in
-    wipe-ask (s .args .starts .now) (s .args .neighbours .now) (s .args .node) (s .args .scratch .now) (s .pre .0) (s .pre .1 .0) (s .pre .1 .1 .0) (s .pre .1 .1 .1) (w .1) (x .0) (x .1) (c .wide .ensures ∙ ap (λ r. r .reached) (w .0))
+    let at-collect = c .before .before .before .before in
+    let at-search = at-collect .before .before .before .before in
+    let start = start-of at-search in
+    let w = at-search .search .ensures in
+    let x = at-collect .collect .ensures in
+    wipe-ask (start .args .starts .now) (start .args .neighbours .now) (start .args .node) (start .args .scratch .now) (start .pre .0) (start .pre .1 .0) (start .pre .1 .1 .0) (start .pre .1 .1 .1) (w .1) (x .0) (x .1) (c .wide .ensures ∙ ap (λ r. r .reached) (w .0))
 
 same-length : tie.Need-same-length
 same-length c = search needs
 
 returns : tie.Need-returns
 returns c =
-    let s = c .before .before .before .before .before .before .before .before .before .before .before .before .before .before .before .before in
-    let w = c .before .before .before .before .before .before .before .before .before .before .before .search .ensures in
-    let x = c .before .before .before .before .before .before .before .collect .ensures in (
-      gathered-count (s .args .starts .now) (s .args .neighbours .now) (s .args .node) (s .args .scratch .now) (s .pre .0) (s .pre .1 .0) (s .pre .1 .1 .0) (s .pre .1 .1 .1) (w .1) (x .0) (x .1),
-      gathered-words (s .args .starts .now) (s .args .neighbours .now) (s .args .node) (s .args .scratch .now) (s .pre .0) (s .pre .1 .0) (s .pre .1 .1 .0) (s .pre .1 .1 .1) (w .1) (x .0) (x .1) (c .before .before .wipe .ensures),
+    let at-wide = c .before .before .before in
+    let at-collect = at-wide .before .before .before .before in
+    let at-search = at-collect .before .before .before .before in
+    let start = start-of at-search in
+    let w = at-search .search .ensures in
+    let x = at-collect .collect .ensures in (
+      gathered-count (start .args .starts .now) (start .args .neighbours .now) (start .args .node) (start .args .scratch .now) (start .pre .0) (start .pre .1 .0) (start .pre .1 .1 .0) (start .pre .1 .1 .1) (w .1) (x .0) (x .1),
+      gathered-words (start .args .starts .now) (start .args .neighbours .now) (start .args .node) (start .args .scratch .now) (start .pre .0) (start .pre .1 .0) (start .pre .1 .1 .0) (start .pre .1 .1 .1) (w .1) (x .0) (x .1) (c .before .before .wipe .ensures),
     )
 
 pub gather-part-spec : {M : Type 1} → statement M

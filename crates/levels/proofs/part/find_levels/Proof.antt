@@ -15,16 +15,25 @@ mul-clear c = search needs
 clear-requires : tie.Need-clear-requires
 clear-requires c κs = search needs
 
+-- where the function starts
+abbrev start-of : tie.After-clear → tie.Start
+start-of c =
+    let at-shared-slice-known = c .before .before .before .before .before in
+    at-shared-slice-known .before
+
 gather-part-requires : tie.Need-gather-part-requires
 gather-part-requires c κs =
-    let s = c .before .before .before .before .before .before .before .before .before in
-    gather-ask (s .args .starts .now) (s .args .neighbours .now) (s .args .node) (s .args .scratch .now) (s .pre .0) (s .pre .1 .0) (s .pre .1 .1 .1) (c .before .before .before .clear .ensures)
+    let at-clear = c .before .before .before in
+    let start = start-of at-clear in
+    gather-ask (start .args .starts .now) (start .args .neighbours .now) (start .args .node) (start .args .scratch .now) (start .pre .0) (start .pre .1 .0) (start .pre .1 .1 .1) (at-clear .clear .ensures)
 
 combine-part-requires : tie.Need-combine-part-requires
 combine-part-requires c κs =
-    let s = c .before .before .before .before .before .before .before .before .before .before .before .before .before in
-    let w = c .before .before .before .gather-part .ensures in
-    part-ask (s .args .starts .now) (s .args .neighbours .now) (s .args .node) (s .args .scratch .now) (s .pre .0) (s .pre .1 .0) (s .pre .1 .1 .1) (c .before .before .before .before .before .before .before .clear .ensures) (w .0) (w .1)
+    let at-gather-part = c .before .before .before in
+    let at-clear = at-gather-part .before .before .before .before in
+    let start = start-of at-clear in
+    let w = at-gather-part .gather-part .ensures in
+    part-ask (start .args .starts .now) (start .args .neighbours .now) (start .args .node) (start .args .scratch .now) (start .pre .0) (start .pre .1 .0) (start .pre .1 .1 .1) (at-clear .clear .ensures) (w .0) (w .1)
 
 mul-copy : tie.Need-mul-copy
 mul-copy c = search needs
@@ -48,7 +57,13 @@ copy-requires : tie.Need-copy-requires
 copy-requires c κs = search needs
 
 mul-clear-2 : tie.Need-mul-clear-2
-mul-clear-2 c = let s = c .before .before .before .before .before .before .before .before .before .before .before .before .before .before .before .before .before .before .before .before .before .before .before in omega (arith, s .pre .1 .1 .1)
+mul-clear-2 c =
+    let at-copy = c .before .before .before in
+    let at-scratch3 = at-copy .before .before .before .before .before in
+    let at-gather-part = at-scratch3 .before .before .before .before .before in
+    let at-clear = at-gather-part .before .before .before .before in
+    let start = start-of at-clear in
+    omega (arith, start .pre .1 .1 .1)
 
 clear-requires-2 : tie.Need-clear-requires-2
 clear-requires-2 c κs = search needs
@@ -61,14 +76,20 @@ same-length-2 c = search needs
 
 returns : tie.Need-returns
 returns c =
-    let s = c .before .before .before .before .before .before .before .before .before .before .before .before .before .before .before .before .before .before .before .before .before .before .before .before .before .before in
-    let z = c .before .before .before .before .before .before .before .before .before .before .before .before .before .before .before .before .before .before .before .before .clear .ensures in
-    let w = c .before .before .before .before .before .before .before .before .before .before .before .before .before .before .before .before .gather-part .ensures in
-    let x = c .before .before .before .before .before .before .before .before .before .before .before .before .combine-part .ensures in (
-      part-figures (s .args .starts .now) (s .args .neighbours .now) (s .args .node) (s .args .scratch .now) (s .pre .0) (s .pre .1 .0) (s .pre .1 .1 .1) z (w .0) (w .1) (x .0),
+    let at-clear2 = c .before .before in
+    let at-copy = at-clear2 .before .before .before .before in
+    let at-scratch3 = at-copy .before .before .before .before .before in
+    let at-combine-part = at-scratch3 .before in
+    let at-gather-part = at-combine-part .before .before .before .before in
+    let at-clear = at-gather-part .before .before .before .before in
+    let start = start-of at-clear in
+    let z = at-clear .clear .ensures in
+    let w = at-gather-part .gather-part .ensures in
+    let x = at-combine-part .combine-part .ensures in (
+      part-figures (start .args .starts .now) (start .args .neighbours .now) (start .args .node) (start .args .scratch .now) (start .pre .0) (start .pre .1 .0) (start .pre .1 .1 .1) z (w .0) (w .1) (x .0),
       (
-        c .before .before .before .before .before .before .copy .ensures ∙ levels-lent (s .args .starts .now) (s .args .neighbours .now) (s .args .node) (s .args .scratch .now) (s .pre .0) (s .pre .1 .0) (s .pre .1 .1 .1) z (w .0) (w .1) (x .1),
-        part-words (s .args .starts .now) (s .args .neighbours .now) (s .args .node) (s .args .scratch .now) (s .pre .0) (s .pre .1 .0) (s .pre .1 .1 .1) z (w .0) (w .1) (x .1) (c .before .before .clear2 .ensures),
+        at-copy .copy .ensures ∙ levels-lent (start .args .starts .now) (start .args .neighbours .now) (start .args .node) (start .args .scratch .now) (start .pre .0) (start .pre .1 .0) (start .pre .1 .1 .1) z (w .0) (w .1) (x .1),
+        part-words (start .args .starts .now) (start .args .neighbours .now) (start .args .node) (start .args .scratch .now) (start .pre .0) (start .pre .1 .0) (start .pre .1 .1 .1) z (w .0) (w .1) (x .1) (at-clear2 .clear2 .ensures),
       ),
     )
 
