@@ -1,5 +1,5 @@
 -- The tests of a numbering call in turn, and what one that refuses and one that accepts answers and leaves, in either order. Assumes nothing.
-use mathlib.Core.Path.{_≡_, sym, ap, _∙_}
+use mathlib.Core.Path.{_≡_, refl, sym, ap, _∙_}
 use mathlib.Core.Bool.{Bool, true, false, _||_}
 use mathlib.Core.List.{List, _++_}
 use Prim.Native.Nat.{ℕ, _*_, _≤_, _<_}
@@ -13,19 +13,19 @@ use Rattle.spec.specs.CallsNumbering.{runRefusal, runScratch}
 use Rattle.spec.specs.ClaimCuthill.{CuthillNumbered}
 use Rattle.spec.specs.Cuthill.{cuthillResults, cuthillRun}
 use Rattle.spec.specs.Graph.{graphOf, sizeOf}
-use Rattle.spec.specs.Lent.{Outcome, accepted, refused, filled, zeroed, wordsPerNode}
+use Rattle.spec.specs.Lent.{Outcome, accepted, refused, zeroed, wordsPerNode}
 use Rattle.spec.specs.Numbering.{Run, Figures}
 use Rattle.spec.specs.Refusal.{refuse}
 use Rattle.laws.specs.Results.{AllSound}
 use Rattle.laws.proofs.Claim.{sound-numbered}
 use Rattle.laws.proofs.CuthillRun.{cuthill-numbered}
-use Rattle.laws.proofs.Lent.{answer-refused, filled-refused, answer-accepted, filled-accepted, scratch-refused, scratch-accepted}
 use Rattle.laws.proofs.Numberings.{numbering-length}
 use Rattle.laws.proofs.Passes.{passes-length}
 use Rattle.laws.proofs.ResultLevels.{all-length}
 use Rattle.laws.proofs.Results.{all-numbering}
 use Rattle.graph.specs.Facts.{LegalLists, RefusedLists}
 use Rattle.graph.proofs.Answers.{refused-first, legal-next}
+use Rattle.graph.proofs.Ways.{Refuses, Accepts, answer-stays, buffer-stays, scratch-stays, answer-new, buffer-new, scratch-new}
 use Rattle.numbering_whole.specs.Orders.{resultOf, wholeIn}
 use Rattle.numbering_whole.specs.declared.order.Order.{Order}
 use Rattle.numbering_whole.specs.declared.order.Order.the-variants.{ReverseCuthillMcKee}
@@ -69,23 +69,21 @@ module _ (order : Order) (S N X L P W : List ℕ) where
     pub scratch : W ≡ runScratch S N X L P W
     pub none : (F : Figures) → _≡_ {A = Outcome Figures} (refused c) (accepted F) → NumberedIn order S N F (take (sizeOf S) X) (take (sizeOf S) L)
 
-  refusal : (c : ℕ) → runRefusal S N X L P W ≡ c → 1 ≤ c → RunRefused c
+  refusal : {c : ℕ} → Refuses (runRefusal S N X L P W) c → RunRefused c
   unfolding runScratch
-  refusal c e l =
-      let r : ℕ = runRefusal S N X L P W in
-      record {
-        answer = answer-refused r c _ e l;
-        numbers = filled-refused r c _ X e l;
-        levels = filled-refused r c _ L e l;
-        passes = filled-refused r c _ P e l;
-        scratch = scratch-refused r c S W e l;
-        none = λ F p. let z : _≡_ {A = ℕ} 0 1 = cc in absurd (omega arith);
-      }
+  refusal R = record {
+    answer = answer-stays R _;
+    numbers = buffer-stays R _;
+    levels = buffer-stays R _;
+    passes = buffer-stays R _;
+    scratch = scratch-stays R S;
+    none = λ F p. let z : _≡_ {A = ℕ} 0 1 = cc in absurd (omega arith);
+  }
 
   -- 1 to 4
   pub lists-refused : {c : ℕ} → RefusedLists S N c → RunRefused c
   unfolding runRefusal
-  lists-refused {c} R = refusal c (refused-first R _) (R .some)
+  lists-refused R = refusal (record { is = refused-first R _; some = R .some })
 
   module _ (G : LegalLists S N) where
     tests : {b : Bool} → ltb (length X) (sizeOf S) || ltb (length L) (sizeOf S) || ltb (length P) (sizeOf S) || ltb (length W) (wordsPerNode * sizeOf S) ≡ b → runRefusal S N X L P W ≡ refuse b 5
@@ -94,7 +92,7 @@ module _ (order : Order) (S N X L P W : List ℕ) where
 
     -- 5
     pub short-refused : ltb (length X) (sizeOf S) || ltb (length L) (sizeOf S) || ltb (length P) (sizeOf S) || ltb (length W) (wordsPerNode * sizeOf S) ≡ true → RunRefused 5
-    short-refused e = refusal 5 (tests e) (omega arith)
+    short-refused e = refusal (record { is = tests e; some = omega arith })
 
     -- ---- accepted
 
@@ -108,28 +106,24 @@ module _ (order : Order) (S N X L P W : List ℕ) where
     levels-size = all-length (G .graph) (resultOf order (graphOf S N)) sound
 
     module _ (long : ltb (length X) (sizeOf S) || ltb (length L) (sizeOf S) || ltb (length P) (sizeOf S) || ltb (length W) (wordsPerNode * sizeOf S) ≡ false) where
-      none : runRefusal S N X L P W ≡ 0
-      none = tests long
+      none : Accepts (runRefusal S N X L P W)
+      none = record { is = tests long }
 
       pub answered : accepted (wholeIn order (graphOf S N) .figures) ≡ answerIn order S N X L P W
-      answered = answer-accepted (runRefusal S N X L P W) _ none
-
-      -- a list comes back with its new front
-      back : (new old : List ℕ) {Y : List ℕ} → Y ≡ new → length new ≡ sizeOf S → Y ++ drop (sizeOf S) old ≡ filled (runRefusal S N X L P W) new old
-      back new old y l = ap (λ (f : List ℕ). f ++ drop (sizeOf S) old) y ∙ filled-accepted (runRefusal S N X L P W) (sizeOf S) new old none l
+      answered = answer-new none refl
 
       pub numbers-back : {Y : List ℕ} → Y ≡ wholeIn order (graphOf S N) .numbers → Y ++ drop (sizeOf S) X ≡ numbersIn order S N X L P W
-      numbers-back y = back (whole .numbers) X y numbers-size
+      numbers-back y = buffer-new none (sizeOf S) X y numbers-size
 
       pub levels-back : {Y : List ℕ} → Y ≡ wholeIn order (graphOf S N) .levels → Y ++ drop (sizeOf S) L ≡ levelsIn order S N X L P W
-      levels-back y = back (whole .levels) L y levels-size
+      levels-back y = buffer-new none (sizeOf S) L y levels-size
 
       pub passes-back : {Y : List ℕ} → Y ≡ wholeIn order (graphOf S N) .passes → Y ++ drop (sizeOf S) P ≡ passesIn order S N X L P W
-      passes-back y = back (whole .passes) P y (passes-length (graphOf S N) (resultOf order (graphOf S N)))
+      passes-back y = buffer-new none (sizeOf S) P y (passes-length (graphOf S N) (resultOf order (graphOf S N)))
 
       pub scratch-back : {Z : List ℕ} → Z ≡ zeroed (wordsPerNode * sizeOf S) W → Z ≡ runScratch S N X L P W
       unfolding runScratch
-      scratch-back z = z ∙ scratch-accepted (runRefusal S N X L P W) S W none
+      scratch-back z = scratch-new none S W z
 
     -- ---- what a library above rests on
 

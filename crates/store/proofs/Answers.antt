@@ -16,11 +16,12 @@ use Rattle.spec.specs.Lent.{Outcome, refused, outcome, filled, zeroed, scratchA
 use Rattle.spec.specs.Measures.{isNumbering, orderOf}
 use Rattle.spec.specs.Refusal.{refuse, _orElse_}
 use Rattle.spec.specs.Store.{markByteCount, markBytes}
-use Rattle.laws.proofs.Lent.{answer-refused, filled-refused, zeroed-is}
+use Rattle.laws.proofs.Lent.{zeroed-is}
 use Rattle.laws.proofs.Numberings.{numbering-length}
 use Rattle.laws.proofs.Refused.{or-else-first, graph-refusal-most}
 use Rattle.graph.specs.Facts.{LegalLists, RefusedLists}
 use Rattle.graph.proofs.Answers.{refused-first, legal-next}
+use Rattle.graph.proofs.Ways.{Refuses, answer-stays, buffer-stays}
 use Rattle.graph_envelope.proofs.Lent.{length-orderOf}
 use Rattle.store_eliminate.specs.Walk.{newGraph}
 
@@ -33,28 +34,17 @@ pub record Answered (S N x C B : List ℕ) (a : Outcome EliminationFigures) (C�
   pub bytes : B′ ≡ eliminationBytes S N x C B
 
 module _ (S N x C B : List ℕ) where
-  abbrev by : ℕ
-  by = eliminationRefusal S N x C B
-
-  refused-answer : (c : ℕ) → 1 ≤ c → eliminationRefusal S N x C B ≡ c → refused c ≡ eliminationAnswer S N x C B
-  unfolding eliminationAnswer
-  refused-answer c h e = answer-refused by c _ e h
-
-  refused-bytes : (c : ℕ) → 1 ≤ c → eliminationRefusal S N x C B ≡ c → B ≡ eliminationBytes S N x C B
-  unfolding eliminationBytes
-  refused-bytes c h e = filled-refused by c _ B e h
-
   zeroed-scratch : (c : ℕ) → eqb c 0 || eqb c 7 || eqb c 8 ≡ true → eliminationRefusal S N x C B ≡ c → zeroed (sizeOf S) C ≡ eliminationScratch S N x C B
   unfolding eliminationScratch scratchAfter
   zeroed-scratch c t e = rw (e, t)
 
   -- 1 to 5: all is untouched
-  untouched : (c : ℕ) → 1 ≤ c → c ≤ 5 → eliminationRefusal S N x C B ≡ c → Answered S N x C B (refused c) C B
-  unfolding eliminationScratch scratchAfter
-  untouched c h l e = record {
-    answer = refused-answer c h e;
-    scratch = rw (e, ne-eqb c 0 (omega arith), ne-eqb c 7 (omega arith), ne-eqb c 8 (omega arith));
-    bytes = refused-bytes c h e;
+  untouched : (c : ℕ) → c ≤ 5 → Refuses (eliminationRefusal S N x C B) c → Answered S N x C B (refused c) C B
+  unfolding eliminationAnswer eliminationScratch eliminationBytes scratchAfter
+  untouched c l R = record {
+    answer = answer-stays R _;
+    scratch = rw (R .is, ne-eqb c 0 (omega (arith, R .some)), ne-eqb c 7 (omega arith), ne-eqb c 8 (omega arith));
+    bytes = buffer-stays R _;
   }
 
   module _ (L : LegalLists S N) where
@@ -65,14 +55,15 @@ module _ (S N x C B : List ℕ) where
 
     -- 5
     pub answered-5 : length C < sizeOf S → Answered S N x C B (refused 5) C B
-    answered-5 h = untouched 5 (omega arith) (omega arith) (legal-refusal ∙ rw (lt-ltb (length C) (sizeOf S) h))
+    answered-5 h = untouched 5 (omega arith) (record { is = legal-refusal ∙ rw (lt-ltb (length C) (sizeOf S) h); some = omega arith })
 
     module _ (h : sizeOf S ≤ length C) where
       -- 7: the n scratch words 0
       pub answered-7 : isNumbering (sizeOf S) x ≡ false → Answered S N x C B (refused 7) (zeroed (sizeOf S) C) B
+      unfolding eliminationAnswer eliminationBytes
       answered-7 f =
-          let e : eliminationRefusal S N x C B ≡ 7 = legal-refusal ∙ rw (le-ltb (length C) (sizeOf S) h, f) in
-          record { answer = refused-answer 7 (omega arith) e; scratch = zeroed-scratch 7 refl e; bytes = refused-bytes 7 (omega arith) e }
+          let R : Refuses (eliminationRefusal S N x C B) 7 = record { is = legal-refusal ∙ rw (le-ltb (length C) (sizeOf S) h, f); some = omega arith } in
+          record { answer = answer-stays R _; scratch = zeroed-scratch 7 refl (R .is); bytes = buffer-stays R _ }
 
       -- 8 or none
       pub answered-last : isNumbering (sizeOf S) x ≡ true → {a : Outcome EliminationFigures} {C′ B′ : List ℕ}
@@ -98,8 +89,8 @@ module _ (S N x C B : List ℕ) where
 pub answered-lists : (S N x C B : List ℕ) {c : ℕ} → RefusedLists S N c → Answered S N x C B (refused c) C B
 unfolding eliminationRefusal measuresRefusal
 answered-lists S N x C B {c} F =
-    untouched S N x C B c (F .some) (omega (arith, F .refusal, graph-refusal-most S N))
-    (ap (λ (d : ℕ). d orElse last) (refused-first F rest) ∙ or-else-first c last (F .some))
+    untouched S N x C B c (omega (arith, F .refusal, graph-refusal-most S N))
+    (record { is = ap (λ (d : ℕ). d orElse last) (refused-first F rest) ∙ or-else-first c last (F .some); some = F .some })
   where
     rest : ℕ
     rest = refuse (short C (sizeOf S)) 5 orElse refuse (not (isNumbering (sizeOf S) x)) 7
