@@ -16,136 +16,88 @@ use Rattle.numbering.proofs.Answers.{none-short, lists-refused, short-r
 use Rattle.numbering.proofs.number.Statement.{statement}
 use Rattle.numbering.proofs.number.Tie as tie
 
--- the two lists, where the adjacency test passed
-legal : (c : tie.After-enum-told) → let known = c .before .before .before .before .before in let s = known .before .before .before .before in LegalLists (now (s .args .starts)) (now (s .args .neighbours))
+-- ---- places
+
+abbrev known : tie.After-test-adjacency → tie.After-slice-known2
+known t = t .before .before .before
+
+abbrev tested : tie.After-test-adjacency → tie.Start
+tested t = known t .before .before .before .before
+
+-- the two lists are legal
+abbrev start : tie.After-enum-told → tie.Start
+start c = tested (c .before .before)
+
+-- no buffer is short
+abbrev told : tie.Else1 → tie.After-enum-told
+told e = e .before .before
+
+-- ---- the tests
+
+legal : (c : tie.After-enum-told) → LegalLists (now (start c .args .starts)) (now (start c .args .neighbours))
 legal c =
-    let known = c .before .before .before .before .before in
-    let s = known .before .before .before .before in
-    legal-lists (now (s .args .starts)) (now (s .args .neighbours)) (c .before .before .test-adjacency .ensures) (c .enum-told .given .1)
+    let a = start c .args in
+    legal-lists (now (a .starts)) (now (a .neighbours)) (c .before .before .test-adjacency .ensures) (c .enum-told .given .1)
 
--- the four buffers, where none was found short
-long : (c : tie.Else1) → let told = c .before .before in let known = told .before .before .before .before .before in let s = known .before .before .before .before in
-    ltb (length (now (s .args .numbers))) (sizeOf (now (s .args .starts))) || ltb (length (now (s .args .levels))) (sizeOf (now (s .args .starts)))
-    || ltb (length (now (s .args .passes))) (sizeOf (now (s .args .starts)))
-    || ltb (length (now (s .args .scratch))) (wordsPerNode * sizeOf (now (s .args .starts))) ≡ false
-long c = sym (c .before .any-short .ensures) ∙ c .if1 .left
+long : (e : tie.Else1) → let a = start (told e) .args in let n = sizeOf (now (a .starts)) in
+    ltb (length (now (a .numbers))) n || ltb (length (now (a .levels))) n || ltb (length (now (a .passes))) n || ltb (length (now (a .scratch))) (wordsPerNode * n) ≡ false
+long e = sym (e .before .any-short .ensures) ∙ e .if1 .left
 
-room : (c : tie.Else1) → let told = c .before .before in let known = told .before .before .before .before .before in let s = known .before .before .before .before in
-    (sizeOf (now (s .args .starts)) ≤ length (now (s .args .numbers))) × (sizeOf (now (s .args .starts)) ≤ length (now (s .args .levels)))
-    × (sizeOf (now (s .args .starts)) ≤ length (now (s .args .passes)))
-    × (wordsPerNode * sizeOf (now (s .args .starts)) ≤ length (now (s .args .scratch)))
-room c =
-    let told = c .before .before in
-    let known = told .before .before .before .before .before in
-    let s = known .before .before .before .before in
-    none-short (sizeOf (now (s .args .starts))) (length (now (s .args .numbers))) (length (now (s .args .levels))) (length (now (s .args .passes)))
-    (length (now (s .args .scratch))) (long c)
-
-test-adjacency-requires : tie.Need-test-adjacency-requires
-test-adjacency-requires c κs = search needs
-
-enum-known-c : tie.Need-enum-known-c
-enum-known-c c = search needs
-
-enum-told : tie.Need-enum-told
-enum-told c = search needs
-
-sub-n : tie.Need-sub-n
-sub-n c = omega (arith, legal c .starts .count)
-
-any-short-requires : tie.Need-any-short-requires
-any-short-requires c κs = legal c .starts .few
+room : (e : tie.Else1) → let a = start (told e) .args in let n = sizeOf (now (a .starts)) in
+    (n ≤ length (now (a .numbers))) × (n ≤ length (now (a .levels))) × (n ≤ length (now (a .passes))) × (wordsPerNode * n ≤ length (now (a .scratch)))
+room e =
+    let a = start (told e) .args in
+    none-short (sizeOf (now (a .starts))) (length (now (a .numbers))) (length (now (a .levels))) (length (now (a .passes))) (length (now (a .scratch))) (long e)
 
 returns : tie.Need-returns
 returns c =
-    let told = c .before .before in
-    let known = told .before .before .before .before .before in
-    let s = known .before .before .before .before in
-    let R = short-refused (s .args .order) (now (s .args .starts)) (now (s .args .neighbours)) (now (s .args .numbers)) (now (s .args .levels)) (now (s .args .passes)) (now (s .args .scratch)) (legal told) (sym (c .before .any-short .ensures) ∙ c .if1 .taken) in
+    let e = c .before .before in
+    let a = start e .args in
+    let R = short-refused (a .order) (now (a .starts)) (now (a .neighbours)) (now (a .numbers)) (now (a .levels)) (now (a .passes)) (now (a .scratch)) (legal e) (sym (c .before .any-short .ensures) ∙ c .if1 .taken) in
     (R .answer, (R .numbers, (R .levels, (R .passes, (R .scratch, R .none)))))
-
-slice-relend-prefix-number-all : tie.Need-slice-relend-prefix-number-all
-slice-relend-prefix-number-all c = room c .0
-
-slice-aggregate-number-all : tie.Need-slice-aggregate-number-all
-slice-aggregate-number-all c =
-    let told = c .before .before .before in
-    let known = told .before .before .before .before .before in
-    sym (length-take-le _ (now (known .before .before .before .before .args .numbers)) (room (c .before) .0))
-
-slice-relend-prefix-number-all-2 : tie.Need-slice-relend-prefix-number-all-2
-slice-relend-prefix-number-all-2 c = room (c .before) .1
-
-slice-aggregate-number-all-2 : tie.Need-slice-aggregate-number-all-2
-slice-aggregate-number-all-2 c =
-    let told = c .before .before .before .before in
-    let known = told .before .before .before .before .before in
-    sym (length-take-le _ (now (known .before .before .before .before .args .levels)) (room (c .before .before) .1))
-
-slice-relend-prefix-number-all-3 : tie.Need-slice-relend-prefix-number-all-3
-slice-relend-prefix-number-all-3 c = room (c .before .before) .2
-
-slice-aggregate-number-all-3 : tie.Need-slice-aggregate-number-all-3
-slice-aggregate-number-all-3 c =
-    let told = c .before .before .before .before .before in
-    let known = told .before .before .before .before .before in
-    sym (length-take-le _ (now (known .before .before .before .before .args .passes)) (room (c .before .before .before) .2))
-
-number-all-requires : tie.Need-number-all-requires
-number-all-requires c κs =
-    let test = c .before .before .before .before in
-    let told = test .before .before in
-    let known = told .before .before .before .before .before in
-    let s = known .before .before .before .before in
-    let r = room test in (
-      legal told .refusal,
-      (
-        (
-          length-take-le _ (now (s .args .numbers)) (r .0),
-          length-take-le _ (now (s .args .levels)) (r .1),
-          length-take-le _ (now (s .args .passes)) (r .2),
-        ),
-        r .3,
-      ),
-    )
 
 returns-2 : tie.Need-returns-2
 returns-2 c =
-    let tested = c .before .before .before in
-    let known = tested .before .before .before in
-    let s = known .before .before .before .before in
-    let R = lists-refused (s .args .order) (now (s .args .starts)) (now (s .args .neighbours)) (now (s .args .numbers)) (now (s .args .levels)) (now (s .args .passes)) (now (s .args .scratch)) (refused-lists (now (s .args .starts)) (now (s .args .neighbours)) (tested .test-adjacency .ensures) (c .before .c .given .1)) in
+    let t = c .before .before .before in
+    let a = tested t .args in
+    let R = lists-refused (a .order) (now (a .starts)) (now (a .neighbours)) (now (a .numbers)) (now (a .levels)) (now (a .passes)) (now (a .scratch)) (refused-lists (now (a .starts)) (now (a .neighbours)) (t .test-adjacency .ensures) (c .before .c .given .1)) in
     (R .answer, (R .numbers, (R .levels, (R .passes, (R .scratch, R .none)))))
 
-same-length : tie.Need-same-length
-same-length c = search needs
+-- ---- the call: the three lists are lent as far as there are nodes
 
-same-length-2 : tie.Need-same-length-2
-same-length-2 c = search needs
+lent : tie.Need-slice-aggregate-number-all
+lent c = let e = c .before in sym (length-take-le _ (now (start (told e) .args .numbers)) (room e .0))
 
-same-length-3 : tie.Need-same-length-3
-same-length-3 c = search needs
+lent-2 : tie.Need-slice-aggregate-number-all-2
+lent-2 c = let e = c .before .before in sym (length-take-le _ (now (start (told e) .args .levels)) (room e .1))
 
-same-length-4 : tie.Need-same-length-4
-same-length-4 c = search needs
+lent-3 : tie.Need-slice-aggregate-number-all-3
+lent-3 c = let e = c .before .before .before in sym (length-take-le _ (now (start (told e) .args .passes)) (room e .2))
+
+number-all-requires : tie.Need-number-all-requires
+number-all-requires c κs =
+    let e = c .before .before .before .before in
+    let a = start (told e) .args in
+    let r = room e in (
+      legal (told e) .refusal,
+      ((length-take-le _ (now (a .numbers)) (r .0), length-take-le _ (now (a .levels)) (r .1), length-take-le _ (now (a .passes)) (r .2)), r .3),
+    )
 
 returns-3 : tie.Need-returns-3
 returns-3 c =
     let done = c .before .before .before .before in
     let ran = done .before .before .before .before in
-    let test = ran .before .before .before .before .before in
-    let told = test .before .before in
-    let known = told .before .before .before .before .before in
-    let s = known .before .before .before .before in
-    let S = now (s .args .starts) in
-    let N = now (s .args .neighbours) in
-    let X = now (s .args .numbers) in
-    let L = now (s .args .levels) in
-    let P = now (s .args .passes) in
-    let W = now (s .args .scratch) in
-    let o = s .args .order in
-    let G = legal told in
-    let l = long test in
+    let e = ran .before .before .before .before .before in
+    let a = start (told e) .args in
+    let S = now (a .starts) in
+    let N = now (a .neighbours) in
+    let X = now (a .numbers) in
+    let L = now (a .levels) in
+    let P = now (a .passes) in
+    let W = now (a .scratch) in
+    let o = a .order in
+    let G = legal (told e) in
+    let l = long e in
     let f = ran .number-all .ensures in (
       ap accepted (f .0) ∙ answered o S N X L P W G l,
       (
@@ -154,7 +106,7 @@ returns-3 c =
           levels-back o S N X L P W G l (f .1 .1 .0),
           (
             passes-back o S N X L P W G l (f .1 .1 .1 .0),
-            (scratch-back o S N X L P W G l (f .1 .1 .1 .1), λ F e. left-numbered o S N X L P W G (f .1 .0) (f .1 .1 .0) F _ (f .0) e),
+            (scratch-back o S N X L P W G l (f .1 .1 .1 .1), λ F p. left-numbered o S N X L P W G (f .1 .0) (f .1 .1 .0) F _ (f .0) p),
           ),
         ),
       ),
@@ -164,22 +116,22 @@ pub number-spec : {M : Type 1} → statement M
 number-spec =
     tie.close
     (tie.spec
-    test-adjacency-requires
-    enum-known-c
-    enum-told
-    sub-n
-    any-short-requires
+    (λ c κs. search needs)
+    (λ c. search needs)
+    (λ c. search needs)
+    (λ c. omega (arith, legal c .starts .count))
+    (λ c κs. legal c .starts .few)
     returns
-    slice-relend-prefix-number-all
-    slice-aggregate-number-all
-    slice-relend-prefix-number-all-2
-    slice-aggregate-number-all-2
-    slice-relend-prefix-number-all-3
-    slice-aggregate-number-all-3
+    (λ c. room c .0)
+    lent
+    (λ c. room (c .before) .1)
+    lent-2
+    (λ c. room (c .before .before) .2)
+    lent-3
     number-all-requires
     returns-2
-    same-length
-    same-length-2
-    same-length-3
-    same-length-4
+    (λ c. search needs)
+    (λ c. search needs)
+    (λ c. search needs)
+    (λ c. search needs)
     returns-3)

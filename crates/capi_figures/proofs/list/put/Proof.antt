@@ -5,7 +5,7 @@ use Prim.Native.Nat.{_-_, _≤_}
 use native.Mathlib.Omega.{arith}
 use denote.Ref.{now}
 use lib.ListN.{length, take, drop, length-set}
-use Rattle.capi_figures.proofs.Copied.{copied-next, copied-all}
+use Rattle.levels.proofs.Copying.{copied-next, copied-all}
 use Rattle.capi_figures.proofs.list.put.Statement.{statement}
 use Rattle.capi_figures.proofs.list.put.Tie as tie
 
