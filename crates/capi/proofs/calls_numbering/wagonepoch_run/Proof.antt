@@ -23,7 +23,7 @@ first-left k = k .before .before .before .before
 returns : tie.Need-returns
 unfolding answerC figuresC lentC
 returns c =
-    rw (lt-ltb _ _ (c .before .before .if1 .taken))
+    rw (lt-ltb _ 7 (c .before .before .if1 .taken))
     (c .or-five .ensures ∙ ap (λ (x : ℕ). x orElse 5) (c .before .lists-refusal .ensures), (refl, (refl, (refl, (refl, refl)))))
 
 returns-2 : tie.Need-returns-2
@@ -32,8 +32,8 @@ returns-2 c =
     let r = first-left (left p) .before .before in
     let l = r .before .before .before .before .before in
     let h = l .if1 .left in (
-      long-answer _ _ h _ (p .put-run .ensures .0) (search r),
-      (long-list _ _ h _ (p .put-run .ensures .1) (search r), (long-lent _ _ h _ (search r), (long-lent _ _ h _ (search r), (long-lent _ _ h _ (search r), long-lent _ _ h _ (search r))))),
+      long-answer 7 _ h _ (p .put-run .ensures .0) (search r),
+      (long-list 7 _ h _ (p .put-run .ensures .1) (search r), (long-lent 7 _ h _ (search r), (long-lent 7 _ h _ (search r), (long-lent 7 _ h _ (search r), long-lent 7 _ h _ (search r))))),
     )
 
 pub wagonepoch-run-spec : {M : Type 1} → statement M
