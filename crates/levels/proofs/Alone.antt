@@ -26,8 +26,8 @@ use Rattle.levels_search.proofs.Stores.{take-sets}
 use Rattle.levels_laws.specs.Areas.{wordsOf}
 use Rattle.levels_laws.specs.Given.{firstOf, endsOf, merged}
 use Rattle.levels_laws.specs.Starts.{membersOf}
-use Rattle.levels_laws.proofs.Clearing.{zeroed-length}
-use Rattle.levels_laws.proofs.Finish.{merged-alone}
+use Rattle.levels_laws.proofs.Blank.{zeroed-length}
+use Rattle.levels_laws.proofs.GivenEntry.{merged-alone}
 use Rattle.levels.specs.Part.{PartGiven, partLevelsOf}
 use Rattle.levels.specs.declared.shape.PartLevels.{PartLevels}
 use Rattle.levels.proofs.Scratch.{zero-front, behind-front, behind-sets, zeroed-again}

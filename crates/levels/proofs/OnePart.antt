@@ -33,7 +33,7 @@ use Rattle.levels_ends.proofs.Areas.{front-lent, front-back, slice-shift}
 use Rattle.levels_laws.specs.Areas.{wordsOf}
 use Rattle.levels_laws.specs.Given.{Given, firstOf, endsOf, merged}
 use Rattle.levels_laws.specs.Starts.{membersOf}
-use Rattle.levels_laws.proofs.Storing.{members-listed, member-in}
+use Rattle.levels_laws.proofs.Members.{members-listed, member-in}
 use Rattle.levels_sizes.specs.Sizes.{levelsAt, Listable}
 use Rattle.levels.specs.Part.{PartGiven, partLevelsOf}
 use Rattle.levels.specs.declared.shape.PartLevels.{PartLevels}

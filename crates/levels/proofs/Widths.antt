@@ -21,7 +21,7 @@ use Rattle.laws.proofs.Figures.{reached-part}
 use Rattle.laws.proofs.Levels.{part-node, part-same}
 use Rattle.laws.proofs.Refused.{not-refused}
 use Rattle.levels_laws.specs.Areas.{tallyOf}
-use Rattle.levels_laws.proofs.Clearing.{zeroed-length}
+use Rattle.levels_laws.proofs.Blank.{zeroed-length}
 use Rattle.levels_search.specs.Answer.{Searched}
 use Rattle.levels_search.proofs.Stores.{drop-replicate}
 use Rattle.levels_ends.specs.Answer.{foundOf, Ended}

@@ -1,27 +1,11 @@
 -- What is worked on and the levels, in one slice: what is read and written there, and its length. Assumes nothing.
-use mathlib.Core.Path.{_≡_, refl, sym, ap, _∙_}
+use mathlib.Core.Path.{_≡_, refl, sym, ap, _∙_, subst}
 use mathlib.Core.List.{List, [], _∷_, _++_, append-assoc}
 use Prim.Native.Nat.{ℕ, suc, _+_, _-_, _*_, _≤_, _<_}
 use native.Mathlib.Nat.{zero-add, suc-add}
 use native.Mathlib.Omega.{arith}
 use lib.ListN.{length, getD, set, take, drop, length-set, length-take, length-drop, length-append, take-append-drop, List·getD-append}
-use lib.Seq.{
-  sets,
-  slice,
-  length-slice,
-  length-take-le,
-  take-append-le,
-  take-take,
-  drop-append-le,
-  getD-append-add,
-  getD-take,
-  getD-drop,
-  set-append-left,
-  take-set-lt,
-  take-set-le,
-  drop-set-lt,
-  drop-set-add,
-}
+use lib.Seq.{sets, slice, length-slice, length-take-le, take-append-le, take-take, drop-append-le, getD-append-add, getD-take, getD-drop, set-append-left, take-set-lt, take-set-le, drop-set-lt, drop-set-add}
 use Rattle.basis.proofs.Walk.{slice-front}
 use Rattle.levels_laws.specs.Areas.{swapped, workOf, heldOf}
 
@@ -303,3 +287,7 @@ module _ (n : ℕ) (R E : List ℕ) (e : length R ≡ 6 * n) where
 
   pub held-longer : heldOf n (R ++ E) ≡ heldOf n R ++ E
   held-longer = ap (drop (5 * n)) swapped-longer ∙ drop-append-le (5 * n) (swapped n R) E (omega (arith, length-swapped n R))
+
+-- what holds of two lists holds of two that are the same
+pub halves : (P : List ℕ → List ℕ → Type 0) {U M U′ M′ : List ℕ} → U′ ≡ U → M′ ≡ M → P U M → P U′ M′
+halves P {U} {M} {U′} {M′} p q x = subst (λ (u : List ℕ). P u M′) (sym p) (subst (P U) (sym q) x)

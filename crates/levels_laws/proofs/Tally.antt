@@ -4,7 +4,7 @@ use mathlib.Core.Path.{_≡_, refl, sym, ap, _∙_}
 use mathlib.Core.Logic.{_≢_}
 use mathlib.Core.Bool.{true}
 use mathlib.Core.List.{List, [], _∷_, map}
-use Prim.Native.Nat.{ℕ, _+_, _-_, _<_}
+use Prim.Native.Nat.{ℕ, _+_, _-_, _<_, _≤_}
 use native.Mathlib.Nat.{add-zero, sub-zero}
 use native.Mathlib.Omega.{arith}
 use lib.ListN.{length, getD, set, length-set}
@@ -100,3 +100,14 @@ running-is W (i ∷ is) h =
     by-test (memb i is)
     (λ m. let g = greatest-memb (λ i. getD F i 0) is i m in omega arith)
     (λ m. let t = times-none i is m in omega arith)
+
+-- U differs from W from word b on alone
+pub record Counts (b : ℕ) (W U : List ℕ) : Type 0 where
+  pub size : length U ≡ length W
+  pub front : (i : ℕ) → i < b → getD U i 0 ≡ getD W i 0
+
+pub counts-set : {b : ℕ} {W U : List ℕ} (i x : ℕ) → Counts b W U → b ≤ i → Counts b W (set U i x)
+counts-set {b} {W} {U} i x A h = record {
+  size = length-set U i x ∙ A .size;
+  front = λ j l. getD-set-other U i j x 0 (λ e. omega arith) ∙ A .front j l;
+}

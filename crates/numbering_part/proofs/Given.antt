@@ -21,7 +21,7 @@ use Rattle.levels_laws.specs.Areas.{wordsOf}
 use Rattle.levels_laws.specs.Given.{firstOf}
 use Rattle.levels_laws.specs.Members.{Members}
 use Rattle.levels_laws.specs.Starts.{membersOf}
-use Rattle.levels_laws.proofs.Storing.{member-in}
+use Rattle.levels_laws.proofs.Members.{member-in}
 use Rattle.levels.specs.Part.{PartGiven}
 use Rattle.numbering_sequence.specs.Answer.{Areas, PartAt}
 use Rattle.levels.proofs.OnePart.{members-lent}

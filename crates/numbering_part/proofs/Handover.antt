@@ -30,8 +30,8 @@ use Rattle.levels_laws.specs.Given.{firstOf}
 use Rattle.levels_laws.specs.Members.{Members}
 use Rattle.levels_laws.specs.Seek.{at}
 use Rattle.levels_laws.specs.Starts.{membersOf}
-use Rattle.levels_laws.proofs.Clearing.{run-in, run-before, run-behind}
-use Rattle.levels_laws.proofs.Stores.{length-written, written-at}
+use Rattle.levels_laws.proofs.Blank.{run-in, run-before, run-behind}
+use Rattle.levels_laws.proofs.Written.{length-written, written-at}
 use Rattle.levels.specs.Part.{PartGiven}
 use Rattle.numbering_part.specs.Part.{orderAt, numberFrom, numbered, renewed, Numberable}
 use Rattle.numbering_part.proofs.Given.{room, z-node, m-part, m-range, part-size, same-members, members-at, front, sixth}

@@ -7,11 +7,12 @@ use lib.ListN.{length, getD, set}
 use Rattle.basis.specs.Stored.{nought}
 use Rattle.basis.proofs.Stored.{stored-other}
 use Rattle.levels_laws.specs.Model.{numberAt, written}
-use Rattle.levels_laws.proofs.Counting.{from-none}
+use Rattle.levels_laws.proofs.Runs.{from-none}
 use Rattle.levels_laws.specs.Members.{Members}
 use Rattle.levels_laws.specs.Starts.{membersOf}
-use Rattle.levels_laws.proofs.Storing.{Storing, store-behind, store-step, member-range, next-members, z-word}
-use Rattle.levels_laws.proofs.Stores.{length-written, written-append}
+use Rattle.levels_laws.proofs.Members.{member-range, next-members}
+use Rattle.levels_laws.proofs.StoreEach.{Storing, store-behind, store-step, z-word}
+use Rattle.levels_laws.proofs.Written.{length-written, written-append}
 
 -- at the loop's head: the members before i have their levels in Y, and their words in U are 0
 pub record Handing (n from to : ℕ) (W L U Y : List ℕ) (i : ℕ) : Type 0 where

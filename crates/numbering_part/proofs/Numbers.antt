@@ -12,7 +12,7 @@ use Rattle.basis.proofs.Lists.{length-upFrom}
 use Rattle.basis.proofs.Next.{sets-behind}
 use Rattle.basis.proofs.Puts.{puts-none, puts-step, length-puts}
 use Rattle.spec.specs.Graph.{ofNode}
-use Rattle.levels_laws.proofs.Clearing.{Blanking, blank-begin, blank-step, blank-size, blank-done}
+use Rattle.levels_laws.proofs.Blank.{Blanking, blank-begin, blank-step, blank-size, blank-done}
 use Rattle.basis.proofs.ByNumber.{wordOf, numberPuts, number-all}
 use Rattle.numbering_part.specs.Part.{orderAt, numberFrom, numbered, Numberable}
 

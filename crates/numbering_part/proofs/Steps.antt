@@ -20,7 +20,7 @@ use Rattle.laws.proofs.Legal.{ofNode-at}
 use Rattle.laws.proofs.Named.{part-width}
 use Rattle.levels_laws.specs.Areas.{wordsOf}
 use Rattle.levels_laws.specs.Given.{firstOf, merged}
-use Rattle.levels_laws.proofs.Finish.{merged-alone}
+use Rattle.levels_laws.proofs.GivenEntry.{merged-alone}
 use Rattle.levels.specs.Part.{PartGiven, partLevelsOf}
 use Rattle.levels.specs.declared.shape.PartLevels.{PartLevels}
 use Rattle.numbering_sequence.specs.Answer.{Sequenceable}

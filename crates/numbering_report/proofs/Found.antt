@@ -17,7 +17,7 @@ use Rattle.laws.proofs.Parts.{part-most}
 use Rattle.laws.proofs.Refused.{passed, starts-of, not-refused}
 use Rattle.levels_laws.specs.Areas.{wordsOf}
 use Rattle.levels_laws.specs.Given.{firstOf, endsOf, merged}
-use Rattle.levels_laws.proofs.Clearing.{zeroed-length}
+use Rattle.levels_laws.proofs.Blank.{zeroed-length}
 use Rattle.levels.specs.Part.{PartGiven, partLevelsOf}
 use Rattle.levels.specs.declared.shape.PartLevels.{PartLevels}
 use Rattle.levels.proofs.Alone.{part-ask, part-figures, part-words, room-again, ends-are}

@@ -21,7 +21,7 @@ use Rattle.laws.proofs.Lent.{zeroed-behind}
 use Rattle.laws.proofs.Results.{all-numbering, all-bandwidth-is, all-profile-is, all-front-is}
 use Rattle.graph.specs.Facts.{LegalLists}
 use Rattle.levels.proofs.Scratch.{zero-front, behind-front, zeroed-again}
-use Rattle.levels_laws.proofs.Clearing.{zeroed-length}
+use Rattle.levels_laws.proofs.Blank.{zeroed-length}
 use Rattle.numbering_measures.specs.Answer.{three}
 use Rattle.numbering_measures.specs.declared.answer.Measures.{Measures}
 use Rattle.numbering_whole.specs.Orders.{resultOf, wholeIn}

@@ -1,7 +1,7 @@
 -- `levels_combine::legal::blank` meets its contract. Assumes nothing.
 use Prim.Native.Nat.{_-_}
 use native.Mathlib.Omega.{arith}
-use Rattle.levels_laws.proofs.Clearing.{Blanking, blank-begin, blank-step, blank-size, blank-done}
+use Rattle.levels_laws.proofs.Blank.{Blanking, blank-begin, blank-step, blank-size, blank-done}
 use Rattle.levels_combine.proofs.legal.blank.Statement.{statement}
 use Rattle.levels_combine.proofs.legal.blank.Tie as tie
 

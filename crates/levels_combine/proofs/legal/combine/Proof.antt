@@ -15,7 +15,7 @@ use Rattle.levels_laws.specs.Areas.{wordsOf, workOf}
 use Rattle.levels_laws.specs.Model.{countOf}
 use Rattle.levels_laws.specs.Given.{endsOf}
 use Rattle.levels_laws.specs.Members.{Clearable}
-use Rattle.levels_laws.proofs.Whole.{blank-in, level-room, level-ok, depth-ok, narrow-ok, tidy-room, widest-ok, width-ok, width-most, tidy-ok, move-ok, combined-is}
+use Rattle.levels_laws.proofs.Combine.{blank-in, level-room, level-ok, depth-ok, narrow-ok, tidy-room, widest-ok, width-ok, width-most, tidy-ok, move-ok, combined-is}
 use Rattle.levels_combine.proofs.legal.combine.Statement.{statement}
 use Rattle.levels_combine.proofs.legal.combine.Tie as tie
 

@@ -5,8 +5,8 @@ use native.Mathlib.Omega.{arith}
 use lib.ListN.{length}
 use borrow.Author.Needs.{needs}
 use Rattle.levels_laws.specs.Model.{numberAt}
-use Rattle.levels_laws.proofs.Moving.{copy-step}
-use Rattle.levels_laws.proofs.Storing.{Storing, store-behind, store-size, z-low, z-high, store-done}
+use Rattle.levels_laws.proofs.MoveLevels.{copy-step}
+use Rattle.levels_laws.proofs.StoreEach.{Storing, store-behind, store-size, z-low, z-high, store-done}
 use Rattle.levels_combine.proofs.legal.copy_levels.Statement.{statement}
 use Rattle.levels_combine.proofs.legal.copy_levels.Tie as tie
 

@@ -11,7 +11,7 @@ use Rattle.basis.specs.Stored.{stored, nought}
 use Rattle.graph_words.specs.Erasable.{Erasable}
 use Rattle.levels_laws.specs.Members.{Members}
 use Rattle.levels_laws.specs.Starts.{membersOf}
-use Rattle.levels_laws.proofs.Storing.{members-listed, member-range}
+use Rattle.levels_laws.proofs.Members.{members-listed, member-range}
 use Rattle.levels_combine.proofs.legal.erase.Statement.{statement}
 use Rattle.levels_combine.proofs.legal.erase.Tie as tie
 

@@ -8,7 +8,7 @@ use lib.ListN.{length}
 use borrow.Author.Needs.{needs}
 use borrow.Author.Tests.{eq-eqb, ne-eqb}
 use Rattle.levels_laws.specs.Members.{settledAt}
-use Rattle.levels_laws.proofs.Storing.{Gathering, gather-begin, gather-size, t-most, gz-low, gz-high, gather-skip, gather-take, gather-done}
+use Rattle.levels_laws.proofs.Gather.{Gathering, gather-begin, gather-size, t-most, gz-low, gz-high, gather-skip, gather-take, gather-done}
 use Rattle.levels_combine.proofs.legal.gather.Statement.{statement}
 use Rattle.levels_combine.proofs.legal.gather.Tie as tie
 

@@ -2,7 +2,7 @@
 use native.Mathlib.Omega.{arith}
 use borrow.Author.Needs.{needs}
 use Rattle.laws.proofs.Refused.{passed, starts-of}
-use Rattle.levels_laws.proofs.Levelling.{mirror-in, gather-in, settle-in, find-in, place-in, level-in}
+use Rattle.levels_laws.proofs.Level.{mirror-in, gather-in, settle-in, find-in, place-in, level-in}
 use Rattle.levels_combine.proofs.legal.level.Statement.{statement}
 use Rattle.levels_combine.proofs.legal.level.Tie as tie
 

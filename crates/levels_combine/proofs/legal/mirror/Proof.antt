@@ -6,7 +6,7 @@ use native.Mathlib.Omega.{arith}
 use lib.ListN.{length, getD}
 use borrow.Author.Needs.{needs}
 use Rattle.levels_laws.specs.Members.{mirroredAt, Mirrorable}
-use Rattle.levels_laws.proofs.Storing.{Storing, store-begin, store-size, z-low, z-high, z-fits, z-word, z-member, store-step, store-done}
+use Rattle.levels_laws.proofs.StoreEach.{Storing, store-begin, store-size, z-low, z-high, z-fits, z-word, z-member, store-step, store-done}
 use Rattle.levels_combine.proofs.legal.mirror.Statement.{statement}
 use Rattle.levels_combine.proofs.legal.mirror.Tie as tie
 

@@ -1,7 +1,7 @@
 -- `levels_combine::legal::move_levels` meets its contract. Assumes nothing.
 use native.Mathlib.Omega.{arith}
 use borrow.Author.Needs.{needs}
-use Rattle.levels_laws.proofs.Moving.{erase-in, moved}
+use Rattle.levels_laws.proofs.MoveLevels.{erase-in, moved}
 use Rattle.levels_combine.proofs.legal.move_levels.Statement.{statement}
 use Rattle.levels_combine.proofs.legal.move_levels.Tie as tie
 

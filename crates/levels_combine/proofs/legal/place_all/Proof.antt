@@ -6,7 +6,7 @@ use lib.ListN.{length, getD}
 use borrow.Author.Needs.{needs}
 use Rattle.levels_laws.specs.Areas.{workOf, heldOf}
 use Rattle.levels_laws.proofs.Areas.{list-read, work-room, view-size}
-use Rattle.levels_laws.proofs.PlaceLoop.{PlacingAll, place-begin, now-stands, now-placeable, end-fits, place-step, place-done}
+use Rattle.levels_laws.proofs.PlaceAll.{PlacingAll, place-begin, now-stands, now-placeable, end-fits, place-step, place-done}
 use Rattle.levels_combine.proofs.legal.place_all.Statement.{statement}
 use Rattle.levels_combine.proofs.legal.place_all.Tie as tie
 

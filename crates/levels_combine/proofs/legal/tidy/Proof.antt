@@ -1,7 +1,7 @@
 -- `levels_combine::legal::tidy` meets its contract. Assumes nothing.
 use native.Mathlib.Omega.{arith}
 use borrow.Author.Needs.{needs}
-use Rattle.levels_laws.proofs.Tidying.{erase-first, erase-second, blank-first, blank-second, blank-third, tidied-in}
+use Rattle.levels_laws.proofs.Tidy.{erase-first, erase-second, blank-first, blank-second, blank-third, tidied-in}
 use Rattle.levels_combine.proofs.legal.tidy.Statement.{statement}
 use Rattle.levels_combine.proofs.legal.tidy.Tie as tie
 

@@ -11,8 +11,9 @@ use Rattle.laws.proofs.Refused.{passed, starts-of, not-refused}
 use Rattle.levels_laws.specs.Areas.{workOf, heldOf}
 use Rattle.levels_laws.proofs.Areas.{member-read, view-room, view-size}
 use Rattle.levels_laws.specs.Seek.{freshAt}
-use Rattle.levels_laws.proofs.Taking.{Finding, finding-begin, z-node, shut-now, finding-skip, finding-take}
-use Rattle.levels_laws.proofs.Done.{finding-done}
+use Rattle.levels_laws.proofs.Discover.{Finding, finding-begin, shut-now}
+use Rattle.levels_laws.proofs.DiscoverStep.{z-node, finding-skip, finding-take}
+use Rattle.levels_laws.proofs.Found.{finding-done}
 use Rattle.levels_pieces.proofs.legal.discover.Statement.{statement}
 use Rattle.levels_pieces.proofs.legal.discover.Tie as tie
 

@@ -4,7 +4,7 @@ use borrow.Author.Needs.{needs}
 use Rattle.spec.specs.Graph.{sizeOf}
 use Rattle.laws.proofs.Refused.{passed, starts-of}
 use Rattle.levels_laws.specs.Areas.{heldOf}
-use Rattle.levels_laws.proofs.Done.{sortable, found-with}
+use Rattle.levels_laws.proofs.Found.{sortable, found-with}
 use Rattle.levels_pieces.proofs.legal.find.Statement.{statement}
 use Rattle.levels_pieces.proofs.legal.find.Tie as tie
 

@@ -6,7 +6,7 @@ use lib.ListN.{getD}
 use lib.Dec.{eqb}
 use borrow.Author.Tests.{eq-eqb, ne-eqb}
 use borrow.Author.Needs.{needs}
-use Rattle.levels_laws.proofs.Slices.{fresh-is}
+use Rattle.levels_laws.proofs.Visit.{fresh-is}
 use Rattle.levels_pieces.proofs.legal.fresh.Statement.{statement}
 use Rattle.levels_pieces.proofs.legal.fresh.Tie as tie
 

@@ -11,8 +11,7 @@ use Rattle.laws.proofs.Refused.{passed, starts-of, not-refused}
 use Rattle.levels_laws.specs.Areas.{workOf, heldOf}
 use Rattle.levels_laws.proofs.Areas.{view-room}
 use Rattle.levels_laws.specs.Seek.{Nodes}
-use Rattle.levels_laws.proofs.Growing.{Growable, Spreading, row-nodes, seed-fits, t-most, next-node, spread-step}
-use Rattle.levels_laws.proofs.Slices.{spread-begin-in, spread-same, spread-room, spread-read, spread-done-in}
+use Rattle.levels_laws.proofs.Grow.{Growable, Spreading, row-nodes, seed-fits, t-most, next-node, spread-step, spread-begin-in, spread-same, spread-room, spread-read, spread-done-in}
 use Rattle.levels_pieces.proofs.legal.grow.Statement.{statement}
 use Rattle.levels_pieces.proofs.legal.grow.Tie as tie
 

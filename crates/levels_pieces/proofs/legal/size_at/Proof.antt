@@ -1,7 +1,7 @@
 -- `levels_pieces::legal::size_at` meets its contract. Assumes nothing.
 use native.Mathlib.Omega.{arith}
 use borrow.Author.Needs.{needs}
-use Rattle.levels_laws.proofs.Slices.{size-room, w-low, w-high, size-is}
+use Rattle.levels_laws.proofs.Lines.{size-room, w-low, w-high, size-is}
 use Rattle.levels_pieces.proofs.legal.size_at.Statement.{statement}
 use Rattle.levels_pieces.proofs.legal.size_at.Tie as tie
 

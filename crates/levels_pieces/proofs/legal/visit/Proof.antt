@@ -9,8 +9,7 @@ use lib.ListN.{length, getD, set, length-set}
 use borrow.Author.Needs.{needs}
 use Rattle.levels_laws.specs.Areas.{workOf, heldOf}
 use Rattle.levels_laws.specs.Seek.{freshAt}
-use Rattle.levels_laws.proofs.Seeking.{Visiting, visit-begin, v-low, v-high, visit-old, t-in, visit-done}
-use Rattle.levels_laws.proofs.Slices.{visit-room, visit-same, visit-new-in}
+use Rattle.levels_laws.proofs.Visit.{Visiting, visit-begin, v-low, v-high, visit-old, t-in, visit-done, visit-room, visit-same, visit-new-in}
 use Rattle.levels_pieces.proofs.legal.visit.Statement.{statement}
 use Rattle.levels_pieces.proofs.legal.visit.Tie as tie
 

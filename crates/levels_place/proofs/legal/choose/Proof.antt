@@ -3,7 +3,7 @@ use mathlib.Core.Path.{sym, ap, _∙_}
 use mathlib.Core.Bool.{Bool, cond}
 use Prim.Native.Nat.{_*_}
 use borrow.Author.Needs.{needs}
-use Rattle.levels_laws.proofs.Counting.{second-less, second-more, second-even}
+use Rattle.levels_laws.proofs.PlaceOne.{second-less, second-more, second-even}
 use Rattle.levels_place.proofs.legal.choose.Statement.{statement}
 use Rattle.levels_place.proofs.legal.choose.Tie as tie
 

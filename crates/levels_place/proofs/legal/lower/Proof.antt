@@ -2,7 +2,7 @@
 use Prim.Native.Nat.{_-_, _<_}
 use native.Mathlib.Omega.{arith}
 use lib.ListN.{length}
-use Rattle.levels_laws.proofs.Loops.{LoweringIn, lower-begin-in, lower-size, lower-room, lower-read, lower-in, lower-some, lower-step-in, lower-done-in}
+use Rattle.levels_laws.proofs.RaiseLower.{LoweringIn, lower-begin-in, lower-size, lower-room, lower-read, lower-in, lower-some, lower-step-in, lower-done-in}
 use Rattle.levels_place.proofs.legal.lower.Statement.{statement}
 use Rattle.levels_place.proofs.legal.lower.Tie as tie
 

@@ -2,7 +2,7 @@
 use mathlib.Core.Path.{_∙_}
 use native.Mathlib.Omega.{arith}
 use borrow.Author.Needs.{needs}
-use Rattle.levels_laws.proofs.Loops.{lower-ask, lower-back}
+use Rattle.levels_laws.proofs.PlaceOne.{lower-ask, lower-back}
 use Rattle.levels_place.proofs.legal.peak.Statement.{statement}
 use Rattle.levels_place.proofs.legal.peak.Tie as tie
 

@@ -4,7 +4,7 @@ use native.Mathlib.Omega.{arith}
 use lib.ListN.{length}
 use borrow.Author.Needs.{needs}
 use Rattle.levels_laws.proofs.Areas.{view-room}
-use Rattle.levels_laws.proofs.Loops.{second-ask, settle-ask, place-back}
+use Rattle.levels_laws.proofs.PlaceOne.{second-ask, settle-ask, place-back}
 use Rattle.levels_place.proofs.legal.place.Statement.{statement}
 use Rattle.levels_place.proofs.legal.place.Tie as tie
 

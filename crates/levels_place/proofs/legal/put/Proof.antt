@@ -3,8 +3,8 @@ use Prim.Native.Nat.{_-_}
 use native.Mathlib.Omega.{arith}
 use borrow.Author.Needs.{needs}
 use Rattle.levels_laws.specs.Areas.{workOf}
-use Rattle.levels_laws.proofs.Counting.{Located}
-use Rattle.levels_laws.proofs.Loops.{Putting, put-begin, put-at, put-step, put-done}
+use Rattle.levels_laws.proofs.Slots.{Located}
+use Rattle.levels_laws.proofs.PutLevels.{Putting, put-begin, put-at, put-step, put-done}
 use Rattle.levels_place.proofs.legal.put.Statement.{statement}
 use Rattle.levels_place.proofs.legal.put.Tie as tie
 

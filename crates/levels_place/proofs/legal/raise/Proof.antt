@@ -4,7 +4,7 @@ use Prim.Native.Nat.{_-_, _<_, max}
 use native.Mathlib.Omega.{arith}
 use lib.ListN.{length}
 use borrow.Author.Needs.{needs}
-use Rattle.levels_laws.proofs.Loops.{RaisingIn, raise-begin-in, raise-size, raise-room, raise-read, raise-in, raise-fits, raise-step-in, raise-done-in}
+use Rattle.levels_laws.proofs.RaiseLower.{RaisingIn, raise-begin-in, raise-size, raise-room, raise-read, raise-in, raise-fits, raise-step-in, raise-done-in}
 use Rattle.levels_place.proofs.legal.raise.Statement.{statement}
 use Rattle.levels_place.proofs.legal.raise.Tie as tie
 

@@ -2,7 +2,7 @@
 use native.Mathlib.Omega.{arith}
 use borrow.Author.Needs.{needs}
 use Rattle.levels_laws.proofs.Areas.{view-room}
-use Rattle.levels_laws.proofs.Loops.{raise-ask, raise-back}
+use Rattle.levels_laws.proofs.PlaceOne.{raise-ask, raise-back}
 use Rattle.levels_place.proofs.legal.settle.Statement.{statement}
 use Rattle.levels_place.proofs.legal.settle.Tie as tie
 

@@ -5,8 +5,7 @@ use native.Mathlib.Omega.{arith}
 use borrow.Author.Needs.{needs}
 use Rattle.levels_laws.specs.Areas.{workOf}
 use Rattle.levels_laws.specs.Model.{slotAt}
-use Rattle.levels_laws.proofs.Counting.{Located}
-use Rattle.levels_laws.proofs.Loops.{node-located, slot-is}
+use Rattle.levels_laws.proofs.Slots.{Located, node-located, slot-is}
 use Rattle.levels_place.proofs.legal.slot.Statement.{statement}
 use Rattle.levels_place.proofs.legal.slot.Tie as tie
 

@@ -3,7 +3,7 @@ use mathlib.Core.Path.{ap, _∙_}
 use Prim.Native.Nat.{_-_, max}
 use native.Mathlib.Omega.{arith}
 use borrow.Author.Needs.{needs}
-use Rattle.levels_laws.proofs.Loops.{ToppingIn, top-begin-in, top-step-in, top-done-in}
+use Rattle.levels_laws.proofs.Widest.{ToppingIn, top-begin-in, top-step-in, top-done-in}
 use Rattle.levels_place.proofs.legal.widest.Statement.{statement}
 use Rattle.levels_place.proofs.legal.widest.Tie as tie
 

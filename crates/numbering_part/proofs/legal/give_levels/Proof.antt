@@ -3,7 +3,7 @@ use Prim.Native.Nat.{_+_, _-_, _*_, _≤_, _<_}
 use native.Mathlib.Omega.{arith}
 use lib.ListN.{length}
 use borrow.Author.Needs.{needs}
-use Rattle.levels_laws.proofs.Storing.{store-size, z-low, z-high, z-fits, store-done}
+use Rattle.levels_laws.proofs.StoreEach.{store-size, z-low, z-high, z-fits, store-done}
 use Rattle.numbering_part.proofs.Levels.{Handing, handing-begin, levels-size, handing-step, handing-done}
 use Rattle.numbering_part.proofs.legal.give_levels.Statement.{statement}
 use Rattle.numbering_part.proofs.legal.give_levels.Tie as tie

@@ -7,7 +7,7 @@ use lib.ListN.{length}
 use lib.Seq.{length-take-le}
 use Rattle.spec.specs.Graph.{sizeOf}
 use Rattle.spec.specs.Lent.{wordsPerNode}
-use Rattle.levels_laws.proofs.Clearing.{zeroed-length}
+use Rattle.levels_laws.proofs.Blank.{zeroed-length}
 use Rattle.numbering_whole.proofs.Figures.{back-size, last-scratch}
 use Rattle.numbering_whole.proofs.legal.finish.Statement.{statement}
 use Rattle.numbering_whole.proofs.legal.finish.Tie as tie

@@ -24,12 +24,12 @@ use Rattle.laws.proofs.Pieces.{second, place-in}
 use Rattle.laws.proofs.Placing.{peak-nodes, ready-step, ready-counts}
 use Rattle.levels_laws.specs.Tally.{tally}
 use Rattle.levels_laws.specs.Model.{nodeAt, queued, numberAt, countOf, slotOf, slots, peakOf, goesSecond, chosen, Readable, Countable, Placeable}
-use Rattle.levels_laws.proofs.Counting.{slots-inside, counts-tally, tally-front, tally-behind}
-use Rattle.levels_laws.proofs.Tally.{getD-tally}
 use Rattle.levels_laws.specs.Seek.{at}
 use Rattle.levels_laws.specs.Starts.{sizeAt, Standing}
 use Rattle.levels_laws.specs.Placed.{endOf, placedWords, placedLevels, Shallow}
-use Rattle.levels_laws.proofs.Stores.{length-written, written-at}
+use Rattle.levels_laws.proofs.Tally.{getD-tally}
+use Rattle.levels_laws.proofs.Slots.{slots-inside, counts-tally, tally-front, tally-behind}
+use Rattle.levels_laws.proofs.Written.{length-written, written-at}
 
 perm-greatest : (f : ℕ → ℕ) {a b : List ℕ} → Perm a b → greatest (map f a) ≡ greatest (map f b)
 perm-greatest f {a} {b} p =

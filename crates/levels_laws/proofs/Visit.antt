@@ -1,4 +1,4 @@
--- Visiting nodes: what it does to what is fresh and to the room, and the loop over a row. Assumes nothing.
+-- Visiting nodes: what it does to what is fresh and to the room, and the loop over a row, on lists and in one slice. Assumes nothing.
 use mathlib.Core.Path.{_≡_, refl, sym, ap, _∙_}
 use mathlib.Core.Bool.{Bool, true, false, not, _&&_, cond, and-true, and-false}
 use mathlib.Core.List.{List, [], _∷_, _++_, append-nil}
@@ -18,7 +18,9 @@ use Rattle.basis.proofs.Index.{memb-getD}
 use Rattle.basis.proofs.Next.{sets-append, sets-before, sets-behind}
 use Rattle.levels_laws.specs.Model.{written}
 use Rattle.levels_laws.specs.Seek.{at, looseAt, freshAt, one, Seek, Nodes, Pushed}
-use Rattle.levels_laws.proofs.Stores.{length-written, written-append, written-at}
+use Rattle.levels_laws.specs.Areas.{workOf, heldOf}
+use Rattle.levels_laws.proofs.Areas.{front-read, held-read, mark-push, view-room, view-size, halves}
+use Rattle.levels_laws.proofs.Written.{length-written, written-append, written-at}
 
 -- ---- what visiting does
 
@@ -188,3 +190,28 @@ visit-done {n} {row} {W} {L} {tail} {W′} {L′} {t} {k} I h = rw (take-all k r
 
 pub visit-sizes : {n : ℕ} {row W L : List ℕ} {tail : ℕ} {W′ L′ : List ℕ} {t k : ℕ} → Visiting n row W L tail W′ L′ t k → (length W′ ≡ length W) × (length L′ ≡ length L)
 visit-sizes {k = k} I = (words-size (I .ask) (nodes-take k (I .good)) (I .on), levels-size (I .ask) (nodes-take k (I .good)) (I .on))
+
+-- ---- one node
+
+pub fresh-is : (n : ℕ) (X : List ℕ) (v : ℕ) → 6 * n ≤ length X → 1 ≤ v → v ≤ n
+    → not (eqb (getD X (v - 1) 0) (getD X (2 * n + v - 1) 0)) && eqb (getD X (3 * n + v - 1) 0) 0 ≡ freshAt n (workOf n X) (heldOf n X) v
+fresh-is n X v r l h =
+    let a = front-read n X r (v - 1) (omega arith) in
+    let b = front-read n X r (2 * n + v - 1) (omega arith) in
+    let c = held-read n X r v l h in
+    λ i. not (eqb (a i) (b i)) && eqb (c i) 0
+
+-- ---- a row visited
+
+module _ {n : ℕ} {row : List ℕ} {tail : ℕ} (X₀ X : List ℕ) {t k : ℕ} (I : Visiting n row (workOf n X₀) (heldOf n X₀) tail (workOf n X) (heldOf n X) t k) where
+  pub visit-same : length X ≡ length X₀
+  visit-same = view-size n X₀ X (visit-sizes I .0) (visit-sizes I .1)
+
+  pub visit-room : 6 * n ≤ length X
+  visit-room = omega (arith, view-room n X₀ (I .ask .words) (I .ask .levels), visit-same)
+
+  pub visit-new-in : k < length row → {v : ℕ} → v ≡ getD row k 0 → freshAt n (workOf n X) (heldOf n X) v ≡ true → (Y : List ℕ)
+      → Y ≡ set (set X (3 * n + v - 1) 1) (n + t) v → Visiting n row (workOf n X₀) (heldOf n X₀) tail (workOf n Y) (heldOf n Y) (t + 1) (k + 1)
+  visit-new-in h {v} e f Y y =
+      let p = mark-push n X visit-room v 1 (n + t) v (v-low I h e) (v-high I h e) (omega (arith, t-in I h e f)) in
+      halves (λ (u m : List ℕ). Visiting n row (workOf n X₀) (heldOf n X₀) tail u m (t + 1) (k + 1)) (ap (workOf n) y ∙ p .0) (ap (heldOf n) y ∙ p .1) (visit-new I h e f)

@@ -1,4 +1,4 @@
--- Runs of stores, one word for each of some nodes. Assumes nothing.
+-- The levels after some nodes got theirs: which are new, and which as before. Assumes nothing.
 use mathlib.Core.Path.{_≡_, refl, sym, ap, _∙_}
 use mathlib.Core.Logic.{_≢_}
 use mathlib.Core.Bool.{Bool, true, false, cond}

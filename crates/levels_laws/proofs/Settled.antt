@@ -30,15 +30,15 @@ use Rattle.laws.proofs.Levels.{level-most, part-level, part-node, part-same}
 use Rattle.laws.proofs.Parts.{part-rises, part-again}
 use Rattle.levels_laws.specs.Tally.{tally}
 use Rattle.levels_laws.specs.Model.{nodeAt, queued, numberAt, countOf, slotOf, slotAt, slots, written, Readable, Countable}
-use Rattle.levels_laws.proofs.Counting.{slot-low, slot-high, slots-inside, tally-front, tally-behind}
-use Rattle.levels_laws.proofs.Tally.{getD-tally, length-tally}
 use Rattle.levels_laws.specs.Given.{Entry}
 use Rattle.levels_laws.specs.Members.{Members, Mirrorable, settledAt, mirroredAt}
 use Rattle.levels_laws.specs.Seek.{at}
 use Rattle.levels_laws.specs.Starts.{membersOf}
-use Rattle.levels_laws.proofs.Laying.{named-by}
-use Rattle.levels_laws.proofs.Storing.{members-on}
-use Rattle.levels_laws.proofs.Stores.{written-at}
+use Rattle.levels_laws.proofs.Tally.{getD-tally, length-tally}
+use Rattle.levels_laws.proofs.Slots.{slot-low, slot-high, slots-inside, tally-front, tally-behind}
+use Rattle.levels_laws.proofs.Written.{written-at}
+use Rattle.levels_laws.proofs.Members.{members-on}
+use Rattle.levels_laws.proofs.OnePiece.{named-by}
 
 count-settled : (g : Graph) (pr : LevelPairs) (i : ℕ) → countAt (settledLevels g pr) i ≡ countb (λ y. eqb i (cond (settled pr y) (ofNode (pr .firsts) y) 0)) (nodes g)
 unfolding countAt settledLevels

@@ -18,15 +18,14 @@ use Rattle.spec.specs.Graph.{Graph, nodes, restrict}
 use Rattle.spec.specs.Levels.{part, leads}
 use Rattle.laws.proofs.Legal.{node-in, in-nodes, nodes-rise}
 use Rattle.levels_laws.specs.Model.{nodeAt, queued}
-use Rattle.levels_laws.proofs.Counting.{Counts}
 use Rattle.levels_laws.specs.Seek.{looseAt}
 use Rattle.levels_laws.specs.Starts.{startAt, startsOf, sizeAt, membersOf, Standing, Found}
 use Rattle.levels_laws.specs.Sizes.{lineOf, larger, Sortable, InOrder, Discovered}
-use Rattle.levels_laws.proofs.Walking.{same-node-at, same-size-at}
-use Rattle.levels_laws.proofs.Finding.{leadb}
+use Rattle.levels_laws.proofs.Tally.{Counts}
 use Rattle.levels_laws.proofs.Orders.{map-sort, rising-same, rise-alike}
-use Rattle.levels_laws.proofs.Lines.{line-end, line-fits, line-rises}
-use Rattle.levels_laws.proofs.Taking.{Finding, led, start-node, start-size, start-some, loose-few}
+use Rattle.levels_laws.proofs.Lines.{same-node-at, same-size-at, line-end, line-fits, line-rises}
+use Rattle.levels_laws.proofs.Leaders.{leadb}
+use Rattle.levels_laws.proofs.Discover.{Finding, led, start-node, start-size, start-some, loose-few}
 
 module _ {g : Graph} {n from to : ℕ} {W₀ L₀ W L : List ℕ} {tail m i : ℕ} (I : Finding g n from to W₀ L₀ W L tail m i) (d : to ≤ i) where
   abbrev t : ℕ → Bool

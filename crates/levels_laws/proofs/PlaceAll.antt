@@ -8,10 +8,13 @@ use lib.ListN.{length, getD}
 use Rattle.basis.specs.Lists.{upFrom}
 use Rattle.levels_laws.specs.Tally.{tally}
 use Rattle.levels_laws.specs.Model.{nodeAt, queued, slots, numberAt, written, chosen, peakOf, goesSecond, Placeable}
-use Rattle.levels_laws.proofs.Counting.{Counts, counts-tally, tally-front, from-cons, from-none, chosen-countable}
 use Rattle.levels_laws.specs.Starts.{startAt, startsOf, sizeAt, Standing}
 use Rattle.levels_laws.specs.Placed.{endOf, placedWords, placedLevels, wordsAfter, levelsAfter, Shallow, PlaceableAll}
-use Rattle.levels_laws.proofs.Stores.{length-written}
+use Rattle.levels_laws.proofs.Tally.{Counts}
+use Rattle.levels_laws.proofs.Runs.{from-cons, from-none}
+use Rattle.levels_laws.proofs.Slots.{counts-tally, tally-front}
+use Rattle.levels_laws.proofs.PlaceOne.{chosen-countable}
+use Rattle.levels_laws.proofs.Written.{length-written}
 
 chosen-shallow : {n b s t : ℕ} {W : List ℕ} (c : Bool) → Shallow n b s t W → (p : ℕ) → s ≤ p → p < t → numberAt (cond c (2 * n) 0) W (nodeAt n W p) ≤ b
 chosen-shallow true S = S .second

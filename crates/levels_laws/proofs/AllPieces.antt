@@ -17,7 +17,7 @@ use Rattle.laws.specs.Legal.{Node}
 use Rattle.laws.proofs.Pieces.{place-out}
 use Rattle.levels_laws.specs.Seek.{at}
 use Rattle.levels_laws.specs.Placed.{placedWords, placedLevels, wordsAfter, levelsAfter, PlaceableAll}
-use Rattle.levels_laws.proofs.Laying.{Piece, Stand, Laid, can-place, shallow, words-front, words-behind, words-length, levels-length, level-in, level-out, laid-next, piece-on}
+use Rattle.levels_laws.proofs.OnePiece.{Piece, Stand, Laid, can-place, shallow, words-front, words-behind, words-length, levels-length, level-in, level-out, laid-next, piece-on}
 
 -- what holds once the pieces ps, that start at os, are placed, at levels up to b
 pub record After (g : Graph) (e : Ends) (pr : LevelPairs) (n b : ℕ) (narrow : Bool) (os : List ℕ) (ps : List (List ℕ)) (W L placed : List ℕ) : Type 0 where

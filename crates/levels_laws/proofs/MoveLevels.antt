@@ -13,10 +13,11 @@ use Rattle.basis.proofs.Logic.{by-test, lt-or-le}
 use Rattle.basis.proofs.Stored.{length-stored, stored-at, stored-other}
 use Rattle.levels_laws.specs.Areas.{swapped}
 use Rattle.levels_laws.specs.Model.{numberAt}
-use Rattle.levels_laws.proofs.Areas.{length-swapped, front-at, list-at, member-at, level-at, rest-at}
 use Rattle.levels_laws.specs.Members.{Members, Movable}
 use Rattle.levels_laws.specs.Starts.{membersOf}
-use Rattle.levels_laws.proofs.Storing.{Storing, member-range, members-same, members-on, z-low, z-high, store-step}
+use Rattle.levels_laws.proofs.Areas.{length-swapped, front-at, list-at, member-at, level-at, rest-at}
+use Rattle.levels_laws.proofs.Members.{member-range, members-same, members-on}
+use Rattle.levels_laws.proofs.StoreEach.{Storing, z-low, z-high, store-step}
 
 -- ---- the loop that copies them
 

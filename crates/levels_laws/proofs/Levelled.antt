@@ -1,39 +1,35 @@
 -- The combined levels and their counts stand in the words and the levels, and what is asked before the words are cleared. Assumes nothing.
-use mathlib.Core.Path.{_≡_, refl, sym, ap, _∙_}
+use mathlib.Core.Path.{_≡_, sym, ap, _∙_}
 use mathlib.Core.Bool.{Bool, true, false, cond}
 use mathlib.Core.List.{List, map}
 use Prim.Native.Nat.{ℕ, zero, suc, _+_, _-_, _*_, _≤_, _<_}
 use native.Mathlib.Omega.{arith}
-use lib.ListN.{length, getD, length-map, take, replicate, length-replicate, getD-replicate}
-use lib.Seq.{getD-take, getD-drop}
-use lib.Dec.{ltb}
+use lib.ListN.{length, getD, length-map}
+use lib.Dec.{ltb, eqb}
 use Rattle.basis.specs.Lists.{anyb, memb, upFrom, greatest}
 use Rattle.basis.proofs.Count.{length-filter, count-length}
 use Rattle.basis.proofs.Lists.{none-any, map-cong, upFrom-in, length-upFrom}
 use Rattle.basis.proofs.Logic.{by-test, clash, fails}
 use Rattle.basis.proofs.Next.{sets-behind}
+use Rattle.basis.proofs.Index.{greatest-le}
 use Rattle.spec.specs.Combined.{LevelPairs, levelPairs, settled, settledLevels, pieces, countAt, combined, widthOf}
-use Rattle.spec.specs.Ends.{Ends, ends, depthAt}
+use Rattle.spec.specs.Ends.{Ends}
 use Rattle.spec.specs.Graph.{Graph, nodes, ofNode}
-use Rattle.spec.specs.Levels.{levels, levelList, part}
-use Rattle.laws.specs.Legal.{Node, LegalGraph}
-use Rattle.laws.specs.Structure.{EndsOf}
+use Rattle.spec.specs.Levels.{part}
+use Rattle.laws.specs.Legal.{Node}
 use Rattle.laws.proofs.Combined.{combined-of}
-use Rattle.laws.proofs.Ends.{ends-of}
 use Rattle.laws.proofs.Legal.{ofNode-map, by-node, length-nodes}
-use Rattle.laws.proofs.Levels.{levelList-at, depth-most}
-use Rattle.laws.proofs.Parts.{part-inside}
 use Rattle.laws.proofs.Pieces.{settled-apart, some-piece}
 use Rattle.levels_laws.specs.Model.{countOf}
-use Rattle.levels_laws.specs.Given.{Entry, Levelled, Given, firstOf, endsOf, merged}
+use Rattle.levels_laws.specs.Given.{Entry, Levelled, merged}
 use Rattle.levels_laws.specs.Members.{Clearable, settledAt}
 use Rattle.levels_laws.specs.Placed.{wordsAfter, levelsAfter}
 use Rattle.levels_laws.specs.Seek.{at, looseAt}
 use Rattle.levels_laws.specs.Starts.{startsOf, membersOf, Found}
-use Rattle.levels_laws.proofs.Begin.{W₁, W₃, L₃, Z, part-is-node, x-out, y-out, z-in, z-make, same-members, members-at, three-size, three-behind, three-front, three-first, three-second, level-three, one-low, one-high, two-high}
-use Rattle.levels_laws.proofs.Folding.{After}
-use Rattle.levels_laws.proofs.Start.{settled-out, loose-three, levels-three, after}
-use Rattle.levels_laws.proofs.Storing.{member-in, members-on}
+use Rattle.levels_laws.proofs.Members.{members-on}
+use Rattle.levels_laws.proofs.AllPieces.{After}
+use Rattle.levels_laws.proofs.Settled.{W₁, W₃, L₃, Z, part-is-node, x-out, y-out, z-in, z-make, same-members, members-at, three-size, three-behind, three-front, three-first, three-second, level-three, one-low, one-high, two-high}
+use Rattle.levels_laws.proofs.Pieces.{settled-out, loose-three, levels-three, after}
 
 -- the word of a node, by index
 pub of-node : (xs : List ℕ) (q : ℕ) → 1 ≤ q → ofNode xs q ≡ at xs q
@@ -124,72 +120,9 @@ module _ {g : Graph} {z : ℕ} {e : Ends} {n from to : ℕ} {W L : List ℕ} (A 
         (λ p. K .inside q p ∙ sym (ofNode-map g (λ y. cond (memb y (part g z)) (ofNode (combined g e) y) (ofNode L y)) q N ∙ rw p))
         (λ p. K .outside q N p ∙ sym (of-node L q (N .low)) ∙ sym (ofNode-map g (λ y. cond (memb y (part g z)) (ofNode (combined g e) y) (ofNode L y)) q N ∙ rw p)))
 
--- ---- what is given is an entry, once u's queue is cleared
-
--- what is worked on then, U, and the levels L, from the words W that are given
-pub record Cleared (n : ℕ) (W U L : List ℕ) : Type 0 where
-  pub size : length U ≡ length W
-  pub front : (i : ℕ) → i < 3 * n → getD U i 0 ≡ getD W i 0
-  pub counts : (i : ℕ) → 3 * n ≤ i → i < 4 * n → getD U i 0 ≡ 0
-  pub members : (i : ℕ) → i < n → getD U (4 * n + i) 0 ≡ getD W (4 * n + i) 0
-  pub levels : L ≡ replicate n 0
-
-module _ {g : Graph} {from to k widthV widthU : ℕ} {W L : List ℕ} (G : LegalGraph g) (few : g .size ≤ 4096) (A : Given g from to k widthV widthU W L)
-    {U M : List ℕ} (C : Cleared (g .size) W U M) where
-  abbrev n : ℕ
-  n = g .size
-
-  abbrev e : Ends
-  e = endsOf g from W
-
-  pub first-same : firstOf n from U ≡ firstOf n from W
-  first-same = C .members from (omega (arith, A .order, A .most))
-
-  pub queue-same : (i : ℕ) → n + (to - from) ≤ i → i < 2 * n → getD U i 0 ≡ 0
-  queue-same i l h = C .front i (omega arith) ∙ A .queue-v i l h
-
-  pub entry-of : Entry g (firstOf n from W) e n from to U M
-  unfolding depthAt
-  entry-of =
-      let z : ℕ = firstOf n from W in
-      let m : memb z (part g z) ≡ true = sym (ap (memb z) (A .members)) ∙ member-in n from to W from (omega arith) (A .order) in
-      let N : Node g z = part-inside g z z m in
-      let E = ends-of G N in
-      record {
-        graph = G;
-        node = N;
-        ends = E;
-        is = refl;
-        few = few;
-        words = omega (arith, A .words, C .size);
-        room = omega (arith, ap length (C .levels), length-replicate {A = ℕ} n 0);
-        order = omega (arith, A .order);
-        most = A .most;
-        deep = omega (arith, E .k-depth, depth-most g (e .v));
-        members =
-            map-cong (λ i. getD U (4 * n + i) 0) (λ i. getD W (4 * n + i) 0) (upFrom from (to - from))
-            (λ i x. C .members i (omega (arith, A .order, A .most, upFrom-in from (to - from) i x .1))) ∙ A .members;
-        firsts = λ y Q.
-            C .front (y - 1) (omega (arith, Q .low, Q .high)) ∙ sym (getD-take n W (y - 1) 0 (omega (arith, Q .low, Q .high))) ∙ ap (λ (l : List ℕ). getD l (y - 1) 0) (A .firsts)
-            ∙ sym (of-node (levelList g (levels g (e .v))) y (Q .low)) ∙ levelList-at g (levels g (e .v)) y Q;
-        seconds = λ y Q.
-            let i : 2 * n + y - 1 ≡ 2 * n + (y - 1) = omega (arith, Q .low) in
-            C .front (2 * n + y - 1) (omega (arith, Q .low, Q .high)) ∙ ap (λ (j : ℕ). getD W j 0) i ∙ sym (getD-take (3 * n) W (2 * n + (y - 1)) 0 (omega (arith, Q .low, Q .high)))
-            ∙ sym (getD-drop (2 * n) (take (3 * n) W) (y - 1) 0) ∙ ap (λ (l : List ℕ). getD l (y - 1) 0) (A .seconds)
-            ∙ sym (of-node (levelList g (levels g (e .u))) y (Q .low)) ∙ levelList-at g (levels g (e .u)) y Q;
-        counts = C .counts;
-        clean = λ q i.
-            let Q = part-inside g z q i in
-            ap (λ (l : List ℕ). at l q) (C .levels) ∙ getD-replicate n (q - 1) 0 0 (omega (arith, Q .low, Q .high));
-      }
-
--- where every other node has 0, the levels are the combined levels
-pub merged-alone : {g : Graph} {z : ℕ} {e : Ends} → LegalGraph g → Node g z → EndsOf g z e → (L : List ℕ)
-    → ((q : ℕ) → Node g q → memb q (part g z) ≡ false → ofNode L q ≡ 0) → merged g z e L ≡ combined g e
-merged-alone {g} {z} {e} G N E L h =
-    let S = combined-of G N E in
-    by-node g (merged g z e L) (combined g e)
-    (length-map (nodes g) (λ q. cond (memb q (part g z)) (ofNode (combined g e) q) (ofNode L q)) ∙ length-nodes g) (S .size)
-    (λ q Q. ofNode-map g (λ y. cond (memb y (part g z)) (ofNode (combined g e) y) (ofNode L y)) q Q ∙ by-test (memb q (part g z))
-    (λ p. rw p)
-    (λ p. rw p (h q Q p ∙ sym (S .outside q Q p))))
+-- the greatest count is at most n
+pub width-few : {g : Graph} {z : ℕ} {e : Ends} {n from to : ℕ} {W L : List ℕ} → Entry g z e n from to W L → widthOf (e .k) (combined g e) ≤ n
+unfolding widthOf countAt
+width-few {g} {z} {e} {n} A =
+    greatest-le (countAt (combined g e)) (upFrom 1 (e .k)) n
+    (λ i m. omega (arith, count-length (eqb i) (combined g e), combined-of (A .graph) (A .node) (A .ends) .size, A .is))

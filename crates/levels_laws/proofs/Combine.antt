@@ -19,27 +19,15 @@ use Rattle.laws.specs.Legal.{LegalGraph}
 use Rattle.laws.proofs.Lent.{zeroed-at}
 use Rattle.levels_laws.specs.Areas.{wordsOf, swapped, workOf, heldOf}
 use Rattle.levels_laws.specs.Model.{countOf}
-use Rattle.levels_laws.proofs.Areas.{
-  length-swapped,
-  level-at,
-  front-read,
-  member-read,
-  count-read,
-  held-read,
-  sets-front,
-  view-size,
-  work-longer,
-  held-longer,
-}
 use Rattle.levels_laws.specs.Given.{Given, Entry, Levelled, firstOf, endsOf, merged}
 use Rattle.levels_laws.specs.Members.{Members, Clearable, Movable}
 use Rattle.levels_laws.specs.Seek.{at}
 use Rattle.levels_laws.specs.Starts.{membersOf}
-use Rattle.levels_laws.proofs.Clearing.{run-in, run-before, run-behind, zeroed-high}
-use Rattle.levels_laws.proofs.Finish.{Cleared, entry-of, first-same, queue-same, clearable, members-kept, width-is, merged-is}
-use Rattle.levels_laws.proofs.Steps.{zeroed-same, width-few}
-use Rattle.levels_laws.proofs.Storing.{members-same, members-on}
-use Rattle.levels_laws.proofs.Views.{members-in, members-seen}
+use Rattle.levels_laws.proofs.Areas.{length-swapped, level-at, front-read, member-read, count-read, held-read, sets-front, view-size, work-longer, held-longer}
+use Rattle.levels_laws.proofs.Members.{members-same, members-on, members-in, members-seen}
+use Rattle.levels_laws.proofs.Levelled.{clearable, members-kept, width-is, merged-is, width-few}
+use Rattle.levels_laws.proofs.GivenEntry.{Cleared, entry-of, first-same, queue-same}
+use Rattle.levels_laws.proofs.Blank.{run-in, run-before, run-behind, zeroed-high, zeroed-same}
 
 module _ {g : Graph} {from to k widthV widthU : ℕ} (X : List ℕ) (G : LegalGraph g) (few : g .size ≤ 4096)
     (A : Given g from to k widthV widthU (wordsOf (g .size) X) (slice (5 * g .size) (6 * g .size) X)) where

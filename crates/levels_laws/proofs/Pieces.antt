@@ -28,11 +28,11 @@ use Rattle.levels_laws.specs.Model.{nodeAt, queued, numberAt}
 use Rattle.levels_laws.specs.Given.{Entry}
 use Rattle.levels_laws.specs.Seek.{looseAt}
 use Rattle.levels_laws.specs.Starts.{startAt, startsOf, sizeAt, membersOf, Findable, Found}
-use Rattle.levels_laws.proofs.Begin.{X, Y, W₂, W₃, L₃, Z, part-is-node, x-is, y-is, x-range, y-range, x-out, y-out, z-in, same-members, three-size, three-behind, three-front, three-first, three-second, three-counts, two-counts, level-three}
-use Rattle.levels_laws.proofs.Finding.{restrict-cong, len-some}
-use Rattle.levels_laws.proofs.Folding.{After, lay-all}
-use Rattle.levels_laws.proofs.Laying.{Piece, Stand, Laid}
-use Rattle.levels_laws.proofs.Stores.{length-written}
+use Rattle.levels_laws.proofs.Written.{length-written}
+use Rattle.levels_laws.proofs.Leaders.{restrict-cong, len-some}
+use Rattle.levels_laws.proofs.OnePiece.{Piece, Stand, Laid}
+use Rattle.levels_laws.proofs.AllPieces.{After, lay-all}
+use Rattle.levels_laws.proofs.Settled.{X, Y, W₂, W₃, L₃, Z, part-is-node, x-is, y-is, x-range, y-range, x-out, y-out, z-in, same-members, three-size, three-behind, three-front, three-first, three-second, three-counts, two-counts, level-three}
 
 all-in : (Q : List ℕ → Type 0) (f : ℕ → List ℕ) (os : List ℕ) → All Q (map f os) → (o : ℕ) → memb o os ≡ true → Q (f o)
 all-in Q f [] a o m = clash m refl
