@@ -2,17 +2,17 @@
 use mathlib.Core.Path.{_≡_, refl, sym, ap, _∙_, subst}
 use mathlib.Core.Logic.{⊎-elim}
 use mathlib.Core.Bool.{Bool, true, false, not, _&&_, _||_, cond}
-use mathlib.Core.List.{List, [], _∷_, _++_, map, append-nil}
+use mathlib.Core.List.{List, [], _∷_, _++_, map}
 use Prim.Native.Nat.{ℕ, _+_, _-_, _*_, _≤_, _<_}
 use native.Mathlib.Omega.{arith}
 use lib.ListN.{length, getD, length-map}
 use lib.Seq.{length-sets, ext-getD}
 use lib.Dec.{eqb, ltb}
 use borrow.Author.Tests.{ne-eqb, eqb-true}
-use Rattle.basis.specs.Lists.{filterb, consIf, anyb, chainb, headOr, memb, upFrom}
+use Rattle.basis.specs.Lists.{filterb, anyb, chainb, headOr, memb, upFrom}
 use Rattle.basis.specs.Perm.{Perm}
 use Rattle.basis.proofs.Index.{getD-map-upFrom}
-use Rattle.basis.proofs.Lists.{memb-here, memb-one, memb-append, filter-in, map-append, map-cong, upFrom-in, length-upFrom, filter-append}
+use Rattle.basis.proofs.Lists.{memb-here, memb-one, memb-append, filter-in, map-append, map-cong, upFrom-in, length-upFrom}
 use Rattle.basis.proofs.Logic.{by-test, clash, fails, and-split, or-split, or-right, eqb-self}
 use Rattle.basis.proofs.Perm.{perm-memb, perm-length}
 use Rattle.basis.proofs.Next.{sets-before, sets-behind, sets-at}
@@ -23,7 +23,7 @@ use Rattle.levels_laws.specs.Model.{nodeAt, queued}
 use Rattle.levels_laws.specs.Seek.{at, looseAt, freshAt, Grown}
 use Rattle.levels_laws.specs.Starts.{sizeAt, membersOf}
 use Rattle.levels_laws.specs.Sizes.{lineOf, lineEnd}
-use Rattle.levels_laws.proofs.Runs.{from-cons, map-split, from-next}
+use Rattle.levels_laws.proofs.Runs.{from-cons, map-split, from-next, filter-yes, filter-no}
 use Rattle.levels_laws.proofs.Orders.{rise-before}
 use Rattle.levels_laws.proofs.Lines.{line-next, end-next, line-cong}
 use Rattle.levels_laws.proofs.Leaders.{len, leadb, covered, one-leader, self-in, len-some, piece-loose, lead-iff}
@@ -56,9 +56,6 @@ module _ {g : Graph} {n from to : ℕ} {W₀ L₀ W L : List ℕ} {tail m i : �
     next-members : membersOf n from (i + 1) W₀ ≡ P ++ (z ∷ [])
     next-members = from-next (λ j. getD W₀ (4 * n + j) 0) from i (I .low) ∙ ap (λ (x : ℕ). P ++ (x ∷ [])) (sym z-is)
 
-    next-led : led g n from (i + 1) W₀ ≡ ws ++ consIf (leadb g t z) z []
-    next-led = ap (filterb (leadb g t)) next-members ∙ filter-append (leadb g t) P (z ∷ [])
-
     pub z-node : Node g z
     z-node = I .ask .nodes z (ap (memb z) members-are ∙ memb-append z P (z ∷ R) ∙ or-right (memb z P) (memb-here z R))
 
@@ -73,7 +70,7 @@ module _ {g : Graph} {n from to : ℕ} {W₀ L₀ W L : List ℕ} {tail m i : �
 
     pub finding-skip : freshAt n W L z ≡ false → Finding g n from to W₀ L₀ W L tail m (i + 1)
     finding-skip f =
-        let k : led g n from (i + 1) W₀ ≡ ws = next-led ∙ ap (λ (b : Bool). ws ++ consIf b z []) (sym fresh-leads ∙ f) ∙ append-nil ws in
+        let k : led g n from (i + 1) W₀ ≡ ws = ap (filterb (leadb g t)) next-members ∙ filter-no (leadb g t) P z (sym fresh-leads ∙ f) in
         record {
           graph = I .graph;
           ask = I .ask;
@@ -106,7 +103,7 @@ module _ {g : Graph} {n from to : ℕ} {W₀ L₀ W L : List ℕ} {tail m i : �
       z-loose = and-split (t z) (leads (restrict g t) z) z-lead .0
 
       next-led-is : led g n from (i + 1) W₀ ≡ ws ++ (z ∷ [])
-      next-led-is = next-led ∙ ap (λ (b : Bool). ws ++ consIf b z []) z-lead
+      next-led-is = ap (filterb (leadb g t)) next-members ∙ filter-yes (leadb g t) P z z-lead
 
       F-perm : Perm F (part (restrict g t) z)
       F-perm = subst (λ (x : Graph). Perm F (part x z)) (graph-same I) (T .perm)

@@ -1,20 +1,20 @@
 -- The loop that gathers the settled members in the queue. Assumes nothing.
 use mathlib.Core.Path.{_≡_, sym, ap, _∙_}
-use mathlib.Core.Bool.{Bool, true, false}
-use mathlib.Core.List.{List, [], _∷_, _++_, append-nil}
+use mathlib.Core.Bool.{true, false}
+use mathlib.Core.List.{List, [], _∷_, _++_}
 use Prim.Native.Nat.{ℕ, _+_, _-_, _*_, _≤_, _<_}
 use native.Mathlib.Nat.{le-refl}
 use native.Mathlib.Omega.{arith}
 use lib.ListN.{length, getD, set, length-append, length-map}
 use lib.Seq.{sets, length-sets}
 use lib.Dec.{eqb}
-use Rattle.basis.specs.Lists.{filterb, consIf, upFrom}
+use Rattle.basis.specs.Lists.{filterb, upFrom}
 use Rattle.basis.proofs.Count.{length-filter, count-length}
-use Rattle.basis.proofs.Lists.{length-upFrom, filter-append}
+use Rattle.basis.proofs.Lists.{length-upFrom}
 use Rattle.basis.proofs.Next.{sets-append, sets-before, sets-behind}
 use Rattle.levels_laws.specs.Starts.{membersOf}
 use Rattle.levels_laws.specs.Members.{Members, settledAt}
-use Rattle.levels_laws.proofs.Runs.{from-none}
+use Rattle.levels_laws.proofs.Runs.{from-none, filter-yes, filter-no}
 use Rattle.levels_laws.proofs.Members.{next-members}
 
 -- ---- the settled members gathered
@@ -60,14 +60,12 @@ module _ {n from to : ℕ} {W U : List ℕ} {t i : ℕ} (I : Gathering n from to
         let b = same-behind (2 * n + z - 1) (omega (arith, gz-low)) in
         λ j. eqb (a j) (b j)
 
-    split : filterb (settledAt n W) (membersOf n from (i + 1) W) ≡ found ++ consIf (settledAt n W z) z []
-    split =
-        ap (filterb (settledAt n W)) (next-members (I .ask) i (I .low) h ∙ ap (λ (y : ℕ). membersOf n from i W ++ (y ∷ [])) (sym gz-is))
-        ∙ filter-append (settledAt n W) (membersOf n from i W) (z ∷ [])
+    next : membersOf n from (i + 1) W ≡ membersOf n from i W ++ (z ∷ [])
+    next = next-members (I .ask) i (I .low) h ∙ ap (λ (y : ℕ). membersOf n from i W ++ (y ∷ [])) (sym gz-is)
 
     pub gather-skip : settledAt n U z ≡ false → Gathering n from to W U t (i + 1)
     gather-skip f =
-        let s : filterb (settledAt n W) (membersOf n from (i + 1) W) ≡ found = split ∙ ap (λ (b : Bool). found ++ consIf b z []) (sym same-test ∙ f) ∙ append-nil found in
+        let s = ap (filterb (settledAt n W)) next ∙ filter-no (settledAt n W) (membersOf n from i W) z (sym same-test ∙ f) in
         record {
           ask = I .ask;
           low = omega (arith, I .low);
@@ -78,7 +76,7 @@ module _ {n from to : ℕ} {W U : List ℕ} {t i : ℕ} (I : Gathering n from to
 
     pub gather-take : settledAt n U z ≡ true → Gathering n from to W (set U (n + t) z) (t + 1) (i + 1)
     gather-take f =
-        let s : filterb (settledAt n W) (membersOf n from (i + 1) W) ≡ found ++ (z ∷ []) = split ∙ ap (λ (b : Bool). found ++ consIf b z []) (sym same-test ∙ f) in
+        let s = ap (filterb (settledAt n W)) next ∙ filter-yes (settledAt n W) (membersOf n from i W) z (sym same-test ∙ f) in
         let a : n + t ≡ n + length found = ap (λ (x : ℕ). n + x) (I .count) in
         record {
           ask = I .ask;

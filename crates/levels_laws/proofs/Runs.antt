@@ -1,11 +1,12 @@
--- Runs of indices from one up to another, and what a function makes of them. Assumes nothing.
+-- Runs of indices from one up to another, what a function makes of them, and those that pass a test. Assumes nothing.
 use mathlib.Core.Path.{_≡_, sym, ap, _∙_}
-use mathlib.Core.List.{List, [], _∷_, map, _++_}
+use mathlib.Core.Bool.{Bool, true, false}
+use mathlib.Core.List.{List, [], _∷_, map, _++_, append-nil}
 use Prim.Native.Nat.{ℕ, suc, _+_, _-_, _≤_, _<_}
 use native.Mathlib.Numerals.{add-one}
 use native.Mathlib.Omega.{arith}
-use Rattle.basis.specs.Lists.{upFrom}
-use Rattle.basis.proofs.Lists.{map-append, upFrom-append}
+use Rattle.basis.specs.Lists.{filterb, consIf, upFrom}
+use Rattle.basis.proofs.Lists.{filter-append, map-append, upFrom-append}
 
 -- a run of indices from p up to t, of which p is the first
 pub from-cons : (f : ℕ → ℕ) (p t : ℕ) → p < t → map f (upFrom p (t - p)) ≡ f p ∷ map f (upFrom (p + 1) (t - (p + 1)))
@@ -29,3 +30,11 @@ pub from-next : (f : ℕ → ℕ) (a i : ℕ) → a ≤ i → map f (upFrom a (i
 from-next f a i l =
     map-split f a i (i + 1) l (omega arith)
     ∙ ap (λ (x : List ℕ). map f (upFrom a (i - a)) ++ x) (from-cons f i (i + 1) (omega arith) ∙ ap (λ (x : List ℕ). f i ∷ x) (from-none f (i + 1) (i + 1) (omega arith)))
+
+-- those that pass a test, with one element more
+module _ (t : ℕ → Bool) (l : List ℕ) (z : ℕ) where
+  pub filter-yes : t z ≡ true → filterb t (l ++ (z ∷ [])) ≡ filterb t l ++ (z ∷ [])
+  filter-yes e = filter-append t l (z ∷ []) ∙ ap (λ (b : Bool). filterb t l ++ consIf b z []) e
+
+  pub filter-no : t z ≡ false → filterb t (l ++ (z ∷ [])) ≡ filterb t l
+  filter-no e = filter-append t l (z ∷ []) ∙ ap (λ (b : Bool). filterb t l ++ consIf b z []) e ∙ append-nil (filterb t l)

@@ -1,7 +1,7 @@
 -- Visiting nodes: what it does to what is fresh and to the room, and the loop over a row, on lists and in one slice. Assumes nothing.
 use mathlib.Core.Path.{_≡_, refl, sym, ap, _∙_}
 use mathlib.Core.Bool.{Bool, true, false, not, _&&_, cond, and-true, and-false}
-use mathlib.Core.List.{List, [], _∷_, _++_, append-nil}
+use mathlib.Core.List.{List, [], _∷_, _++_}
 use Prim.Native.Nat.{ℕ, suc, _+_, _-_, _*_, _≤_, _<_}
 use native.Mathlib.Nat.{add-zero}
 use native.Mathlib.Numerals.{add-one}
@@ -9,10 +9,10 @@ use native.Mathlib.Omega.{arith}
 use lib.ListN.{length, take, drop, getD, set, length-append, take-append-drop}
 use lib.Seq.{sets, length-sets, take-suc, take-all, drop-cons}
 use lib.Dec.{eqb}
-use Rattle.basis.specs.Lists.{bit, filterb, consIf, countb, memb, upFrom}
+use Rattle.basis.specs.Lists.{bit, filterb, countb, memb, upFrom}
 use Rattle.basis.specs.Perm.{times}
 use Rattle.basis.proofs.Count.{bit-one, count-append, length-filter, count-every, count-cong, count-parted, count-sub, filter-once, none-times}
-use Rattle.basis.proofs.Lists.{memb-take, memb-filter, filter-in, upFrom-in, filter-append}
+use Rattle.basis.proofs.Lists.{memb-take, memb-filter, filter-in, upFrom-in}
 use Rattle.basis.proofs.Logic.{by-test, and-make, eqb-self}
 use Rattle.basis.proofs.Index.{memb-getD}
 use Rattle.basis.proofs.Next.{sets-append, sets-before, sets-behind}
@@ -20,6 +20,7 @@ use Rattle.levels_laws.specs.Model.{written}
 use Rattle.levels_laws.specs.Seek.{at, looseAt, freshAt, one, Seek, Nodes, Pushed}
 use Rattle.levels_laws.specs.Areas.{workOf, heldOf}
 use Rattle.levels_laws.proofs.Areas.{front-read, held-read, mark-push, view-room, view-size, halves}
+use Rattle.levels_laws.proofs.Runs.{filter-yes, filter-no}
 use Rattle.levels_laws.proofs.Written.{length-written, written-append, written-at}
 
 -- ---- what visiting does
@@ -142,13 +143,9 @@ module _ {n : ℕ} {row W L : List ℕ} {tail : ℕ} {W′ L′ : List ℕ} {t k
   next : take (k + 1) row ≡ take k row ++ (v ∷ [])
   next = ap (λ (j : ℕ). take j row) (add-one k) ∙ take-suc row k 0 h ∙ ap (λ (x : ℕ). take k row ++ (x ∷ [])) (sym e)
 
-  split : filterb (freshAt n W L) (take (k + 1) row) ≡ filterb (freshAt n W L) (take k row) ++ filterb (freshAt n W L) (v ∷ [])
-  split = ap (filterb (freshAt n W L)) next ∙ filter-append (freshAt n W L) (take k row) (v ∷ [])
-
   pub visit-old : freshAt n W′ L′ v ≡ false → Visiting n row W L tail W′ L′ t (k + 1)
   visit-old f =
-      let none : filterb (freshAt n W L) (v ∷ []) ≡ [] = let f′ = sym same-fresh ∙ f in ap (λ (b : Bool). consIf b v []) f′ in
-      let s : filterb (freshAt n W L) (take (k + 1) row) ≡ filterb (freshAt n W L) (take k row) = split ∙ ap (λ (l : List ℕ). filterb (freshAt n W L) (take k row) ++ l) none ∙ append-nil (filterb (freshAt n W L) (take k row)) in
+      let s = ap (filterb (freshAt n W L)) next ∙ filter-no (freshAt n W L) (take k row) v (sym same-fresh ∙ f) in
       record {
         ask = I .ask;
         good = I .good;
@@ -164,8 +161,7 @@ module _ {n : ℕ} {row W L : List ℕ} {tail : ℕ} {W′ L′ : List ℕ} {t k
   unfolding written
   pushed-new f =
       let xs : List ℕ = filterb (freshAt n W L) (take k row) in
-      let some : filterb (freshAt n W L) (v ∷ []) ≡ v ∷ [] = let f′ = sym same-fresh ∙ f in ap (λ (b : Bool). consIf b v []) f′ in
-      let s : filterb (freshAt n W L) (take (k + 1) row) ≡ xs ++ (v ∷ []) = split ∙ ap (λ (l : List ℕ). xs ++ l) some in
+      let s = ap (filterb (freshAt n W L)) next ∙ filter-yes (freshAt n W L) (take k row) v (sym same-fresh ∙ f) in
       let i : n + t ≡ n + tail + length xs = omega (arith, I .on .end) in
       record {
         end = omega (arith, I .on .end, ap length s, length-append xs (v ∷ []));
