@@ -9,21 +9,28 @@ use Rattle.levels_place.proofs.legal.peak.Tie as tie
 raise-requires : tie.Need-raise-requires
 raise-requires c κs = search needs
 
+-- where the function starts
+abbrev start-of : tie.After-raise → tie.Start
+start-of c = c .before .before .before
+
 lower-requires : tie.Need-lower-requires
 lower-requires c κs =
-    let s = c .before .before .before .before .before .before in
-    let r = c .before .before .before .raise in
-    (omega (arith, r .kept .0, s .pre .0), lower-ask (s .args .scratch .now) (s .pre .1) (r .last .0) (r .ensures .1 .0))
+    let at-raise = c .before .before .before in
+    let start = start-of at-raise in
+    let r = at-raise .raise in
+    (omega (arith, r .kept .0, start .pre .0), lower-ask (start .args .scratch .now) (start .pre .1) (r .last .0) (r .ensures .1 .0))
 
 same-length : tie.Need-same-length
 same-length c = search needs
 
 returns : tie.Need-returns
 returns c =
-    let s = c .before .before .before .before .before .before .before .before .before in
-    let r = c .before .before .before .before .before .before .raise in
-    let l = c .before .before .lower in
-    (r .ensures .0, (lower-back (s .args .scratch .now) (s .pre .1) (r .last .0) (r .ensures .1 .0) (l .last .0) (l .ensures .0), l .ensures .1 ∙ r .ensures .1 .1))
+    let at-lower = c .before .before in
+    let at-raise = at-lower .before .before .before .before in
+    let start = start-of at-raise in
+    let r = at-raise .raise in
+    let l = at-lower .lower in
+    (r .ensures .0, (lower-back (start .args .scratch .now) (start .pre .1) (r .last .0) (r .ensures .1 .0) (l .last .0) (l .ensures .0), l .ensures .1 ∙ r .ensures .1 .1))
 
 pub peak-spec : {M : Type 1} → statement M
 peak-spec = tie.close (tie.spec raise-requires lower-requires same-length returns)
