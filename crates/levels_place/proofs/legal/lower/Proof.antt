@@ -2,7 +2,7 @@
 use Prim.Native.Nat.{_-_, _<_}
 use native.Mathlib.Omega.{arith}
 use lib.ListN.{length}
-use Rattle.levels_laws.proofs.RaiseLower.{LoweringIn, lower-begin-in, lower-size, lower-room, lower-read, lower-in, lower-some, lower-step-in, lower-done-in}
+use Rattle.levels_laws.proofs.RaiseLower.{LoweringIn, pass-size, pass-room, pass-read, pass-in, lower-begin-in, lower-pass, lower-some, lower-step-in, lower-done-in}
 use Rattle.levels_place.proofs.legal.lower.Statement.{statement}
 use Rattle.levels_place.proofs.legal.lower.Tie as tie
 
@@ -13,13 +13,13 @@ abbrev μ-loop : tie.MeasureT-loop
 μ-loop scratch₀ n base s t p₀ scratch p = t - p
 
 in-words : (c : tie.After-slot Inv-loop μ-loop) → c .slot .result < length (c .before .before .before .loop .scratch)
-in-words c = lower-in (c .before .before .before .loop .inv) (c .before .before .loop-test .taken) (c .slot .ensures)
+in-words c = pass-in (lower-pass (c .before .before .before .loop .inv)) (c .before .before .loop-test .taken) (c .slot .ensures)
 
 loop-holds : tie.Need-loop-holds Inv-loop μ-loop
 loop-holds c = let p = c .before .pre in lower-begin-in (p .0) (p .1)
 
 slot-requires : tie.Need-slot-requires Inv-loop μ-loop
-slot-requires c κs = let I = c .before .before .loop .inv in (lower-room I, (lower-read I, (I .on .low, c .before .loop-test .taken)))
+slot-requires c κs = let K = lower-pass (c .before .before .loop .inv) in (pass-room K, (pass-read K, (K .pass .low, c .before .loop-test .taken)))
 
 mul-c : tie.Need-mul-c Inv-loop μ-loop
 mul-c c = omega (arith, in-words c)
@@ -46,7 +46,7 @@ loop-again : tie.Need-loop-again Inv-loop μ-loop
 loop-again c = let a = c .before in lower-step-in (a .before .before .before .loop .inv) (a .before .before .loop-test .taken) (a .slot .ensures)
 
 same-length : tie.Need-same-length Inv-loop μ-loop
-same-length c = lower-size (c .before .loop .inv)
+same-length c = pass-size (lower-pass (c .before .loop .inv))
 
 returns : tie.Need-returns Inv-loop μ-loop
 returns c = lower-done-in (c .before .loop .inv) (c .loop-test .left)

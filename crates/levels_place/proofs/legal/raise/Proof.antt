@@ -4,7 +4,7 @@ use Prim.Native.Nat.{_-_, _<_, max}
 use native.Mathlib.Omega.{arith}
 use lib.ListN.{length}
 use borrow.Author.Needs.{needs}
-use Rattle.levels_laws.proofs.RaiseLower.{RaisingIn, raise-begin-in, raise-size, raise-room, raise-read, raise-in, raise-fits, raise-step-in, raise-done-in}
+use Rattle.levels_laws.proofs.RaiseLower.{RaisingIn, pass-size, pass-room, pass-read, pass-in, raise-begin-in, raise-pass, raise-fits, raise-step-in, raise-done-in}
 use Rattle.levels_place.proofs.legal.raise.Statement.{statement}
 use Rattle.levels_place.proofs.legal.raise.Tie as tie
 
@@ -15,13 +15,13 @@ abbrev μ-loop : tie.MeasureT-loop
 μ-loop scratch₀ n base s t top₀ p₀ scratch top p = t - p
 
 in-words : (c : tie.After-slot Inv-loop μ-loop) → c .slot .result < length (c .before .before .before .loop .scratch)
-in-words c = raise-in (c .before .before .before .loop .inv) (c .before .before .loop-test .taken) (c .slot .ensures)
+in-words c = pass-in (raise-pass (c .before .before .before .loop .inv)) (c .before .before .loop-test .taken) (c .slot .ensures)
 
 loop-holds : tie.Need-loop-holds Inv-loop μ-loop
 loop-holds c = let p = c .before .pre in raise-begin-in (p .0) (p .1)
 
 slot-requires : tie.Need-slot-requires Inv-loop μ-loop
-slot-requires c κs = let I = c .before .before .loop .inv in (raise-room I, (raise-read I, (I .on .low, c .before .loop-test .taken)))
+slot-requires c κs = let K = raise-pass (c .before .before .loop .inv) in (pass-room K, (pass-read K, (K .pass .low, c .before .loop-test .taken)))
 
 mul-c : tie.Need-mul-c Inv-loop μ-loop
 mul-c c = omega (arith, in-words c)
@@ -57,7 +57,7 @@ loop-again c =
     raise-step-in (a .before .before .before .loop .inv) (a .before .before .loop-test .taken) (a .slot .ensures) (c .larger .ensures ∙ ap (max (a .before .before .before .loop .top)) (w .wide .ensures))
 
 same-length : tie.Need-same-length Inv-loop μ-loop
-same-length c = raise-size (c .before .loop .inv)
+same-length c = pass-size (raise-pass (c .before .loop .inv))
 
 returns : tie.Need-returns Inv-loop μ-loop
 returns c = raise-done-in (c .before .loop .inv) (c .loop-test .left)
