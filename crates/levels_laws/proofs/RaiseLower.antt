@@ -1,12 +1,11 @@
 -- The loops that raise and lower the counts of the levels of a piece, in the words and in one slice. Assumes nothing.
 use mathlib.Core.Path.{_≡_, refl, sym, ap, _∙_, subst}
-use mathlib.Core.List.{List, _∷_, map}
+use mathlib.Core.List.{List, _∷_}
 use Prim.Native.Nat.{ℕ, _+_, _-_, _*_, _≤_, _<_, max}
 use native.Mathlib.Nat.{le-refl}
 use native.Mathlib.Omega.{arith}
 use lib.ListN.{length, getD, set}
 use lib.Dec.{eqb}
-use Rattle.basis.specs.Lists.{upFrom}
 use Rattle.basis.specs.Perm.{times}
 use Rattle.basis.proofs.Count.{bit-one, bit-most}
 use Rattle.basis.proofs.Logic.{eqb-self}
@@ -19,10 +18,6 @@ use Rattle.levels_laws.proofs.Areas.{view-size}
 use Rattle.levels_laws.proofs.Slots.{slot-low, slot-high, slots-inside, same-slot, readable-on, slot-in, slot-read, slot-set}
 
 -- ---- what both loops share
-
--- the slots from p up to t
-abbrev pub rest : ℕ → ℕ → ℕ → List ℕ → ℕ → List ℕ
-rest n base t W p = map (slotAt n base W) (upFrom p (t - p))
 
 -- at the head of either loop: it stands at p, and the counts alone have changed
 pub record Passing (n base s t : ℕ) (W U : List ℕ) (p : ℕ) : Type 0 where
@@ -41,8 +36,8 @@ module _ {n base s t : ℕ} {W U : List ℕ} {p at : ℕ} (K : Passing n base s 
   at-in : at < length U
   at-in = omega (arith, at-is, slot-high (K .read) p (K .low) h, K .counts .size, K .read .room)
 
-  rest-is : rest n base t W p ≡ at ∷ rest n base t W (p + 1)
-  rest-is = from-cons (slotAt n base W) p t h ∙ ap (λ (i : ℕ). i ∷ rest n base t W (p + 1)) (sym at-is)
+  rest-is : slots n base p t W ≡ at ∷ slots n base (p + 1) t W
+  rest-is = from-cons (slotAt n base W) p t h ∙ ap (λ (i : ℕ). i ∷ slots n base (p + 1) t W) (sym at-is)
 
   pass-step : (x : ℕ) → Passing n base s t W (set U at x) (p + 1)
   pass-step x = record {
@@ -84,8 +79,8 @@ module _ {n base s t : ℕ} {X Y : List ℕ} {p : ℕ} (K : PassingIn n base s t
 pub record Raising (n base s t : ℕ) (W U : List ℕ) (top p : ℕ) : Type 0 where
   pub pass : Passing n base s t W U p
   pub small : (q : ℕ) → s ≤ q → q < t → getD U (slotAt n base W q) 0 + (t - p) ≤ 65535
-  pub goes : tally U (rest n base t W p) ≡ tally W (rest n base t W s)
-  pub reach : max top (running U (rest n base t W p)) ≡ running W (rest n base t W s)
+  pub goes : tally U (slots n base p t W) ≡ tally W (slots n base s t W)
+  pub reach : max top (running U (slots n base p t W)) ≡ running W (slots n base s t W)
 
 pub raise-begin : {n base s t : ℕ} {W : List ℕ} → Countable n base s t W → Raising n base s t W W 0 s
 raise-begin R = record { pass = pass-begin (R .read); small = R .small; goes = refl; reach = omega arith }
@@ -113,9 +108,9 @@ pub raise-done : {n base s t : ℕ} {W U : List ℕ} {top p : ℕ} → Raising n
 unfolding tally running peakOf
 raise-done {n} {base} {s} {t} {W} {U} {top} {p} I h =
     let e = from-none (slotAt n base W) p t h in
-    let r : running U (rest n base t W p) ≡ 0 = ap (running U) e in
-    let z : top ≡ running W (rest n base t W s) = omega (arith, I .reach) in
-    (z ∙ running-is W (rest n base t W s) (slots-inside (I .pass .read)), sym (ap (tally U) e) ∙ I .goes)
+    let r : running U (slots n base p t W) ≡ 0 = ap (running U) e in
+    let z : top ≡ running W (slots n base s t W) = omega (arith, I .reach) in
+    (z ∙ running-is W (slots n base s t W) (slots-inside (I .pass .read)), sym (ap (tally U) e) ∙ I .goes)
 
 -- in one slice
 pub record RaisingIn (n base s t : ℕ) (X Y : List ℕ) (top p : ℕ) : Type 0 where
@@ -155,8 +150,8 @@ raise-done-in I h = let d = raise-done (I .on) h in (d .0, (d .1, I .held))
 -- at the loop's head: the slots from p on are still to be lowered
 pub record Lowering (n base s t : ℕ) (W U : List ℕ) (p : ℕ) : Type 0 where
   pub pass : Passing n base s t W U p
-  pub holds : (i : ℕ) → times i (rest n base t W p) ≤ getD U i 0
-  pub goes : untally U (rest n base t W p) ≡ untally W (rest n base t W s)
+  pub holds : (i : ℕ) → times i (slots n base p t W) ≤ getD U i 0
+  pub goes : untally U (slots n base p t W) ≡ untally W (slots n base s t W)
 
 pub lower-begin : {n base s t : ℕ} {W : List ℕ} → Full n base s t W → Lowering n base s t W W s
 lower-begin F = record { pass = pass-begin (F .read); holds = F .holds; goes = refl }
