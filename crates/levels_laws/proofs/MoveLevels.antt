@@ -17,7 +17,7 @@ use Rattle.levels_laws.specs.Members.{Members, Movable}
 use Rattle.levels_laws.specs.Starts.{membersOf}
 use Rattle.levels_laws.proofs.Areas.{length-swapped, front-at, list-at, member-at, level-at, rest-at}
 use Rattle.levels_laws.proofs.Members.{member-range, members-same, members-on}
-use Rattle.levels_laws.proofs.StoreEach.{Storing, z-low, z-high, store-step}
+use Rattle.levels_laws.proofs.StoreEach.{Storing, z-low, z-high, store-step, store-other}
 
 -- ---- the loop that copies them
 
@@ -25,10 +25,7 @@ module _ (base : ℕ) {n from to : ℕ} {X Y : List ℕ} {i : ℕ} (front : base
     {z : ℕ} (e : z ≡ getD Y (4 * n + i) 0) where
   -- what is copied is the old word
   copy-word : getD Y (base + z - 1) 0 ≡ numberAt base X z
-  copy-word =
-      ap (λ (U : List ℕ). getD U (base + z - 1) 0) (I .on)
-      ∙ stored-other (5 * n) n (numberAt base X) X (membersOf n from i X) (member-range (I .ask) i (I .most)) (base + z - 1)
-      (λ y l r q. omega (arith, z-low I h e, z-high I h e))
+  copy-word = store-other I (base + z - 1) (λ y l r q. omega (arith, z-low I h e, z-high I h e))
 
   pub copy-step : Storing (5 * n) (numberAt base X) n from to X (set Y (5 * n + z - 1) (getD Y (base + z - 1) 0)) (i + 1)
   copy-step = store-step I h e copy-word

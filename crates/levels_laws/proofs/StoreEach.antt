@@ -50,12 +50,14 @@ module _ {base : ℕ} {f : ℕ → ℕ} {n from to : ℕ} {W U : List ℕ} {i : 
   pub store-size : length U ≡ length W
   store-size = ap length (I .on) ∙ length-stored base f W (membersOf n from i W)
 
+  -- a word that is no node's is as it was
+  pub store-other : (j : ℕ) → ((y : ℕ) → 1 ≤ y → y ≤ n → j ≡ base + y - 1 → ⊥) → getD U j 0 ≡ getD W j 0
+  store-other j out =
+      ap (λ (x : List ℕ). getD x j 0) (I .on) ∙ stored-other base n f W (membersOf n from i W) (member-range (I .ask) i (I .most)) j out
+
   module _ (h : i < to) {z : ℕ} (e : z ≡ getD U (4 * n + i) 0) where
     z-is : z ≡ getD W (4 * n + i) 0
-    z-is =
-        e ∙ ap (λ (x : List ℕ). getD x (4 * n + i) 0) (I .on)
-        ∙ stored-other base n f W (membersOf n from i W) (member-range (I .ask) i (I .most)) (4 * n + i) (λ y l r q.
-        ⊎-elim (λ (a : base + n ≤ 4 * n). omega arith) (λ (a : 5 * n ≤ base). omega (arith, I .ask .most)) (I .apart))
+    z-is = e ∙ store-other (4 * n + i) (λ y l r q. ⊎-elim (λ (a : base + n ≤ 4 * n). omega arith) (λ (a : 5 * n ≤ base). omega (arith, I .ask .most)) (I .apart))
 
     pub z-low : 1 ≤ z
     z-low = omega (arith, z-is, I .ask .low i (I .low) h)

@@ -3,18 +3,18 @@ use mathlib.Core.Path.{ap, _∙_}
 use Prim.Native.Nat.{_-_, max}
 use native.Mathlib.Omega.{arith}
 use borrow.Author.Needs.{needs}
-use Rattle.levels_laws.proofs.Widest.{ToppingIn, top-begin-in, top-step-in, top-done-in}
+use Rattle.levels_laws.proofs.Widest.{Topping, top-begin, top-step, top-done}
 use Rattle.levels_place.proofs.legal.widest.Statement.{statement}
 use Rattle.levels_place.proofs.legal.widest.Tie as tie
 
 abbrev Inv-loop : tie.InvT-loop
-Inv-loop scratch n k top₀ i₀ top i = ToppingIn n k scratch top i
+Inv-loop scratch n k top₀ i₀ top i = Topping n k scratch top i
 
 abbrev μ-loop : tie.MeasureT-loop
 μ-loop scratch n k top₀ i₀ top i = k - i
 
 loop-holds : tie.Need-loop-holds Inv-loop μ-loop
-loop-holds c = let p = c .before .pre in top-begin-in (p .0) (p .1) (p .2)
+loop-holds c = let p = c .before .pre in top-begin (p .0) (p .1) (p .2)
 
 add-i : tie.Need-add-i Inv-loop μ-loop
 add-i c = omega arith
@@ -44,10 +44,10 @@ loop-again : tie.Need-loop-again Inv-loop μ-loop
 loop-again c =
     let w = c .before in
     let l = w .before .before .before in
-    top-step-in (l .loop .inv) (w .before .before .loop-test .taken) (c .larger .ensures ∙ ap (max (l .loop .top)) (w .wide .ensures))
+    top-step (l .loop .inv) (w .before .before .loop-test .taken) (c .larger .ensures ∙ ap (max (l .loop .top)) (w .wide .ensures))
 
 returns : tie.Need-returns Inv-loop μ-loop
-returns c = top-done-in (c .before .loop .inv) (c .loop-test .left)
+returns c = top-done (c .before .loop .inv) (c .loop-test .left)
 
 pub widest-spec : {M : Type 1} → statement M
 widest-spec =
