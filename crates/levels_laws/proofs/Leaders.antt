@@ -58,11 +58,6 @@ module _ {g : Graph} (G : LegalGraph g) (t : ℕ → Bool) where
   legal-left : LegalGraph (restrict g t)
   legal-left = restrict-legal t G
 
-  -- what the lead says
-  head-is : (w : ℕ) → leads (restrict g t) w ≡ true → headOr 0 (part (restrict g t) w) ≡ w
-  unfolding leads
-  head-is w l = eqb-true (headOr 0 (part (restrict g t) w)) w l
-
   lead-listed : (w : ℕ) → Node g w → leads (restrict g t) w ≡ true → memb w (leaders (restrict g t)) ≡ true
   unfolding leaders
   lead-listed w N l = filter-make (leads (restrict g t)) (nodes (restrict g t)) w (in-nodes (restrict g t) w (restrict-node t N)) l

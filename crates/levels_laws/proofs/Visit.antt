@@ -175,12 +175,6 @@ module _ {n : ℕ} {row W L : List ℕ} {tail : ℕ} {W′ L′ : List ℕ} {t k
   pub visit-new : freshAt n W′ L′ v ≡ true → Visiting n row W L tail (set W′ (n + t) v) (set L′ (v - 1) 1) (t + 1) (k + 1)
   visit-new f = record { ask = I .ask; good = I .good; most = omega arith; on = pushed-new f }
 
-  pub visit-words : length W′ ≡ length W
-  visit-words = words-size (I .ask) (nodes-take k (I .good)) (I .on)
-
-  pub visit-levels : length L′ ≡ length L
-  visit-levels = levels-size (I .ask) (nodes-take k (I .good)) (I .on)
-
 pub visit-done : {n : ℕ} {row W L : List ℕ} {tail : ℕ} {W′ L′ : List ℕ} {t k : ℕ} → Visiting n row W L tail W′ L′ t k → length row ≤ k → Pushed n row W L tail W′ L′ t
 visit-done {n} {row} {W} {L} {tail} {W′} {L′} {t} {k} I h = rw (take-all k row h) at (I .on)
 
