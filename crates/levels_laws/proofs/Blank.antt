@@ -1,16 +1,13 @@
 -- A run of words set to 0, and the words of a cleared list. Assumes nothing.
 use mathlib.Core.Path.{_≡_, refl, sym, ap, _∙_}
 use mathlib.Core.Logic.{⊎-elim}
-use mathlib.Core.List.{List, _∷_, map}
-use Prim.Native.Nat.{ℕ, zero, suc, _+_, _-_, _≤_, _<_}
+use mathlib.Core.List.{List, [], _∷_}
+use Prim.Native.Nat.{ℕ, _+_, _-_, _≤_, _<_}
 use native.Mathlib.Omega.{arith}
-use lib.ListN.{length, getD, set, drop, replicate, length-replicate, getD-replicate, length-append, length-drop}
-use lib.Seq.{sets, ext-getD, getD-drop}
-use Rattle.basis.specs.Lists.{upFrom}
-use Rattle.basis.specs.Stored.{nought, puts}
+use lib.ListN.{length, getD, set, drop, replicate, length-replicate, getD-replicate, length-append, length-drop, replicate-append-replicate}
+use lib.Seq.{sets, length-sets, ext-getD, getD-drop}
 use Rattle.basis.proofs.Logic.{lt-or-le}
-use Rattle.basis.proofs.Next.{sets-before, sets-behind, sets-at}
-use Rattle.basis.proofs.Puts.{puts-none, puts-step, length-puts, puts-run}
+use Rattle.basis.proofs.Next.{sets-append, sets-before, sets-behind, sets-at}
 use Rattle.spec.specs.Lent.{zeroed}
 use Rattle.laws.proofs.Lent.{zeroed-at, zeroed-is, zeroed-behind}
 
@@ -20,26 +17,25 @@ use Rattle.laws.proofs.Lent.{zeroed-at, zeroed-is, zeroed-behind}
 pub record Blanking (a count : ℕ) (W U : List ℕ) (i : ℕ) : Type 0 where
   pub room : a + count ≤ length W
   pub most : i ≤ count
-  pub on : U ≡ puts (λ j. a + j) nought W i
+  pub on : U ≡ sets W a (replicate i 0)
 
 pub blank-begin : {a count : ℕ} {W : List ℕ} → a + count ≤ length W → Blanking a count W W 0
-blank-begin {a} {count} {W} r = record { room = r; most = omega arith; on = puts-none (λ j. a + j) nought W }
+blank-begin r = record { room = r; most = omega arith; on = refl }
 
-module _ {a count : ℕ} {W U : List ℕ} {i : ℕ} (I : Blanking a count W U i) where
-  pub blank-step : i < count → Blanking a count W (set U (a + i) 0) (i + 1)
-  blank-step h = record { room = I .room; most = omega arith; on = puts-step (λ j. a + j) nought W (I .on) refl refl }
+pub blank-step : {a count : ℕ} {W U : List ℕ} {i : ℕ} → Blanking a count W U i → i < count → Blanking a count W (set U (a + i) 0) (i + 1)
+blank-step {a} {count} {W} {U} {i} I h =
+    let k : a + i ≡ a + length {A = ℕ} (replicate i 0) = ap (λ (x : ℕ). a + x) (sym (length-replicate {A = ℕ} i 0)) in
+    record {
+      room = I .room;
+      most = omega arith;
+      on = (λ j. set (I .on j) (k j) 0) ∙ sym (sets-append W a (replicate i 0) (0 ∷ [])) ∙ ap (sets W a) (replicate-append-replicate i 1 0);
+    }
 
-  pub blank-size : length U ≡ length W
-  blank-size = ap length (I .on) ∙ length-puts (λ j. a + j) nought W i
+pub blank-size : {a count : ℕ} {W U : List ℕ} {i : ℕ} → Blanking a count W U i → length U ≡ length W
+blank-size {a} {count} {W} {U} {i} I = ap length (I .on) ∙ length-sets W a (replicate i 0)
 
-  pub blank-done : count ≤ i → U ≡ sets W a (replicate count 0)
-  blank-done h =
-      let e : i ≡ count = omega (arith, I .most) in
-      I .on ∙ ap (puts (λ j. a + j) nought W) e ∙ puts-run (λ j. a + j) nought W a count (λ j l. refl) ∙ ap (sets W a) (noughts 0 count)
-    where
-      noughts : (s k : ℕ) → map nought (upFrom s k) ≡ replicate k 0
-      noughts s zero = refl
-      noughts s (suc k) = ap (λ (l : List ℕ). 0 ∷ l) (noughts (suc s) k)
+pub blank-done : {a count : ℕ} {W U : List ℕ} {i : ℕ} → Blanking a count W U i → count ≤ i → U ≡ sets W a (replicate count 0)
+blank-done {a} {count} {W} {U} {i} I h = let e : i ≡ count = omega (arith, I .most) in I .on ∙ ap (λ (j : ℕ). sets W a (replicate j 0)) e
 
 -- such a run: 0 inside, as before outside
 pub run-in : (W : List ℕ) (a c i : ℕ) → a + c ≤ length W → a ≤ i → i < a + c → getD (sets W a (replicate c 0)) i 0 ≡ 0
