@@ -49,7 +49,7 @@ extern "C" {
 
 /* The version, that of the file VERSION, as a text and as 10000 a + 100 b + c for a.b.c; CHANGES.md says what each of the three numbers means. */
 #define WAGONEPOCH_VERSION "1.5.4"
-#define WAGONEPOCH_VERSION_NUMBER 10503
+#define WAGONEPOCH_VERSION_NUMBER 10504
 
 /* The most nodes and neighbour entries. */
 #define WAGONEPOCH_NODES 4096
