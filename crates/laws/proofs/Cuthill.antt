@@ -1,10 +1,10 @@
 -- The order of Cuthill and McKee (document 02, A.3): it is the numbering level by level of the levels rooted at v, where nothing is left over;
 -- those levels are a level structure; and before it is turned every node but the first stands behind a neighbour. Assumes nothing.
 use mathlib.Core.Path.{_≡_, refl, sym, ap, _∙_, subst}
-use mathlib.Core.Logic.{_⊎_, ⊎-elim}
+use mathlib.Core.Logic.{⊎-elim}
 use mathlib.Core.Bool.{true, not, _&&_}
 use mathlib.Core.List.{List, [], _∷_, _++_, foldl, reverse, append-nil}
-use Prim.Native.Nat.{ℕ, zero, suc, _+_, _-_, _*_, _≤_, _<_}
+use Prim.Native.Nat.{ℕ, zero, suc, _-_, _≤_, _<_}
 use native.Mathlib.Omega.{arith}
 use lib.ListN.{length, getD}
 use lib.Dec.{eqb}
@@ -16,14 +16,13 @@ use Rattle.basis.proofs.Index.{memb-getD, position-hit, once-index}
 use Rattle.basis.proofs.Lists.{memb-here, memb-append, filter-make}
 use Rattle.basis.proofs.Logic.{which, clash, and-make, or-left, or-right, lt-or-le}
 use Rattle.basis.proofs.Perm.{perm-memb}
-use Rattle.spec.specs.Combined.{widthOf}
 use Rattle.spec.specs.Cuthill.{cuthillMcKee}
 use Rattle.spec.specs.Ends.{Ends, depthAt}
 use Rattle.spec.specs.Graph.{Graph, adjoins, ofNode}
 use Rattle.spec.specs.Levels.{levels, levelOf, levelList, part}
 use Rattle.spec.specs.Numbering.{levelNodes, unnumberedBy, nextWithin, within, fromBefore, laterLevel, forwardOrder}
 use Rattle.laws.specs.Legal.{Node, LegalGraph}
-use Rattle.laws.specs.Order.{Fresh, leftIn, InLevels, no-level, next-level, Spans}
+use Rattle.laws.specs.Order.{Fresh, leftIn, InLevels, no-level, next-level}
 use Rattle.laws.specs.Structure.{EndsOf, LevelStructure}
 use Rattle.laws.proofs.Combined.{out-level}
 use Rattle.laws.proofs.Figures.{length-levelList}
@@ -31,7 +30,7 @@ use Rattle.laws.proofs.Legal.{edge-node}
 use Rattle.laws.proofs.LevelOrder.{fresh-next, first-filled}
 use Rattle.laws.proofs.Levels.{level-most, rooted, occupied, levelList-at, part-node, part-level, level-part, part-same, part-on}
 use Rattle.laws.proofs.Orders.{perm-sortE}
-use Rattle.laws.proofs.PartOrder.{level-in, level-make, level-once, later, apart-next, forward-is, forward-perm, reverse-perm, reverse-span}
+use Rattle.laws.proofs.PartOrder.{level-in, level-make, level-once, in-order, later, forward-is, forward-perm, reverse-perm}
 use Rattle.laws.proofs.Parts.{part-once}
 use Rattle.laws.proofs.Rooted.{near}
 
@@ -199,11 +198,6 @@ module _ {g : Graph} (G : LegalGraph g) {z : ℕ} (Z : Node g z) {e : Ends} (E :
   pub turned-perm : Perm (reverse (cuthillMcKee g (e .v))) (part g z)
   turned-perm = subst (λ (o : List ℕ). Perm (reverse o) (part g z)) (sym same-order) (reverse-perm G Z rooted-structure (E .v-part))
 
-  -- no edge reaches 2 w places or more, turned or not
-  pub turned-span : Spans g (reverse (cuthillMcKee g (e .v))) (2 * widthOf (e .k) (levelList g (levels g (e .v))))
-  turned-span =
-      subst (λ (o : List ℕ). Spans g (reverse o) (2 * widthOf (e .k) (levelList g (levels g (e .v))))) (sym same-order) (reverse-span G Z rooted-structure (E .v-part))
-
   -- a node of a later level stands behind a neighbour of the level before
   pub lower-at : (a : ℕ) → a < length (cuthillMcKee g (e .v)) → 2 ≤ ofNode (levelList g (levels g (e .v))) (getD (cuthillMcKee g (e .v)) a 0)
       → (b : ℕ) × (b < a) × (adjoins g (getD (cuthillMcKee g (e .v)) a 0) (getD (cuthillMcKee g (e .v)) b 0) ≡ true)
@@ -219,8 +213,9 @@ module _ {g : Graph} (G : LegalGraph g) {z : ℕ} (Z : Node g z) {e : Ends} (E :
       let b = position-hit (w .0) o (perm-memb cuthill-perm (w .0) ∙ n) in
       let s : ofNode (levelList g (levels g (e .v))) x ≡ suc (ofNode (levelList g (levels g (e .v))) (getD o (position (w .0) o) 0)) =
       list-at x m ∙ f ∙ ap suc (sym (w .1)) ∙ ap suc (sym (list-at (w .0) n)) ∙ ap (λ (y : ℕ). suc (ofNode (levelList g (levels g (e .v))) y)) (sym (b .1)) in
-      let c = apart-next g (levelList g (levels g (e .v))) cuthill-levels (position (w .0) o) a (b .0) l s in
-      (position (w .0) o, c .0, ap (adjoins g x) (b .1) ∙ G .both (w .0) x (w .2), s)
+      let c : position (w .0) o < a =
+      ⊎-elim (λ k. k) (λ (k : a ≤ position (w .0) o). absurd (omega (arith, in-order g (levelList g (levels g (e .v))) cuthill-levels a (position (w .0) o) k (b .0)))) (lt-or-le (position (w .0) o) a) in
+      (position (w .0) o, c, ap (adjoins g x) (b .1) ∙ G .both (w .0) x (w .2), s)
 
   -- the first is v, and no other node is of the first level
   root-at : (a : ℕ) → a < length (cuthillMcKee g (e .v)) → ofNode (levelList g (levels g (e .v))) (getD (cuthillMcKee g (e .v)) a 0) < 2 → getD (cuthillMcKee g (e .v)) a 0 ≡ e .v

@@ -23,6 +23,7 @@ use Rattle.spec.specs.Levels.{leaders}
 use Rattle.spec.specs.Measures.{firstIn, isNumbering, inOrder, numbersOf, renumbered}
 use Rattle.spec.specs.NoIdle.{lowerNeighbours, NoIdle, Fills, beforeTurning, turnedBack}
 use Rattle.spec.specs.Numbering.{Figures, PartResult, wholeOrder, figuresOf, runOf}
+use Rattle.spec.specs.Unknowns.{ones}
 use Rattle.laws.specs.Legal.{Node, LegalGraph, Closed}
 use Rattle.laws.specs.Results.{AllSound, wholeOf}
 use Rattle.laws.proofs.ByTest.{by-make, inOrder-size, order-legal}
@@ -32,12 +33,12 @@ use Rattle.laws.proofs.CuthillRun.{cuthill-sound, cuthill-numbered, cut
 use Rattle.laws.proofs.Ends.{ends-of}
 use Rattle.laws.proofs.Lent.{outcome-accepted}
 use Rattle.laws.proofs.NoIdle.{lower-make, Covered, lower-covered, no-idle, covered-fills}
-use Rattle.laws.proofs.Numberings.{numbers-reverse}
-use Rattle.laws.proofs.PartOrder.{levels-span}
+use Rattle.laws.proofs.Numberings.{numbers-reverse, renumbered-numbers}
 use Rattle.laws.proofs.PartProfile.{left-first, right-first}
 use Rattle.laws.proofs.Parts.{leaders-in}
 use Rattle.laws.proofs.Refused.{not-refused}
-use Rattle.laws.proofs.Results.{orders, closed-append, order-closed, orders-closed, all-perm, all-once, all-numbering, all-renumbered}
+use Rattle.laws.proofs.Results.{orders, closed-append, order-closed, orders-closed, all-perm, all-once, all-numbering}
+use Rattle.laws.proofs.UnknownOrder.{levels-reach}
 
 -- ---- one part, by its own numbers
 
@@ -103,19 +104,23 @@ module _ (g : Graph) (a b : List ℕ) (once : Once (a ++ b)) (ca : Closed g a) (
 
 -- ---- the whole
 
+-- "one unknown a node"
+abbrev each : Graph → List ℕ
+each g = ones (g .size)
+
 -- what is found of a part, its order not turned: as sound as it is turned
 abbrev unturnedResult : Graph → ℕ → PartResult
-unturnedResult g z = record { levels = cuthillResult g z .levels; order = unturned g z; report = cuthillResult g z .report }
+unturnedResult g z = record { levels = cuthillResult g (each g) z .levels; order = unturned g z; report = cuthillResult g (each g) z .report }
 
-unturned-sound : {g : Graph} → LegalGraph g → AllSound g (unturnedResult g)
+unturned-sound : {g : Graph} → LegalGraph g → AllSound g (each g) (unturnedResult g)
 unfolding cuthillResult cuthillResultBy
 unturned-sound {g} G = record {
   sound = λ z Z.
       let E = ends-of G Z in
-      let turned = cuthill-sound G .sound z Z in
+      let turned = cuthill-sound G (each g) .sound z Z in
       record {
         perm = cuthill-perm G Z E;
-        span = levels-span G Z (rooted-structure G Z E) (cuthill-levels G Z E);
+        reach = levels-reach G (each g) Z (rooted-structure G Z E) (cuthill-levels G Z E);
         v-part = turned .v-part;
         u-part = turned .u-part;
         structure = turned .structure;
@@ -142,7 +147,7 @@ module _ {g : Graph} (G : LegalGraph g) where
       tail : Once (orders (unturnedResult g) zs)
       tail x = omega (arith, o x, count-append (eqb x) (unturned g z) (orders (unturnedResult g) zs))
 
-  before-is : beforeTurning g ≡ wholeOf g (unturnedResult g) .numbers
+  before-is : beforeTurning g ≡ wholeOf g (each g) (unturnedResult g) .numbers
   unfolding beforeTurning runOf wholeOrder
   before-is = ap (λ (ls : List (List ℕ)). numbersOf (g .size) (joinAll ls)) (sym (map-map (λ r. r .order) (unturnedResult g) (leaders g)))
 
@@ -150,9 +155,9 @@ module _ {g : Graph} (G : LegalGraph g) where
   before-numbering = rw before-is (all-numbering G (unturnedResult g) (unturned-sound G))
 
   before-covered : Covered (renumbered g (beforeTurning g))
-  unfolding wholeOrder
+  unfolding runOf wholeOrder
   before-covered =
-      subst Covered (sym (ap (renumbered g) before-is ∙ all-renumbered G (unturnedResult g) (unturned-sound G)))
+      subst Covered (sym (ap (renumbered g) before-is ∙ renumbered-numbers (g .size) (all-perm G (unturnedResult g) (unturned-sound G)) g))
       (orders-covered (leaders g) leader-node (all-once G (unturnedResult g) (unturned-sound G)))
 
 -- THE ORDER OF A.3 BEFORE ITS TURNING leaves no idle place: of every legal adjacency
@@ -169,12 +174,12 @@ alone [] e = absurd (omega arith)
 alone (x ∷ []) e = refl
 alone (x ∷ y ∷ l) e = absurd (omega arith)
 
-module _ {g : Graph} (G : LegalGraph g) (one : length (leaders g) ≡ 1) where
+module _ {g : Graph} (G : LegalGraph g) (cs : List ℕ) (one : length (leaders g) ≡ 1) where
   -- the order of the only part
   abbrev order : List ℕ
   order = unturned g (getD (leaders g) 0 0)
 
-  turned-is : wholeOrder (cuthillResults g) ≡ reverse order
+  turned-is : wholeOrder (cuthillResults g cs) ≡ reverse order
   unfolding wholeOrder cuthillResults cuthillResult cuthillResultBy
   turned-is = rw (alone (leaders g) one) (append-nil (reverse order))
 
@@ -187,26 +192,27 @@ module _ {g : Graph} (G : LegalGraph g) (one : length (leaders g) ≡ 1) where
       subst (λ (o : List ℕ). Perm o (upFrom 1 (g .size))) (ap joinAll (map-map (λ r. r .order) (unturnedResult g) (leaders g)) ∙ unturned-is)
       (all-perm G (unturnedResult g) (unturned-sound G))
 
-  back-is : turnedBack (g .size) (cuthillRun g .numbers) ≡ beforeTurning g
+  back-is : turnedBack (g .size) (cuthillRun g cs .numbers) ≡ beforeTurning g
   unfolding cuthillRun runOf beforeTurning
   back-is =
       ap (λ (o : List ℕ). turnedBack (g .size) (numbersOf (g .size) o)) turned-is
       ∙ numbers-reverse (g .size) order-perm ∙ ap (numbersOf (g .size)) (sym unturned-is)
 
-pub turned-back : (S N X L P W : List ℕ) (F : Figures) → cuthillAnswer S N X L P W ≡ accepted F → F .parts ≡ 1
-    → turnedBack (sizeOf S) (take (sizeOf S) (cuthillNumbers S N X L P W)) ≡ beforeTurning (graphOf S N)
+-- whatever counts the call was handed: the order does not depend on them
+pub turned-back : (S N K X L P W : List ℕ) (F : Figures) → cuthillAnswer S N K X L P W ≡ accepted F → F .parts ≡ 1
+    → turnedBack (sizeOf S) (take (sizeOf S) (cuthillNumbers S N K X L P W)) ≡ beforeTurning (graphOf S N)
 unfolding cuthillAnswer cuthillNumbers cuthillRun cuthillResults runOf figuresOf
-turned-back S N X L P W F e one =
+turned-back S N K X L P W F e one =
     let g : Graph = graphOf S N in
-    let a = outcome-accepted (cuthillRefusal S N X L P W) (cuthillRun g .figures) F e in
-    let legal = cuthill-legal S N X L P W (a .0) in
-    let single : length (leaders g) ≡ 1 = sym (length-map (leaders g) (cuthillResult g)) ∙ ap (λ (f : Figures). f .parts) (a .1) ∙ one in
-    rw (numbers-front (cuthill-numbered S N legal .numbered) (cuthillRefusal S N X L P W) (a .0) X) (back-is (not-refused S N legal) single)
+    let a = outcome-accepted (cuthillRefusal S N K X L P W) (cuthillRun g K .figures) F e in
+    let legal = cuthill-legal S N K X L P W (a .0) in
+    let single : length (leaders g) ≡ 1 = sym (length-map (leaders g) (cuthillResult g K)) ∙ ap (λ (f : Figures). f .parts) (a .1) ∙ one in
+    rw (numbers-front (cuthill-numbered S N K (legal .0) (legal .1) .numbered) (cuthillRefusal S N K X L P W) (a .0) X) (back-is (not-refused S N (legal .0)) K single)
 
 -- so the elimination call leaves no idle place by them
-pub turned-fills : (S N X L P W : List ℕ) (F : Figures) → cuthillAnswer S N X L P W ≡ accepted F → F .parts ≡ 1
-    → Fills S N (turnedBack (sizeOf S) (take (sizeOf S) (cuthillNumbers S N X L P W)))
+pub turned-fills : (S N K X L P W : List ℕ) (F : Figures) → cuthillAnswer S N K X L P W ≡ accepted F → F .parts ≡ 1
+    → Fills S N (turnedBack (sizeOf S) (take (sizeOf S) (cuthillNumbers S N K X L P W)))
 unfolding cuthillAnswer
-turned-fills S N X L P W F e one =
-    let a = outcome-accepted (cuthillRefusal S N X L P W) (cuthillRun (graphOf S N) .figures) F e in
-    rw (turned-back S N X L P W F e one) (cuthill-fills S N (cuthill-legal S N X L P W (a .0)))
+turned-fills S N K X L P W F e one =
+    let a = outcome-accepted (cuthillRefusal S N K X L P W) (cuthillRun (graphOf S N) K .figures) F e in
+    rw (turned-back S N K X L P W F e one) (cuthill-fills S N (cuthill-legal S N K X L P W (a .0) .0))

@@ -22,6 +22,7 @@ use Rattle.spec.specs.Graph.{Graph, adjoins, sizeOf, graphOf, graphRefusal}
 use Rattle.spec.specs.Levels.{part, leaders}
 use Rattle.spec.specs.Measures.{firstIn, isNumbering, renumbered, profile}
 use Rattle.spec.specs.NoIdle.{connected, lowerNeighbours, fullBytes, NoIdle, Fills}
+use Rattle.spec.specs.Unknowns.{ones, renumberedUnknowns}
 use Rattle.spec.specs.Store.{Pair, hasPlace, placedPairs, joined, marks, markCount, markByteCount, markByte, markBytes}
 use Rattle.laws.specs.Legal.{Node, LegalGraph}
 use Rattle.laws.proofs.ByTest.{renumbered-legal}
@@ -33,6 +34,7 @@ use Rattle.laws.proofs.Marks.{marks-length, marks-at}
 use Rattle.laws.proofs.Parts.{leader, leader-leads, leaders-in, leader-unique, leaders-once}
 use Rattle.laws.proofs.Places.{first-nbr, first-hit, place-split, placed-has}
 use Rattle.laws.proofs.Refused.{not-refused}
+use Rattle.laws.proofs.UnknownOnes.{ones-renumbered}
 
 -- ---- the premise, used and shown
 
@@ -174,13 +176,13 @@ full-byte size b = ap sum (map-cong (λ t. getD (replicate size 1) (8 * b + t) 0
 pub covered-full : {h : Graph} → LegalGraph h → Covered h → NoIdle h
 unfolding markCount markBytes markByteCount fullBytes
 covered-full {h} H covered =
-    let ones : marks h ≡ replicate (profile h) 1 = all-marked H covered in
+    let marked : marks h ≡ replicate (profile h) 1 = all-marked H covered in
     record {
       pairs = place-joined H covered;
-      all = ones;
-      bytes = ap (λ (ms : List ℕ). map (markByte ms) (upFrom 0 ((profile h + 7) / 8))) ones
+      all = marked;
+      bytes = ap (λ (ms : List ℕ). map (markByte ms) (upFrom 0 ((profile h + 7) / 8))) marked
           ∙ map-cong (markByte (replicate (profile h) 1)) (λ b. 2 ^ min 8 (profile h - 8 * b) - 1) (upFrom 0 ((profile h + 7) / 8)) (λ b m. full-byte (profile h) b);
-      count = ap sum ones ∙ sum-ones (profile h);
+      count = ap sum marked ∙ sum-ones (profile h);
     }
 
 pub no-idle : {h : Graph} → LegalGraph h → lowerNeighbours h ≡ true → NoIdle h
@@ -193,10 +195,17 @@ module _ (S N X : List ℕ) (legal : graphRefusal S N ≡ 0) (numbering : isNumb
   h = renumbered (graphOf S N) X
 
   abbrev refusal : List ℕ → List ℕ → ℕ
-  refusal C B = eliminationRefusal S N X C B
+  refusal C B = eliminationRefusal S N (ones (sizeOf S)) X C B
 
   H : LegalGraph h
   H = renumbered-legal (not-refused S N legal) X
+
+  -- "one unknown a node": the unknowns are the nodes
+  abbrev big : Graph
+  big = renumberedUnknowns (graphOf S N) (ones (sizeOf S)) X
+
+  one-each : big ≡ h
+  one-each = ones-renumbered (not-refused S N legal) X numbering
 
   pub covered-fills : Covered h → Fills S N X
   unfolding eliminationAnswer eliminationBytes eliminationFigures
@@ -204,9 +213,11 @@ module _ (S N X : List ℕ) (legal : graphRefusal S N ≡ 0) (numbering : isNumb
       let full : NoIdle h = covered-full H covered in
       record {
         numbering = numbering;
-        marked = λ C B e a. ap (λ (f : EliminationFigures). f .marked) (sym (outcome-accepted (refusal C B) (eliminationFigures h) e a .1)) ∙ full .count;
+        marked = λ C B e a.
+            ap (λ (f : EliminationFigures). f .marked) (sym (outcome-accepted (refusal C B) (eliminationFigures big) e a .1)) ∙ ap markCount one-each ∙ full .count;
         bytes = λ C B e a.
-            filled-none (refusal C B) (markBytes h) B (outcome-accepted (refusal C B) (eliminationFigures h) e a .0) ∙ ap (λ (l : List ℕ). overwrite l B) (full .bytes);
+            filled-none (refusal C B) (markBytes big) B (outcome-accepted (refusal C B) (eliminationFigures big) e a .0)
+            ∙ ap (λ (l : List ℕ). overwrite l B) (ap markBytes one-each ∙ full .bytes);
       }
 
   pub fills : lowerNeighbours h ≡ true → Fills S N X

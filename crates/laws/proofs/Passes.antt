@@ -9,7 +9,7 @@ use Rattle.basis.specs.Lists.{joinAll, sum}
 use Rattle.basis.proofs.Count.{length-filter, count-length}
 use Rattle.basis.proofs.Index.{getD-map, getD-right, zeros-at, memb-getD}
 use Rattle.basis.proofs.Lists.{sum-append, sum-zeros}
-use Rattle.spec.specs.File.{figuresLine, nodeLine, listing, output, fileRefusal, fileGraph, programOutput}
+use Rattle.spec.specs.File.{figuresLine, nodeLine, listing, output, fileRefusal, fileGraph, fileCounts, programOutput}
 use Rattle.spec.specs.Graph.{Graph, nodes}
 use Rattle.spec.specs.Levels.{leads, leaders}
 use Rattle.spec.specs.Numbering.{PartResult, partResults, partPasses, runOf, run}
@@ -25,12 +25,12 @@ leaders-most g = omega (arith, length-filter (leads g) (nodes g), count-length (
 
 -- ---- of any results of the parts
 
-module _ (g : Graph) (R : ℕ → PartResult) where
+module _ (g : Graph) (cs : List ℕ) (R : ℕ → PartResult) where
   abbrev rs : List PartResult
   rs = map R (leaders g)
 
   -- the passes of the j-th part
-  one-pass : (j : ℕ) → j < length (leaders g) → getD (wholeOf g R .passes) j 0 ≡ R (getD (leaders g) j 0) .report .passes
+  one-pass : (j : ℕ) → j < length (leaders g) → getD (wholeOf g cs R .passes) j 0 ≡ R (getD (leaders g) j 0) .report .passes
   unfolding runOf partPasses
   one-pass j h =
       List·getD-append (map (λ r. r .report .passes) rs) (replicate (g .size - length rs) 0) 0 j
@@ -39,7 +39,7 @@ module _ (g : Graph) (R : ℕ → PartResult) where
       ∙ ap (λ r. r .report .passes) (getD-map R (leaders g) j 0 (R 0) h)
 
   -- the list has n words
-  pub passes-length : length (wholeOf g R .passes) ≡ g .size
+  pub passes-length : length (wholeOf g cs R .passes) ≡ g .size
   unfolding runOf partPasses
   passes-length =
       omega (
@@ -52,7 +52,7 @@ module _ (g : Graph) (R : ℕ → PartResult) where
       )
 
   -- "zeros after the last part"
-  pub passes-behind : (j : ℕ) → length (leaders g) ≤ j → getD (wholeOf g R .passes) j 0 ≡ 0
+  pub passes-behind : (j : ℕ) → length (leaders g) ≤ j → getD (wholeOf g cs R .passes) j 0 ≡ 0
   unfolding runOf partPasses
   passes-behind j h =
       getD-right 0 (map (λ r. r .report .passes) rs) (replicate (g .size - length rs) 0) j
@@ -60,28 +60,28 @@ module _ (g : Graph) (R : ℕ → PartResult) where
       ∙ zeros-at (g .size - length rs) (j - length (map (λ r. r .report .passes) rs))
 
 -- "For every graph each count is at least 1 and at most its own part's depth", of sound results: of the run and of A.3's call
-pub passes-within : {g : Graph} (R : ℕ → PartResult) → AllSound g R → (j : ℕ) → j < length (leaders g)
-    → (1 ≤ getD (wholeOf g R .passes) j 0) × (getD (wholeOf g R .passes) j 0 ≤ R (getD (leaders g) j 0) .report .k)
-passes-within {g} R ok j h =
+pub passes-within : {g : Graph} {cs : List ℕ} (R : ℕ → PartResult) → AllSound g cs R → (j : ℕ) → j < length (leaders g)
+    → (1 ≤ getD (wholeOf g cs R .passes) j 0) × (getD (wholeOf g cs R .passes) j 0 ≤ R (getD (leaders g) j 0) .report .k)
+passes-within {g} {cs} R ok j h =
     let r = ok .sound (getD (leaders g) j 0) (leaders-in g (getD (leaders g) j 0) (memb-getD (leaders g) j h) .0) in
-    (omega (arith, one-pass g R j h, r .some-pass), omega (arith, one-pass g R j h, r .most-passes))
+    (omega (arith, one-pass g cs R j h, r .some-pass), omega (arith, one-pass g cs R j h, r .most-passes))
 
 -- ---- the sum
 
 -- "prints their sum under the old label": the single counter
-pub passes-sum : (g : Graph) → sum (run g .passes) ≡ oneCount g
+pub passes-sum : (g : Graph) (cs : List ℕ) → sum (run g cs .passes) ≡ oneCount g cs
 unfolding run runOf partPasses
-passes-sum g =
-    let ps : List ℕ = map (λ r. r .report .passes) (partResults g) in
-    let zs : List ℕ = replicate (g .size - length (partResults g)) 0 in
-    omega (arith, sum-append ps zs, sum-zeros (g .size - length (partResults g)))
+passes-sum g cs =
+    let ps : List ℕ = map (λ r. r .report .passes) (partResults g cs) in
+    let zs : List ℕ = replicate (g .size - length (partResults g cs)) 0 in
+    omega (arith, sum-append ps zs, sum-zeros (g .size - length (partResults g cs)))
 
 -- so the program prints what it printed, for every file
-same-output : (c : ℕ) (g : Graph) → output c g ≡ outputBefore c g
+same-output : (c : ℕ) (g : Graph) (cs : List ℕ) → output c g cs ≡ outputBefore c g cs
 unfolding output listing
-same-output zero g = ap (λ (k : ℕ). figuresLine (run g .figures) k ++ joinAll (map (nodeLine (run g)) (nodes g))) (passes-sum g)
-same-output (suc c) g = refl
+same-output zero g cs = ap (λ (k : ℕ). figuresLine (run g cs .figures) k ++ joinAll (map (nodeLine (run g cs)) (nodes g))) (passes-sum g cs)
+same-output (suc c) g cs = refl
 
 pub output-unchanged : (file : List ℕ) → programOutput file ≡ programBefore file
 unfolding programOutput
-output-unchanged file = same-output (fileRefusal file) (fileGraph file)
+output-unchanged file = same-output (fileRefusal file) (fileGraph file) (fileCounts file)

@@ -1,31 +1,29 @@
--- Any sound results of the parts, one after another: the numbers are a numbering, the figures are the measures of just these numbers, and the
--- bandwidth is below twice the width. So of the run, and of A.3's call. Assumes nothing.
+-- Any sound results of the parts, one after another: the numbers are a numbering, the figures are the measures of just these numbers in
+-- unknowns, and the bandwidth is below twice the width. So of the run, and of A.3's call. Assumes nothing.
 use mathlib.Core.Path.{_≡_, refl, sym, ap, _∙_, subst}
 use mathlib.Core.Logic.{⊎-elim}
 use mathlib.Core.Bool.{true}
 use mathlib.Core.List.{List, [], _∷_, _++_, map}
-use Prim.Native.Nat.{ℕ, _+_, _-_, _*_, _≤_, _<_}
+use Prim.Native.Nat.{ℕ, _-_, _*_, _≤_}
 use native.Mathlib.Omega.{arith}
-use lib.ListN.{length, getD, List·getD-append, length-append}
 use lib.Dec.{eqb}
 use Rattle.basis.specs.Lists.{joinAll, memb, upFrom, greatest}
 use Rattle.basis.specs.Perm.{Once, Perm}
-use Rattle.basis.proofs.Count.{count-append, memb-times, upFrom-once}
-use Rattle.basis.proofs.Index.{getD-right, memb-getD}
+use Rattle.basis.proofs.Count.{count-append, upFrom-once}
 use Rattle.basis.proofs.Lists.{memb-append, map-map}
-use Rattle.basis.proofs.Logic.{clash, or-split, or-left, or-right, lt-or-le, eqb-self}
+use Rattle.basis.proofs.Logic.{clash, or-split, or-left, or-right, eqb-self}
 use Rattle.basis.proofs.Perm.{perm-memb}
-use Rattle.spec.specs.Graph.{Graph, adjoins}
+use Rattle.spec.specs.Graph.{Graph}
 use Rattle.spec.specs.Levels.{leaders}
-use Rattle.spec.specs.Measures.{isNumbering, inOrder, renumbered, bandwidth, profile, front}
+use Rattle.spec.specs.Measures.{isNumbering, bandwidth, profile, front}
 use Rattle.spec.specs.Numbering.{PartResult, wholeOrder, figuresOf, runOf}
+use Rattle.spec.specs.Unknowns.{orderUnknowns, renumberedUnknowns}
 use Rattle.laws.specs.Legal.{Node, LegalGraph, Closed}
-use Rattle.laws.specs.Order.{Spans}
 use Rattle.laws.specs.Results.{AllSound, wholeOf}
-use Rattle.laws.proofs.Measures.{spans-bandwidth}
-use Rattle.laws.proofs.Numberings.{numbers-numbering, renumbered-numbers}
-use Rattle.laws.proofs.PartOrder.{spans-more}
+use Rattle.laws.specs.Unknowns.{Reaches}
+use Rattle.laws.proofs.Numberings.{numbers-numbering, orderOf-numbersOf}
 use Rattle.laws.proofs.Parts.{leaders-in, part-closed, parts-joined}
+use Rattle.laws.proofs.UnknownOrder.{reaches-more, reaches-append, reaches-bandwidth}
 
 -- ---- orders one after another
 
@@ -40,35 +38,6 @@ closed-append {g} {a} {b} c d = record {
       ∙ ⊎-elim (λ l. or-left _ (c .on x y l e)) (λ r. or-right (memb y a) (d .on x y r e)) (or-split (memb x a) _ (sym (memb-append x a b) ∙ m));
 }
 
--- parts take disjoint ranges, and no edge joins two
-spans-append : {g : Graph} {a b : List ℕ} {d : ℕ} → Spans g a d → Spans g b d → Closed g a → Closed g b → Once (a ++ b) → Spans g (a ++ b) d
-spans-append {g} {a} {b} {d} ca cb ka kb once = record { near = reach }
-  where
-    both : (x : ℕ) → memb x a ≡ true → memb x b ≡ true → ⊥
-    both x m n = omega (arith, once x, count-append (eqb x) a b, memb-times x a m, memb-times x b n)
-
-    reach : (i j : ℕ) → i < length (a ++ b) → j < length (a ++ b) → adjoins g (getD (a ++ b) i 0) (getD (a ++ b) j 0) ≡ true → (i < j + d) × (j < i + d)
-    reach i j h l e =
-        ⊎-elim
-        (λ (s : i < length a).
-        ⊎-elim
-        (λ (t : j < length a). ca .near i j s t (rw (List·getD-append a b 0 i s, List·getD-append a b 0 j t) at e))
-        (λ (t : length a ≤ j).
-        let n : j - length a < length b = omega (arith, length-append a b) in
-        absurd (both _ (ka .on _ _ (memb-getD a i s) (rw (List·getD-append a b 0 i s, getD-right 0 a b j t) at e)) (memb-getD b (j - length a) n)))
-        (lt-or-le j (length a)))
-        (λ (s : length a ≤ i).
-        let m : i - length a < length b = omega (arith, length-append a b) in
-        ⊎-elim
-        (λ (t : j < length a).
-        absurd (both _ (memb-getD a j t) (kb .on _ _ (memb-getD b (i - length a) m) (rw (getD-right 0 a b i s, List·getD-append a b 0 j t) at e))))
-        (λ (t : length a ≤ j).
-        let n : j - length a < length b = omega (arith, length-append a b) in
-        let w = cb .near (i - length a) (j - length a) m n (rw (getD-right 0 a b i s, getD-right 0 a b j t) at e) in
-        (omega arith, omega arith))
-        (lt-or-le j (length a)))
-        (lt-or-le i (length a))
-
 -- ---- the parts one after another
 
 -- the orders of the parts that these nodes lead, one after another
@@ -78,7 +47,7 @@ orders R zs = joinAll (map (λ r. r .order) (map R zs))
 abbrev widest : (ℕ → PartResult) → List ℕ → ℕ
 widest R zs = greatest (map (λ r. r .report .width) (map R zs))
 
-module _ {g : Graph} (G : LegalGraph g) (R : ℕ → PartResult) (ok : AllSound g R) where
+module _ {g : Graph} (G : LegalGraph g) {cs : List ℕ} (R : ℕ → PartResult) (ok : AllSound g cs R) where
   -- no edge leaves the order of a part
   pub order-closed : {z : ℕ} → Node g z → Closed g (R z .order)
   order-closed {z} Z = closed-perm (ok .sound z Z .perm) (part-closed G Z)
@@ -89,12 +58,12 @@ module _ {g : Graph} (G : LegalGraph g) (R : ℕ → PartResult) (ok : AllSound 
   orders-closed (z ∷ zs) h =
       closed-append (order-closed (h z (or-left _ (eqb-self z)))) (orders-closed zs (λ y m. h y (or-right (eqb y z) m)))
 
-  orders-span : (zs : List ℕ) → ((z : ℕ) → memb z zs ≡ true → Node g z) → Once (orders R zs) → Spans g (orders R zs) (2 * widest R zs)
-  orders-span [] h o = record { near = λ a b l k e. absurd (omega arith) }
-  orders-span (z ∷ zs) h o =
+  orders-reach : (zs : List ℕ) → ((z : ℕ) → memb z zs ≡ true → Node g z) → Once (orders R zs) → Reaches g cs (orders R zs) (2 * widest R zs)
+  orders-reach [] h o = record { near = λ a b l k e. absurd (omega arith); own = λ a l. absurd (omega arith) }
+  orders-reach (z ∷ zs) h o =
       let first : Node g z = h z (or-left _ (eqb-self z)) in
       let rest : (y : ℕ) → memb y zs ≡ true → Node g y = λ y m. h y (or-right (eqb y z) m) in
-      spans-append (spans-more (omega arith) (ok .sound z first .span)) (spans-more (omega arith) (orders-span zs rest tail)) (order-closed first) (orders-closed zs rest) o
+      reaches-append (reaches-more (omega arith) (ok .sound z first .reach)) (reaches-more (omega arith) (orders-reach zs rest tail)) (order-closed first) (orders-closed zs rest) o
     where
       tail : Once (orders R zs)
       tail x = omega (arith, o x, count-append (eqb x) (R z .order) (orders R zs))
@@ -118,34 +87,34 @@ module _ {g : Graph} (G : LegalGraph g) (R : ℕ → PartResult) (ok : AllSound 
   all-once x = omega (arith, all-perm .alike x, upFrom-once 1 (g .size) x)
 
   -- in which an edge reaches less than twice the width
-  pub all-span : Spans g (wholeOrder results) (2 * wholeOf g R .figures .width)
+  pub all-reach : Reaches g cs (wholeOrder results) (2 * wholeOf g cs R .figures .width)
   unfolding wholeOrder runOf figuresOf
-  all-span = orders-span (leaders g) leader-node all-once
+  all-reach = orders-reach (leaders g) leader-node all-once
 
   -- the numbers are a numbering
-  pub all-numbering : isNumbering (g .size) (wholeOf g R .numbers) ≡ true
+  pub all-numbering : isNumbering (g .size) (wholeOf g cs R .numbers) ≡ true
   unfolding runOf
   all-numbering = numbers-numbering (g .size) all-perm
 
-  -- the graph by these numbers is the graph that was measured
-  pub all-renumbered : renumbered g (wholeOf g R .numbers) ≡ inOrder g (wholeOrder results)
-  unfolding runOf
-  all-renumbered = renumbered-numbers (g .size) all-perm g
+  -- the unknowns by these numbers are the graph that was measured
+  pub all-renumbered : renumberedUnknowns g cs (wholeOf g cs R .numbers) ≡ orderUnknowns g cs (wholeOrder results)
+  unfolding runOf renumberedUnknowns
+  all-renumbered = ap (orderUnknowns g cs) (orderOf-numbersOf (g .size) all-perm)
 
   -- so that its three measures are those of the measures call
-  pub all-bandwidth-is : wholeOf g R .figures .bandwidth ≡ bandwidth (renumbered g (wholeOf g R .numbers))
+  pub all-bandwidth-is : wholeOf g cs R .figures .bandwidth ≡ bandwidth (renumberedUnknowns g cs (wholeOf g cs R .numbers))
   unfolding runOf figuresOf
   all-bandwidth-is = ap bandwidth (sym all-renumbered)
 
-  pub all-profile-is : wholeOf g R .figures .profile ≡ profile (renumbered g (wholeOf g R .numbers))
+  pub all-profile-is : wholeOf g cs R .figures .profile ≡ profile (renumberedUnknowns g cs (wholeOf g cs R .numbers))
   unfolding runOf figuresOf
   all-profile-is = ap profile (sym all-renumbered)
 
-  pub all-front-is : wholeOf g R .figures .front ≡ front (renumbered g (wholeOf g R .numbers))
+  pub all-front-is : wholeOf g cs R .figures .front ≡ front (renumberedUnknowns g cs (wholeOf g cs R .numbers))
   unfolding runOf figuresOf
   all-front-is = ap front (sym all-renumbered)
 
   -- bandwidth ≤ 2 w − 1
-  pub all-bandwidth : wholeOf g R .figures .bandwidth ≤ 2 * wholeOf g R .figures .width - 1
+  pub all-bandwidth : wholeOf g cs R .figures .bandwidth ≤ 2 * wholeOf g cs R .figures .width - 1
   unfolding runOf figuresOf
-  all-bandwidth = spans-bandwidth all-span
+  all-bandwidth = reaches-bandwidth G all-reach

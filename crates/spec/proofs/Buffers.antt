@@ -1,5 +1,6 @@
 -- What is lent, after a call: a third table by computation, by hand from the table of document 01's "Lent buffers". Every buffer is lent
--- full of 9s, so that a word that the call writes shows, and a word longer than asked for unless it is to be short.
+-- full of 9s, so that a word that the call writes shows, and a word longer than asked for unless it is to be short. Each node has
+-- one unknown; refusal 15 stands in UnknownTable.
 -- Assumes nothing.
 use Prim.Native.Nat.{ℕ}
 use mathlib.Core.Path.{_≡_, refl}
@@ -11,7 +12,7 @@ use Rattle.spec.specs.CallsNumbering.{runAnswer, runNumbers, runLevels, 
 use Rattle.spec.specs.CallsStore.{eliminationAnswer, eliminationScratch, eliminationBytes}
 use Rattle.spec.specs.CallsMesh.{meshAnswer, meshStarts, meshNeighbours, meshScratch}
 use Rattle.spec.proofs.Compute.{computes}
-use Rattle.spec.proofs.Called.{Lists, numberOf}
+use Rattle.spec.proofs.Called.{Lists, numberOf, each}
 
 -- what a call refuses by, 0 where it accepts, and what it leaves in each buffer
 record Left : Type 0 where
@@ -45,24 +46,24 @@ combined l z j k =
     (combinedLevels (l .starts) (l .neighbours) z (lent j) (lent k) ∷ combinedScratch (l .starts) (l .neighbours) z (lent j) (lent k) ∷ [])
 
 report : Lists → ℕ → ℕ → Left
-report l z k = leaves (numberOf (reportAnswer (l .starts) (l .neighbours) z (lent k))) (reportScratch (l .starts) (l .neighbours) z (lent k) ∷ [])
+report l z k = leaves (numberOf (reportAnswer (l .starts) (l .neighbours) (each l) z (lent k))) (reportScratch (l .starts) (l .neighbours) (each l) z (lent k) ∷ [])
 
 wholeRun : Lists → ℕ → ℕ → ℕ → ℕ → Left
 wholeRun l i j p k =
-    leaves (numberOf (runAnswer (l .starts) (l .neighbours) (lent i) (lent j) (lent p) (lent k)))
-    (runNumbers (l .starts) (l .neighbours) (lent i) (lent j) (lent p) (lent k)
-    ∷ runLevels (l .starts) (l .neighbours) (lent i) (lent j) (lent p) (lent k)
-    ∷ runPasses (l .starts) (l .neighbours) (lent i) (lent j) (lent p) (lent k)
-    ∷ runScratch (l .starts) (l .neighbours) (lent i) (lent j) (lent p) (lent k)
+    leaves (numberOf (runAnswer (l .starts) (l .neighbours) (each l) (lent i) (lent j) (lent p) (lent k)))
+    (runNumbers (l .starts) (l .neighbours) (each l) (lent i) (lent j) (lent p) (lent k)
+    ∷ runLevels (l .starts) (l .neighbours) (each l) (lent i) (lent j) (lent p) (lent k)
+    ∷ runPasses (l .starts) (l .neighbours) (each l) (lent i) (lent j) (lent p) (lent k)
+    ∷ runScratch (l .starts) (l .neighbours) (each l) (lent i) (lent j) (lent p) (lent k)
     ∷ [])
 
 measured : Lists → List ℕ → ℕ → Left
-measured l x k = leaves (numberOf (measuresAnswer (l .starts) (l .neighbours) x (lent k))) (measuresScratch (l .starts) (l .neighbours) x (lent k) ∷ [])
+measured l x k = leaves (numberOf (measuresAnswer (l .starts) (l .neighbours) (each l) x (lent k))) (measuresScratch (l .starts) (l .neighbours) (each l) x (lent k) ∷ [])
 
 eliminated : Lists → List ℕ → ℕ → ℕ → Left
 eliminated l x k b =
-    leaves (numberOf (eliminationAnswer (l .starts) (l .neighbours) x (lent k) (lent b)))
-    (eliminationScratch (l .starts) (l .neighbours) x (lent k) (lent b) ∷ eliminationBytes (l .starts) (l .neighbours) x (lent k) (lent b) ∷ [])
+    leaves (numberOf (eliminationAnswer (l .starts) (l .neighbours) (each l) x (lent k) (lent b)))
+    (eliminationScratch (l .starts) (l .neighbours) (each l) x (lent k) (lent b) ∷ eliminationBytes (l .starts) (l .neighbours) (each l) x (lent k) (lent b) ∷ [])
 
 -- the first four of the neighbours stand for all
 meshed : ℕ → List ℕ → ℕ → ℕ → ℕ → Left

@@ -1,5 +1,5 @@
--- A.3's call (document 02) on small graphs: a table by computation, by hand from the paper's step B and step D. Every buffer is lent full of
--- 9s, so that a word that the call writes shows. Assumes nothing.
+-- A.3's call (document 02) on small graphs: a table by computation, by hand from the paper's step B and step D. One unknown each; every
+-- buffer is lent full of 9s, so that a word that the call writes shows. Assumes nothing.
 use Prim.Native.Nat.{ℕ, _*_}
 use mathlib.Core.Path.{_≡_, refl}
 use mathlib.Core.List.{List, [], _∷_, _++_}
@@ -10,7 +10,7 @@ use Rattle.spec.specs.CallsStore.{EliminationFigures, RunElimination}
 use Rattle.spec.specs.Lent.{Outcome, accepted, refused}
 use Rattle.spec.specs.Numbering.{Figures}
 use Rattle.spec.proofs.Compute.{computes}
-use Rattle.spec.proofs.Called.{Lists, seven}
+use Rattle.spec.proofs.Called.{Lists, each, seven}
 
 -- what the call answers, and what it leaves in numbers, levels, passes and scratch
 record Left : Type 0 where
@@ -26,11 +26,11 @@ lent k = replicate k 9
 -- the call, with so many words lent
 ordered : Lists → ℕ → ℕ → ℕ → ℕ → Left
 ordered l i j p k =
-    leaves (cuthillAnswer (l .starts) (l .neighbours) (lent i) (lent j) (lent p) (lent k))
-    (cuthillNumbers (l .starts) (l .neighbours) (lent i) (lent j) (lent p) (lent k)
-    ∷ cuthillLevels (l .starts) (l .neighbours) (lent i) (lent j) (lent p) (lent k)
-    ∷ cuthillPasses (l .starts) (l .neighbours) (lent i) (lent j) (lent p) (lent k)
-    ∷ cuthillScratch (l .starts) (l .neighbours) (lent i) (lent j) (lent p) (lent k)
+    leaves (cuthillAnswer (l .starts) (l .neighbours) (each l) (lent i) (lent j) (lent p) (lent k))
+    (cuthillNumbers (l .starts) (l .neighbours) (each l) (lent i) (lent j) (lent p) (lent k)
+    ∷ cuthillLevels (l .starts) (l .neighbours) (each l) (lent i) (lent j) (lent p) (lent k)
+    ∷ cuthillPasses (l .starts) (l .neighbours) (each l) (lent i) (lent j) (lent p) (lent k)
+    ∷ cuthillScratch (l .starts) (l .neighbours) (each l) (lent i) (lent j) (lent p) (lent k)
     ∷ [])
 
 -- the same with the elimination after it, exact buffers and so many mark bytes lent: its answer and the bytes
@@ -45,8 +45,8 @@ beside (accepted f) e b = record { answer = accepted (record { figures = f; elim
 
 eliminated : Lists → ℕ → ℕ → Eliminated
 eliminated l n b = record {
-  answer = cuthillEliminateAnswer (l .starts) (l .neighbours) (lent n) (lent n) (lent n) (lent (6 * n)) (lent b);
-  bytes = cuthillEliminateBytes (l .starts) (l .neighbours) (lent n) (lent n) (lent n) (lent (6 * n)) (lent b);
+  answer = cuthillEliminateAnswer (l .starts) (l .neighbours) (each l) (lent n) (lent n) (lent n) (lent (6 * n)) (lent b);
+  bytes = cuthillEliminateBytes (l .starts) (l .neighbours) (each l) (lent n) (lent n) (lent n) (lent (6 * n)) (lent b);
 }
 
 -- ---- the graphs

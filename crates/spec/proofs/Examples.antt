@@ -9,6 +9,7 @@ use Rattle.spec.specs.Graph.{sizeOf}
 use Rattle.spec.specs.Ends.{Ends}
 use Rattle.spec.specs.Numbering.{Forward, Reversed, PartReport, Figures}
 use Rattle.spec.specs.Lent.{Outcome, accepted}
+use Rattle.spec.specs.Unknowns.{ones}
 use Rattle.spec.specs.Mesh.{startList, neighbourList}
 use Rattle.spec.specs.File.{fileGraph, fileRefusal}
 use Rattle.spec.specs.CallsLevels.{adjacencyAnswer, rootedAnswer, rootedSizes, endsAnswer}
@@ -53,27 +54,29 @@ record Ordered : Type 0 where
 
 ordered : List ℕ → List ℕ → Ordered
 ordered S N =
+    let c : List ℕ = ones (sizeOf S) in
     let w : List ℕ = replicate (sizeOf S) 9 in
     let x : List ℕ = replicate (6 * sizeOf S) 9 in
     record {
-      levels = cuthillLevels S N w w w x;
-      numbers = cuthillNumbers S N w w w x;
-      passes = cuthillPasses S N w w w x;
-      figures = cuthillAnswer S N w w w x;
+      levels = cuthillLevels S N c w w w x;
+      numbers = cuthillNumbers S N c w w w x;
+      passes = cuthillPasses S N c w w w x;
+      figures = cuthillAnswer S N c w w w x;
     }
 
 -- what the adjacency test, rooted levels, ends, run, reverse Cuthill-McKee, measures and elimination refuse by, with so many words lent for each
 -- node and no mark byte
 refusals : List ℕ → List ℕ → ℕ → List ℕ → ℕ → List ℕ
 refusals S N node x k =
+    let c : List ℕ = ones (sizeOf S) in
     let w : List ℕ = replicate (k * sizeOf S) 9 in
     numberOf (adjacencyAnswer S N)
     ∷ numberOf (rootedAnswer S N node w w)
     ∷ numberOf (endsAnswer S N node w)
-    ∷ numberOf (runAnswer S N w w w w)
-    ∷ numberOf (cuthillAnswer S N w w w w)
-    ∷ numberOf (measuresAnswer S N x w)
-    ∷ numberOf (eliminationAnswer S N x w [])
+    ∷ numberOf (runAnswer S N c w w w w)
+    ∷ numberOf (cuthillAnswer S N c w w w w)
+    ∷ numberOf (measuresAnswer S N c x w)
+    ∷ numberOf (eliminationAnswer S N c x w [])
     ∷ []
 
 -- a change of names: u has lower degree than v
@@ -570,39 +573,39 @@ record ExampleTable : Type 0 where
   -- a root that is none: the sizes stay
   sizes-10 : rootedSizes (0 ∷ 1 ∷ 2 ∷ 2 ∷ []) (2 ∷ 1 ∷ []) 4 (9 ∷ 9 ∷ 9 ∷ []) (9 ∷ 9 ∷ 9 ∷ []) ≡ (9 ∷ 9 ∷ 9 ∷ [])
   -- two isolated nodes
-  run-1-refusal : numberOf (runAnswer (0 ∷ 0 ∷ 0 ∷ []) [] (9 ∷ 9 ∷ []) (9 ∷ 9 ∷ []) (9 ∷ 9 ∷ []) (replicate 12 9)) ≡ 0
-  run-1-passes : runPasses (0 ∷ 0 ∷ 0 ∷ []) [] (9 ∷ 9 ∷ []) (9 ∷ 9 ∷ []) (9 ∷ 9 ∷ []) (replicate 12 9) ≡ (1 ∷ 1 ∷ [])
-  cuthill-1-refusal : numberOf (cuthillAnswer (0 ∷ 0 ∷ 0 ∷ []) [] (9 ∷ 9 ∷ []) (9 ∷ 9 ∷ []) (9 ∷ 9 ∷ []) (replicate 12 9)) ≡ 0
-  cuthill-1-passes : cuthillPasses (0 ∷ 0 ∷ 0 ∷ []) [] (9 ∷ 9 ∷ []) (9 ∷ 9 ∷ []) (9 ∷ 9 ∷ []) (replicate 12 9) ≡ (1 ∷ 1 ∷ [])
+  run-1-refusal : numberOf (runAnswer (0 ∷ 0 ∷ 0 ∷ []) [] (1 ∷ 1 ∷ []) (9 ∷ 9 ∷ []) (9 ∷ 9 ∷ []) (9 ∷ 9 ∷ []) (replicate 12 9)) ≡ 0
+  run-1-passes : runPasses (0 ∷ 0 ∷ 0 ∷ []) [] (1 ∷ 1 ∷ []) (9 ∷ 9 ∷ []) (9 ∷ 9 ∷ []) (9 ∷ 9 ∷ []) (replicate 12 9) ≡ (1 ∷ 1 ∷ [])
+  cuthill-1-refusal : numberOf (cuthillAnswer (0 ∷ 0 ∷ 0 ∷ []) [] (1 ∷ 1 ∷ []) (9 ∷ 9 ∷ []) (9 ∷ 9 ∷ []) (9 ∷ 9 ∷ []) (replicate 12 9)) ≡ 0
+  cuthill-1-passes : cuthillPasses (0 ∷ 0 ∷ 0 ∷ []) [] (1 ∷ 1 ∷ []) (9 ∷ 9 ∷ []) (9 ∷ 9 ∷ []) (9 ∷ 9 ∷ []) (replicate 12 9) ≡ (1 ∷ 1 ∷ [])
   -- zeros after the last part; a longer list keeps its excess
-  run-2-refusal : numberOf (runAnswer (0 ∷ 1 ∷ 1 ∷ 3 ∷ 4 ∷ []) (3 ∷ 1 ∷ 4 ∷ 3 ∷ []) (9 ∷ 9 ∷ 9 ∷ 9 ∷ []) (9 ∷ 9 ∷ 9 ∷ 9 ∷ []) (9 ∷ 9 ∷ 9 ∷ 9 ∷ 9 ∷ 9 ∷ []) (replicate 24 9)) ≡ 0
-  run-2-passes : runPasses (0 ∷ 1 ∷ 1 ∷ 3 ∷ 4 ∷ []) (3 ∷ 1 ∷ 4 ∷ 3 ∷ []) (9 ∷ 9 ∷ 9 ∷ 9 ∷ []) (9 ∷ 9 ∷ 9 ∷ 9 ∷ []) (9 ∷ 9 ∷ 9 ∷ 9 ∷ 9 ∷ 9 ∷ []) (replicate 24 9) ≡ (1 ∷ 1 ∷ 0 ∷ 0 ∷ 9 ∷ 9 ∷ [])
-  cuthill-2-refusal : numberOf (cuthillAnswer (0 ∷ 1 ∷ 1 ∷ 3 ∷ 4 ∷ []) (3 ∷ 1 ∷ 4 ∷ 3 ∷ []) (9 ∷ 9 ∷ 9 ∷ 9 ∷ []) (9 ∷ 9 ∷ 9 ∷ 9 ∷ []) (9 ∷ 9 ∷ 9 ∷ 9 ∷ 9 ∷ 9 ∷ []) (replicate 24 9)) ≡ 0
-  cuthill-2-passes : cuthillPasses (0 ∷ 1 ∷ 1 ∷ 3 ∷ 4 ∷ []) (3 ∷ 1 ∷ 4 ∷ 3 ∷ []) (9 ∷ 9 ∷ 9 ∷ 9 ∷ []) (9 ∷ 9 ∷ 9 ∷ 9 ∷ []) (9 ∷ 9 ∷ 9 ∷ 9 ∷ 9 ∷ 9 ∷ []) (replicate 24 9) ≡ (1 ∷ 1 ∷ 0 ∷ 0 ∷ 9 ∷ 9 ∷ [])
+  run-2-refusal : numberOf (runAnswer (0 ∷ 1 ∷ 1 ∷ 3 ∷ 4 ∷ []) (3 ∷ 1 ∷ 4 ∷ 3 ∷ []) (1 ∷ 1 ∷ 1 ∷ 1 ∷ []) (9 ∷ 9 ∷ 9 ∷ 9 ∷ []) (9 ∷ 9 ∷ 9 ∷ 9 ∷ []) (9 ∷ 9 ∷ 9 ∷ 9 ∷ 9 ∷ 9 ∷ []) (replicate 24 9)) ≡ 0
+  run-2-passes : runPasses (0 ∷ 1 ∷ 1 ∷ 3 ∷ 4 ∷ []) (3 ∷ 1 ∷ 4 ∷ 3 ∷ []) (1 ∷ 1 ∷ 1 ∷ 1 ∷ []) (9 ∷ 9 ∷ 9 ∷ 9 ∷ []) (9 ∷ 9 ∷ 9 ∷ 9 ∷ []) (9 ∷ 9 ∷ 9 ∷ 9 ∷ 9 ∷ 9 ∷ []) (replicate 24 9) ≡ (1 ∷ 1 ∷ 0 ∷ 0 ∷ 9 ∷ 9 ∷ [])
+  cuthill-2-refusal : numberOf (cuthillAnswer (0 ∷ 1 ∷ 1 ∷ 3 ∷ 4 ∷ []) (3 ∷ 1 ∷ 4 ∷ 3 ∷ []) (1 ∷ 1 ∷ 1 ∷ 1 ∷ []) (9 ∷ 9 ∷ 9 ∷ 9 ∷ []) (9 ∷ 9 ∷ 9 ∷ 9 ∷ []) (9 ∷ 9 ∷ 9 ∷ 9 ∷ 9 ∷ 9 ∷ []) (replicate 24 9)) ≡ 0
+  cuthill-2-passes : cuthillPasses (0 ∷ 1 ∷ 1 ∷ 3 ∷ 4 ∷ []) (3 ∷ 1 ∷ 4 ∷ 3 ∷ []) (1 ∷ 1 ∷ 1 ∷ 1 ∷ []) (9 ∷ 9 ∷ 9 ∷ 9 ∷ []) (9 ∷ 9 ∷ 9 ∷ 9 ∷ []) (9 ∷ 9 ∷ 9 ∷ 9 ∷ 9 ∷ 9 ∷ []) (replicate 24 9) ≡ (1 ∷ 1 ∷ 0 ∷ 0 ∷ 9 ∷ 9 ∷ [])
   -- a short list of passes: 5, and it stays
-  run-3-refusal : numberOf (runAnswer (0 ∷ 1 ∷ 1 ∷ 3 ∷ 4 ∷ []) (3 ∷ 1 ∷ 4 ∷ 3 ∷ []) (9 ∷ 9 ∷ 9 ∷ 9 ∷ []) (9 ∷ 9 ∷ 9 ∷ 9 ∷ []) (9 ∷ 9 ∷ 9 ∷ []) (replicate 24 9)) ≡ 5
-  run-3-passes : runPasses (0 ∷ 1 ∷ 1 ∷ 3 ∷ 4 ∷ []) (3 ∷ 1 ∷ 4 ∷ 3 ∷ []) (9 ∷ 9 ∷ 9 ∷ 9 ∷ []) (9 ∷ 9 ∷ 9 ∷ 9 ∷ []) (9 ∷ 9 ∷ 9 ∷ []) (replicate 24 9) ≡ (9 ∷ 9 ∷ 9 ∷ [])
-  cuthill-3-refusal : numberOf (cuthillAnswer (0 ∷ 1 ∷ 1 ∷ 3 ∷ 4 ∷ []) (3 ∷ 1 ∷ 4 ∷ 3 ∷ []) (9 ∷ 9 ∷ 9 ∷ 9 ∷ []) (9 ∷ 9 ∷ 9 ∷ 9 ∷ []) (9 ∷ 9 ∷ 9 ∷ []) (replicate 24 9)) ≡ 5
-  cuthill-3-passes : cuthillPasses (0 ∷ 1 ∷ 1 ∷ 3 ∷ 4 ∷ []) (3 ∷ 1 ∷ 4 ∷ 3 ∷ []) (9 ∷ 9 ∷ 9 ∷ 9 ∷ []) (9 ∷ 9 ∷ 9 ∷ 9 ∷ []) (9 ∷ 9 ∷ 9 ∷ []) (replicate 24 9) ≡ (9 ∷ 9 ∷ 9 ∷ [])
+  run-3-refusal : numberOf (runAnswer (0 ∷ 1 ∷ 1 ∷ 3 ∷ 4 ∷ []) (3 ∷ 1 ∷ 4 ∷ 3 ∷ []) (1 ∷ 1 ∷ 1 ∷ 1 ∷ []) (9 ∷ 9 ∷ 9 ∷ 9 ∷ []) (9 ∷ 9 ∷ 9 ∷ 9 ∷ []) (9 ∷ 9 ∷ 9 ∷ []) (replicate 24 9)) ≡ 5
+  run-3-passes : runPasses (0 ∷ 1 ∷ 1 ∷ 3 ∷ 4 ∷ []) (3 ∷ 1 ∷ 4 ∷ 3 ∷ []) (1 ∷ 1 ∷ 1 ∷ 1 ∷ []) (9 ∷ 9 ∷ 9 ∷ 9 ∷ []) (9 ∷ 9 ∷ 9 ∷ 9 ∷ []) (9 ∷ 9 ∷ 9 ∷ []) (replicate 24 9) ≡ (9 ∷ 9 ∷ 9 ∷ [])
+  cuthill-3-refusal : numberOf (cuthillAnswer (0 ∷ 1 ∷ 1 ∷ 3 ∷ 4 ∷ []) (3 ∷ 1 ∷ 4 ∷ 3 ∷ []) (1 ∷ 1 ∷ 1 ∷ 1 ∷ []) (9 ∷ 9 ∷ 9 ∷ 9 ∷ []) (9 ∷ 9 ∷ 9 ∷ 9 ∷ []) (9 ∷ 9 ∷ 9 ∷ []) (replicate 24 9)) ≡ 5
+  cuthill-3-passes : cuthillPasses (0 ∷ 1 ∷ 1 ∷ 3 ∷ 4 ∷ []) (3 ∷ 1 ∷ 4 ∷ 3 ∷ []) (1 ∷ 1 ∷ 1 ∷ 1 ∷ []) (9 ∷ 9 ∷ 9 ∷ 9 ∷ []) (9 ∷ 9 ∷ 9 ∷ 9 ∷ []) (9 ∷ 9 ∷ 9 ∷ []) (replicate 24 9) ≡ (9 ∷ 9 ∷ 9 ∷ [])
   -- no list of passes: 5
-  run-4-refusal : numberOf (runAnswer (0 ∷ 0 ∷ []) [] (9 ∷ []) (9 ∷ []) [] (9 ∷ 9 ∷ 9 ∷ 9 ∷ 9 ∷ 9 ∷ [])) ≡ 5
-  run-4-passes : runPasses (0 ∷ 0 ∷ []) [] (9 ∷ []) (9 ∷ []) [] (9 ∷ 9 ∷ 9 ∷ 9 ∷ 9 ∷ 9 ∷ []) ≡ []
-  cuthill-4-refusal : numberOf (cuthillAnswer (0 ∷ 0 ∷ []) [] (9 ∷ []) (9 ∷ []) [] (9 ∷ 9 ∷ 9 ∷ 9 ∷ 9 ∷ 9 ∷ [])) ≡ 5
-  cuthill-4-passes : cuthillPasses (0 ∷ 0 ∷ []) [] (9 ∷ []) (9 ∷ []) [] (9 ∷ 9 ∷ 9 ∷ 9 ∷ 9 ∷ 9 ∷ []) ≡ []
+  run-4-refusal : numberOf (runAnswer (0 ∷ 0 ∷ []) [] (1 ∷ []) (9 ∷ []) (9 ∷ []) [] (9 ∷ 9 ∷ 9 ∷ 9 ∷ 9 ∷ 9 ∷ [])) ≡ 5
+  run-4-passes : runPasses (0 ∷ 0 ∷ []) [] (1 ∷ []) (9 ∷ []) (9 ∷ []) [] (9 ∷ 9 ∷ 9 ∷ 9 ∷ 9 ∷ 9 ∷ []) ≡ []
+  cuthill-4-refusal : numberOf (cuthillAnswer (0 ∷ 0 ∷ []) [] (1 ∷ []) (9 ∷ []) (9 ∷ []) [] (9 ∷ 9 ∷ 9 ∷ 9 ∷ 9 ∷ 9 ∷ [])) ≡ 5
+  cuthill-4-passes : cuthillPasses (0 ∷ 0 ∷ []) [] (1 ∷ []) (9 ∷ []) (9 ∷ []) [] (9 ∷ 9 ∷ 9 ∷ 9 ∷ 9 ∷ 9 ∷ []) ≡ []
   -- a short list of levels: the passes stay
-  run-5-refusal : numberOf (runAnswer (0 ∷ 1 ∷ 1 ∷ 3 ∷ 4 ∷ []) (3 ∷ 1 ∷ 4 ∷ 3 ∷ []) (9 ∷ 9 ∷ 9 ∷ 9 ∷ []) (9 ∷ 9 ∷ 9 ∷ []) (9 ∷ 9 ∷ 9 ∷ 9 ∷ []) (replicate 24 9)) ≡ 5
-  run-5-passes : runPasses (0 ∷ 1 ∷ 1 ∷ 3 ∷ 4 ∷ []) (3 ∷ 1 ∷ 4 ∷ 3 ∷ []) (9 ∷ 9 ∷ 9 ∷ 9 ∷ []) (9 ∷ 9 ∷ 9 ∷ []) (9 ∷ 9 ∷ 9 ∷ 9 ∷ []) (replicate 24 9) ≡ (9 ∷ 9 ∷ 9 ∷ 9 ∷ [])
-  cuthill-5-refusal : numberOf (cuthillAnswer (0 ∷ 1 ∷ 1 ∷ 3 ∷ 4 ∷ []) (3 ∷ 1 ∷ 4 ∷ 3 ∷ []) (9 ∷ 9 ∷ 9 ∷ 9 ∷ []) (9 ∷ 9 ∷ 9 ∷ []) (9 ∷ 9 ∷ 9 ∷ 9 ∷ []) (replicate 24 9)) ≡ 5
-  cuthill-5-passes : cuthillPasses (0 ∷ 1 ∷ 1 ∷ 3 ∷ 4 ∷ []) (3 ∷ 1 ∷ 4 ∷ 3 ∷ []) (9 ∷ 9 ∷ 9 ∷ 9 ∷ []) (9 ∷ 9 ∷ 9 ∷ []) (9 ∷ 9 ∷ 9 ∷ 9 ∷ []) (replicate 24 9) ≡ (9 ∷ 9 ∷ 9 ∷ 9 ∷ [])
+  run-5-refusal : numberOf (runAnswer (0 ∷ 1 ∷ 1 ∷ 3 ∷ 4 ∷ []) (3 ∷ 1 ∷ 4 ∷ 3 ∷ []) (1 ∷ 1 ∷ 1 ∷ 1 ∷ []) (9 ∷ 9 ∷ 9 ∷ 9 ∷ []) (9 ∷ 9 ∷ 9 ∷ []) (9 ∷ 9 ∷ 9 ∷ 9 ∷ []) (replicate 24 9)) ≡ 5
+  run-5-passes : runPasses (0 ∷ 1 ∷ 1 ∷ 3 ∷ 4 ∷ []) (3 ∷ 1 ∷ 4 ∷ 3 ∷ []) (1 ∷ 1 ∷ 1 ∷ 1 ∷ []) (9 ∷ 9 ∷ 9 ∷ 9 ∷ []) (9 ∷ 9 ∷ 9 ∷ []) (9 ∷ 9 ∷ 9 ∷ 9 ∷ []) (replicate 24 9) ≡ (9 ∷ 9 ∷ 9 ∷ 9 ∷ [])
+  cuthill-5-refusal : numberOf (cuthillAnswer (0 ∷ 1 ∷ 1 ∷ 3 ∷ 4 ∷ []) (3 ∷ 1 ∷ 4 ∷ 3 ∷ []) (1 ∷ 1 ∷ 1 ∷ 1 ∷ []) (9 ∷ 9 ∷ 9 ∷ 9 ∷ []) (9 ∷ 9 ∷ 9 ∷ []) (9 ∷ 9 ∷ 9 ∷ 9 ∷ []) (replicate 24 9)) ≡ 5
+  cuthill-5-passes : cuthillPasses (0 ∷ 1 ∷ 1 ∷ 3 ∷ 4 ∷ []) (3 ∷ 1 ∷ 4 ∷ 3 ∷ []) (1 ∷ 1 ∷ 1 ∷ 1 ∷ []) (9 ∷ 9 ∷ 9 ∷ 9 ∷ []) (9 ∷ 9 ∷ 9 ∷ []) (9 ∷ 9 ∷ 9 ∷ 9 ∷ []) (replicate 24 9) ≡ (9 ∷ 9 ∷ 9 ∷ 9 ∷ [])
   -- a word of scratch too few: the passes stay
-  run-6-refusal : numberOf (runAnswer (0 ∷ 1 ∷ 1 ∷ 3 ∷ 4 ∷ []) (3 ∷ 1 ∷ 4 ∷ 3 ∷ []) (9 ∷ 9 ∷ 9 ∷ 9 ∷ []) (9 ∷ 9 ∷ 9 ∷ 9 ∷ []) (9 ∷ 9 ∷ 9 ∷ 9 ∷ []) (replicate 23 9)) ≡ 5
-  run-6-passes : runPasses (0 ∷ 1 ∷ 1 ∷ 3 ∷ 4 ∷ []) (3 ∷ 1 ∷ 4 ∷ 3 ∷ []) (9 ∷ 9 ∷ 9 ∷ 9 ∷ []) (9 ∷ 9 ∷ 9 ∷ 9 ∷ []) (9 ∷ 9 ∷ 9 ∷ 9 ∷ []) (replicate 23 9) ≡ (9 ∷ 9 ∷ 9 ∷ 9 ∷ [])
-  cuthill-6-refusal : numberOf (cuthillAnswer (0 ∷ 1 ∷ 1 ∷ 3 ∷ 4 ∷ []) (3 ∷ 1 ∷ 4 ∷ 3 ∷ []) (9 ∷ 9 ∷ 9 ∷ 9 ∷ []) (9 ∷ 9 ∷ 9 ∷ 9 ∷ []) (9 ∷ 9 ∷ 9 ∷ 9 ∷ []) (replicate 23 9)) ≡ 5
-  cuthill-6-passes : cuthillPasses (0 ∷ 1 ∷ 1 ∷ 3 ∷ 4 ∷ []) (3 ∷ 1 ∷ 4 ∷ 3 ∷ []) (9 ∷ 9 ∷ 9 ∷ 9 ∷ []) (9 ∷ 9 ∷ 9 ∷ 9 ∷ []) (9 ∷ 9 ∷ 9 ∷ 9 ∷ []) (replicate 23 9) ≡ (9 ∷ 9 ∷ 9 ∷ 9 ∷ [])
+  run-6-refusal : numberOf (runAnswer (0 ∷ 1 ∷ 1 ∷ 3 ∷ 4 ∷ []) (3 ∷ 1 ∷ 4 ∷ 3 ∷ []) (1 ∷ 1 ∷ 1 ∷ 1 ∷ []) (9 ∷ 9 ∷ 9 ∷ 9 ∷ []) (9 ∷ 9 ∷ 9 ∷ 9 ∷ []) (9 ∷ 9 ∷ 9 ∷ 9 ∷ []) (replicate 23 9)) ≡ 5
+  run-6-passes : runPasses (0 ∷ 1 ∷ 1 ∷ 3 ∷ 4 ∷ []) (3 ∷ 1 ∷ 4 ∷ 3 ∷ []) (1 ∷ 1 ∷ 1 ∷ 1 ∷ []) (9 ∷ 9 ∷ 9 ∷ 9 ∷ []) (9 ∷ 9 ∷ 9 ∷ 9 ∷ []) (9 ∷ 9 ∷ 9 ∷ 9 ∷ []) (replicate 23 9) ≡ (9 ∷ 9 ∷ 9 ∷ 9 ∷ [])
+  cuthill-6-refusal : numberOf (cuthillAnswer (0 ∷ 1 ∷ 1 ∷ 3 ∷ 4 ∷ []) (3 ∷ 1 ∷ 4 ∷ 3 ∷ []) (1 ∷ 1 ∷ 1 ∷ 1 ∷ []) (9 ∷ 9 ∷ 9 ∷ 9 ∷ []) (9 ∷ 9 ∷ 9 ∷ 9 ∷ []) (9 ∷ 9 ∷ 9 ∷ 9 ∷ []) (replicate 23 9)) ≡ 5
+  cuthill-6-passes : cuthillPasses (0 ∷ 1 ∷ 1 ∷ 3 ∷ 4 ∷ []) (3 ∷ 1 ∷ 4 ∷ 3 ∷ []) (1 ∷ 1 ∷ 1 ∷ 1 ∷ []) (9 ∷ 9 ∷ 9 ∷ 9 ∷ []) (9 ∷ 9 ∷ 9 ∷ 9 ∷ []) (9 ∷ 9 ∷ 9 ∷ 9 ∷ []) (replicate 23 9) ≡ (9 ∷ 9 ∷ 9 ∷ 9 ∷ [])
   -- a wrong mark, and no node: 12 before 1
   file-1 : fileRefusal (71 ∷ 82 ∷ 88 ∷ 1 ∷ 0 ∷ 0 ∷ 0 ∷ 0 ∷ 0 ∷ []) ≡ 12
   -- a wrong version, and a node too many
-  file-2 : fileRefusal (71 ∷ 82 ∷ 68 ∷ 2 ∷ 0 ∷ 1 ∷ 16 ∷ 0 ∷ 0 ∷ []) ≡ 12
+  file-2 : fileRefusal (71 ∷ 82 ∷ 68 ∷ 3 ∷ 0 ∷ 1 ∷ 16 ∷ 0 ∷ 0 ∷ []) ≡ 12
   -- no node, and an unknown kind: 1 before 9
   file-3 : fileRefusal (71 ∷ 82 ∷ 68 ∷ 1 ∷ 0 ∷ 0 ∷ 0 ∷ 1 ∷ 0 ∷ 0 ∷ 0 ∷ []) ≡ 1
   -- an unknown kind as the last word

@@ -12,7 +12,7 @@ use Rattle.spec.specs.Measures.{renumbered, profile}
 use Rattle.spec.specs.NoIdle.{connected, lowerNeighbours, fullBytes, beforeTurning, turnedBack}
 use Rattle.spec.specs.Numbering.{run}
 use Rattle.spec.proofs.Compute.{computes}
-use Rattle.spec.proofs.Called.{Lists, eliminationFor, bytesFor}
+use Rattle.spec.proofs.Called.{Lists, each, eliminationFor, bytesFor}
 
 -- ---- the graphs
 
@@ -66,10 +66,10 @@ record IdleTable : Type 0 where
   -- the path has four places, of 2-3, 1-4, 2-4 and 3-4 in this order; 1 and 2 are joined to one number each, so 2-4 is never joined
   path-store : stored path (1 ∷ 2 ∷ 3 ∷ 4 ∷ []) ≡ with-store false 4 3 0 (11 ∷ 9 ∷ [])
   -- the net by the run's numbers: 7 places, and place 1, of 2-3, stays idle
-  net-run : run (graphOf (net .starts) (net .neighbours)) .numbers ≡ 5 ∷ 4 ∷ 3 ∷ 6 ∷ 2 ∷ 1 ∷ []
+  net-run : run (graphOf (net .starts) (net .neighbours)) (each net) .numbers ≡ 5 ∷ 4 ∷ 3 ∷ 6 ∷ 2 ∷ 1 ∷ []
   net-idle : stored net (5 ∷ 4 ∷ 3 ∷ 6 ∷ 2 ∷ 1 ∷ []) ≡ with-store false 7 6 0 (125 ∷ 9 ∷ [])
   -- A.3's are the same here
-  net-turned : cuthillRun (graphOf (net .starts) (net .neighbours)) .numbers ≡ 5 ∷ 4 ∷ 3 ∷ 6 ∷ 2 ∷ 1 ∷ []
+  net-turned : cuthillRun (graphOf (net .starts) (net .neighbours)) (each net) .numbers ≡ 5 ∷ 4 ∷ 3 ∷ 6 ∷ 2 ∷ 1 ∷ []
   -- before the turning: 8 places, all marked, two of them by newly joined pairs
   net-before : beforeTurning (graphOf (net .starts) (net .neighbours)) ≡ 2 ∷ 3 ∷ 4 ∷ 1 ∷ 5 ∷ 6 ∷ []
   net-back : turnedBack 6 (5 ∷ 4 ∷ 3 ∷ 6 ∷ 2 ∷ 1 ∷ []) ≡ 2 ∷ 3 ∷ 4 ∷ 1 ∷ 5 ∷ 6 ∷ []

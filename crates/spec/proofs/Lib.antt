@@ -12,3 +12,5 @@ pub mod CuthillTable
 pub mod WrongCuthill
 pub mod IdleTable
 pub mod WrongIdle
+pub mod UnknownTable
+pub mod WrongUnknowns

@@ -14,6 +14,7 @@ use Rattle.spec.specs.Graph.{Graph, sizeOf, graphOf, graphRefusal}
 use Rattle.spec.specs.Measures.{isNumbering, renumbered}
 use Rattle.spec.specs.NoIdle.{connected, NoIdle, Fills}
 use Rattle.spec.specs.Numbering.{run}
+use Rattle.spec.specs.Unknowns.{ones}
 use Rattle.spec.proofs.Compute.{computes}
 use Rattle.spec.proofs.IdleTable.{path, net}
 
@@ -71,14 +72,14 @@ no-some-number f = no-call-count (f (path .starts) (path .neighbours) (1 ∷ 2 �
 -- ---- orders of which it does not hold in general: the net
 
 -- the run's own
-pub no-run : ((S N : List ℕ) → graphRefusal S N ≡ 0 → connected (graphOf S N) ≡ true → Fills S N (run (graphOf S N) .numbers)) → ⊥
+pub no-run : ((S N : List ℕ) → graphRefusal S N ≡ 0 → connected (graphOf S N) ≡ true → Fills S N (run (graphOf S N) (ones (sizeOf S)) .numbers)) → ⊥
 unfolding computes
 no-run f =
     let z : _≡_ {A = ℕ} 6 7 = f (net .starts) (net .neighbours) refl refl .marked (replicate 6 0) (0 ∷ []) _ refl in
     absurd (omega (arith, z))
 
 -- A.3's as its call gives it, turned
-pub no-turned : ((S N : List ℕ) → graphRefusal S N ≡ 0 → connected (graphOf S N) ≡ true → Fills S N (cuthillRun (graphOf S N) .numbers)) → ⊥
+pub no-turned : ((S N : List ℕ) → graphRefusal S N ≡ 0 → connected (graphOf S N) ≡ true → Fills S N (cuthillRun (graphOf S N) (ones (sizeOf S)) .numbers)) → ⊥
 unfolding computes
 no-turned f =
     let z : _≡_ {A = ℕ} 6 7 = f (net .starts) (net .neighbours) refl refl .marked (replicate 6 0) (0 ∷ []) _ refl in

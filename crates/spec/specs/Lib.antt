@@ -4,6 +4,7 @@ pub mod Levels
 pub mod Ends
 pub mod Combined
 pub mod Measures
+pub mod Unknowns
 pub mod Numbering
 pub mod Store
 pub mod Mesh

@@ -13,6 +13,7 @@ use Rattle.spec.specs.Graph.{Graph, adjoins, sizeOf, graphOf}
 use Rattle.spec.specs.Levels.{leaders}
 use Rattle.spec.specs.Ends.{ends}
 use Rattle.spec.specs.Measures.{isNumbering, numbersOf, renumbered, profile}
+use Rattle.spec.specs.Unknowns.{ones}
 use Rattle.spec.specs.Cuthill.{cuthillMcKee}
 use Rattle.spec.specs.Store.{Pair, hasPlace, joined, marks, markCount, markBytes}
 use Rattle.spec.specs.Lent.{accepted}
@@ -45,16 +46,16 @@ pub record NoIdle (h : Graph) : Type 0 where
   -- and the marks that are 1 are as many as the places
   pub count : markCount h ≡ profile h
 
--- the same of the elimination call, for the two lists S and N and the given numbering X, lent any scratch C and mark bytes B
+-- the same of the elimination call, for the two lists S and N, "one unknown a node" and the given numbering X, lent any scratch C and mark bytes B
 pub record Fills (S N X : List ℕ) : Type 0 where
   -- a numbering, so that the call refuses nothing but a short buffer (`StoreClaim`)
   pub numbering : isNumbering (sizeOf S) X ≡ true
   -- the marks that it answers equal the profile
   -- rules out: an order of which a place stays idle
-  pub marked : (C B : List ℕ) (e : EliminationFigures) → eliminationAnswer S N X C B ≡ accepted e → e .marked ≡ profile (renumbered (graphOf S N) X)
+  pub marked : (C B : List ℕ) (e : EliminationFigures) → eliminationAnswer S N (ones (sizeOf S)) X C B ≡ accepted e → e .marked ≡ profile (renumbered (graphOf S N) X)
   -- its bytes are full
-  pub bytes : (C B : List ℕ) (e : EliminationFigures) → eliminationAnswer S N X C B ≡ accepted e
-      → eliminationBytes S N X C B ≡ overwrite (fullBytes (profile (renumbered (graphOf S N) X))) B
+  pub bytes : (C B : List ℕ) (e : EliminationFigures) → eliminationAnswer S N (ones (sizeOf S)) X C B ≡ accepted e
+      → eliminationBytes S N (ones (sizeOf S)) X C B ≡ overwrite (fullBytes (profile (renumbered (graphOf S N) X))) B
 
 -- ---- "the order of A.3 before its turning"
 
