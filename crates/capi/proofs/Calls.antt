@@ -1,28 +1,8 @@
--- A call of the C interface whose list of figures F has room for k: what the library answers, m, and leaves is the call's own. Assumes nothing.
-use mathlib.Core.Path.{_≡_, refl, _∙_}
-use mathlib.Core.Bool.{false}
-use mathlib.Core.List.{List}
-use Prim.Native.Nat.{ℕ, zero, suc, _≤_}
-use lib.ListN.{length}
-use borrow.Author.Tests.{le-ltb}
-use Rattle.spec.specs.Lent.{Outcome, outcome, short}
-use Rattle.capi_figures.specs.Figures.{number, written, answerC, lentC, figuresC}
-
-module _ (k : ℕ) (F : List ℕ) (h : k ≤ length F) where
-  is-long : short F k ≡ false
-  is-long = le-ltb (length F) k h
-
-  pub long-answer : {A : Type 0} (first : ℕ) {r : ℕ} {m o : Outcome A} → r ≡ number m → m ≡ o → r ≡ answerC k F first o
-  unfolding answerC
-  long-answer first n e = n ∙ rw (is-long, e)
-
-  pub long-list : {A : Type 0} (figures : A → List ℕ) {m o : Outcome A} {X : List ℕ} → X ≡ written figures m F → m ≡ o → X ≡ figuresC k F figures o
-  unfolding figuresC
-  long-list figures x e = x ∙ rw (is-long, e)
-
-  pub long-lent : (before : List ℕ) {after X : List ℕ} → X ≡ after → X ≡ lentC k F before after
-  unfolding lentC
-  long-lent before x = x ∙ rw is-long
+-- What a call of the C interface answers, by the refusal that made it. Assumes nothing.
+use mathlib.Core.Path.{_≡_, refl}
+use Prim.Native.Nat.{ℕ, zero, suc}
+use Rattle.spec.specs.Lent.{outcome}
+use Rattle.capi_figures.specs.Figures.{number}
 
 -- the number of an outcome is that of the refusal that made it
 pub number-outcome : {A : Type 0} (c : ℕ) (a : A) → c ≡ number (outcome c a)

@@ -1,5 +1,6 @@
 -- DEMAND 3 of `wagonepoch_run` or `wagonepoch_reverse_cuthill_mckee` and then `wagonepoch_eliminate` on its n numbers: "nobody writes them or the
--- two lists between the calls". The premises are just what the two contracts ensure, and that the first answered 0. Assumes nothing.
+-- two lists between the calls", and both are handed the same counts. The premises are just what the two contracts ensure, and that the first
+-- answered 0. Assumes nothing.
 use mathlib.Core.Path.{_≡_, refl, sym, _∙_}
 use mathlib.Core.Bool.{Bool, true, false, cond, _||_}
 use mathlib.Core.List.{List}
@@ -15,10 +16,10 @@ use Rattle.spec.specs.Claim.{JoinedPlace, ClaimAs}
 use Rattle.spec.specs.Cuthill.{cuthillRun}
 use Rattle.spec.specs.Graph.{Graph, graphOf, graphRefusal, sizeOf}
 use Rattle.spec.specs.Lent.{accepted, outcome, short}
-use Rattle.spec.specs.Measures.{renumbered}
 use Rattle.spec.specs.Numbering.{Figures, PartResult, Run, run}
 use Rattle.spec.specs.Refusal.{refuse, _orElse_}
 use Rattle.spec.specs.Store.{markAt}
+use Rattle.spec.specs.Unknowns.{renumberedUnknowns}
 use Rattle.laws.proofs.Claim.{claim}
 use Rattle.laws.proofs.CuthillRun.{cuthill-claim}
 use Rattle.capi_figures.specs.Figures.{number, written, answerC, lentC, figuresC, runList, eliminationList}
@@ -56,9 +57,9 @@ module _ (Q : List ℕ) (c : ℕ) (a : EliminationFigures) where
 
 -- ---- the two calls
 
--- The numbering call: lists S and N, numbers X₀, levels L₀ and figures P₀ are lent. It answered 0 and left P, X and L. `c` is its refusal, and X₁
--- and L₁ are the numbers and levels of its definition, of which the claim holds.
-module _ (whole : Run) {result : ℕ → PartResult} (S N X₀ L₀ P₀ P X L : List ℕ) (c : ℕ) (X₁ L₁ : List ℕ) {r : ℕ} (claims : (F : Figures) → outcome c (whole .figures) ≡ accepted F → ClaimAs whole result S N F (take (sizeOf S) X₁) (take (sizeOf S) L₁)) (numbering-answers : r ≡ answerC 7 P₀ (graphRefusal S N) (outcome c (whole .figures))) (numbering-figures : P ≡ figuresC 7 P₀ runList (outcome c (whole .figures))) (numbering-numbers : X ≡ lentC 7 P₀ X₀ X₁) (numbering-levels : L ≡ lentC 7 P₀ L₀ L₁) (accepts : r ≡ 0) where
+-- The numbering call: the two lists S and N and the counts K of unknowns are handed to it; numbers X₀, levels L₀ and figures P₀ are lent. It
+-- answered 0 and left P, X and L. `c` is its refusal, and X₁ and L₁ are the numbers and levels of its definition, of which the claim holds.
+module _ (whole : Run) {result : ℕ → PartResult} (S N K X₀ L₀ P₀ P X L : List ℕ) (c : ℕ) (X₁ L₁ : List ℕ) {r : ℕ} (claims : (F : Figures) → outcome c (whole .figures) ≡ accepted F → ClaimAs whole result S N K F (take (sizeOf S) X₁) (take (sizeOf S) L₁)) (numbering-answers : r ≡ answerC 7 P₀ (graphRefusal S N) (outcome c (whole .figures))) (numbering-figures : P ≡ figuresC 7 P₀ runList (outcome c (whole .figures))) (numbering-numbers : X ≡ lentC 7 P₀ X₀ X₁) (numbering-levels : L ≡ lentC 7 P₀ L₀ L₁) (accepts : r ≡ 0) where
   passed : (short P₀ 7 ≡ false) × (c ≡ 0)
   passed = zero-answer 7 P₀ (graphRefusal S N) c (whole .figures) (sym numbering-answers ∙ accepts)
 
@@ -70,7 +71,7 @@ module _ (whole : Run) {result : ℕ → PartResult} (S N X₀ L₀ P₀ P X L :
   unfolding figuresC written
   figures-are = rw (numbering-figures, passed .0, answer-is) (read-back (whole .figures) P₀)
 
-  numbering-claim : ClaimAs whole result S N (figuresIn P) (take (sizeOf S) X) (take (sizeOf S) L)
+  numbering-claim : ClaimAs whole result S N K (figuresIn P) (take (sizeOf S) X) (take (sizeOf S) L)
   unfolding lentC
   numbering-claim = rw (figures-are, numbering-numbers, numbering-levels, passed .0) (claims (whole .figures) answer-is)
 
@@ -78,14 +79,14 @@ module _ (whole : Run) {result : ℕ → PartResult} (S N X₀ L₀ P₀ P X L :
   Y = take (sizeOf S) X
 
   abbrev h : Graph
-  h = renumbered (graphOf S N) Y
+  h = renumberedUnknowns (graphOf S N) K Y
 
-  -- the elimination by its n numbers, lent C, B and Q₀: it answered s and left Q and B′
-  module _ (C B B′ Q₀ Q : List ℕ) {s : ℕ} (answers : s ≡ answerC 2 Q₀ (graphRefusal S N) (eliminationAnswer S N Y C B)) (figures : Q ≡ figuresC 2 Q₀ eliminationList (eliminationAnswer S N Y C B)) (bytes : B′ ≡ lentC 2 Q₀ B (eliminationBytes S N Y C B)) where
+  -- the elimination by the same counts and its n numbers, lent C, B and Q₀: it answered s and left Q and B′
+  module _ (C B B′ Q₀ Q : List ℕ) {s : ℕ} (answers : s ≡ answerC 2 Q₀ (graphRefusal S N) (eliminationAnswer S N K Y C B)) (figures : Q ≡ figuresC 2 Q₀ eliminationList (eliminationAnswer S N K Y C B)) (bytes : B′ ≡ lentC 2 Q₀ B (eliminationBytes S N K Y C B)) where
     abbrev refusal : ℕ
     refusal = refuse (short C (sizeOf S)) 5 orElse refuse (short B ((figuresIn P .profile + 7) / 8)) 8
 
-    outcome-is : eliminationAnswer S N Y C B ≡ outcome refusal (eliminationFigures h)
+    outcome-is : eliminationAnswer S N K Y C B ≡ outcome refusal (eliminationFigures h)
     outcome-is = numbering-claim .store .refuses C B
 
     refuses : s ≡ (refuse (short Q₀ 2 || short C (sizeOf S)) 5 orElse refuse (short B ((figuresIn P .profile + 7) / 8)) 8)
@@ -96,7 +97,7 @@ module _ (whole : Run) {result : ℕ → PartResult} (S N X₀ L₀ P₀ P X L :
       taken : (short Q₀ 2 ≡ false) × (refusal ≡ 0)
       taken = zero-answer 2 Q₀ (graphRefusal S N) refusal (eliminationFigures h) (rw (← outcome-is) (sym answers ∙ zero-is))
 
-      accepted-is : eliminationAnswer S N Y C B ≡ accepted (eliminationFigures h)
+      accepted-is : eliminationAnswer S N K Y C B ≡ accepted (eliminationFigures h)
       unfolding outcome
       accepted-is = rw (outcome-is, taken .1)
 
@@ -108,18 +109,18 @@ module _ (whole : Run) {result : ℕ → PartResult} (S N X₀ L₀ P₀ P X L :
       unfolding figuresC written
       counts = rw (figures, taken .0, accepted-is)
 
-    two-calls : ClaimedCAs whole result S N P X L C B Q₀ s Q B′
+    two-calls : ClaimedCAs whole result S N K P X L C B Q₀ s Q B′
     two-calls = record { claim = numbering-claim; refuses = refuses; marks = marks; counts = counts }
 
 -- ---- of each order: numbers X₀, levels L₀, passes T₀, scratch W and figures P₀ are lent
 
-module _ (S N X₀ L₀ T₀ W P₀ P X L C B B′ Q₀ Q : List ℕ) {r s : ℕ} (accepts : r ≡ 0) (answers : s ≡ answerC 2 Q₀ (graphRefusal S N) (eliminationAnswer S N (take (sizeOf S) X) C B)) (figures : Q ≡ figuresC 2 Q₀ eliminationList (eliminationAnswer S N (take (sizeOf S) X) C B)) (bytes : B′ ≡ lentC 2 Q₀ B (eliminationBytes S N (take (sizeOf S) X) C B)) where
-  pub run-two-calls : r ≡ answerC 7 P₀ (graphRefusal S N) (runAnswer S N X₀ L₀ T₀ W) → P ≡ figuresC 7 P₀ runList (runAnswer S N X₀ L₀ T₀ W)
-      → X ≡ lentC 7 P₀ X₀ (runNumbers S N X₀ L₀ T₀ W) → L ≡ lentC 7 P₀ L₀ (runLevels S N X₀ L₀ T₀ W) → ClaimedC S N P X L C B Q₀ s Q B′
+module _ (S N K X₀ L₀ T₀ W P₀ P X L C B B′ Q₀ Q : List ℕ) {r s : ℕ} (accepts : r ≡ 0) (answers : s ≡ answerC 2 Q₀ (graphRefusal S N) (eliminationAnswer S N K (take (sizeOf S) X) C B)) (figures : Q ≡ figuresC 2 Q₀ eliminationList (eliminationAnswer S N K (take (sizeOf S) X) C B)) (bytes : B′ ≡ lentC 2 Q₀ B (eliminationBytes S N K (take (sizeOf S) X) C B)) where
+  pub run-two-calls : r ≡ answerC 7 P₀ (graphRefusal S N) (runAnswer S N K X₀ L₀ T₀ W) → P ≡ figuresC 7 P₀ runList (runAnswer S N K X₀ L₀ T₀ W)
+      → X ≡ lentC 7 P₀ X₀ (runNumbers S N K X₀ L₀ T₀ W) → L ≡ lentC 7 P₀ L₀ (runLevels S N K X₀ L₀ T₀ W) → ClaimedC S N K P X L C B Q₀ s Q B′
   unfolding runAnswer
-  run-two-calls a p x l = two-calls (run (graphOf S N)) S N X₀ L₀ P₀ P X L _ _ _ (claim S N X₀ L₀ T₀ W) a p x l accepts C B B′ Q₀ Q answers figures bytes
+  run-two-calls a p x l = two-calls (run (graphOf S N) K) S N K X₀ L₀ P₀ P X L _ _ _ (claim S N K X₀ L₀ T₀ W) a p x l accepts C B B′ Q₀ Q answers figures bytes
 
-  pub cuthill-two-calls : r ≡ answerC 7 P₀ (graphRefusal S N) (cuthillAnswer S N X₀ L₀ T₀ W) → P ≡ figuresC 7 P₀ runList (cuthillAnswer S N X₀ L₀ T₀ W)
-      → X ≡ lentC 7 P₀ X₀ (cuthillNumbers S N X₀ L₀ T₀ W) → L ≡ lentC 7 P₀ L₀ (cuthillLevels S N X₀ L₀ T₀ W) → CuthillClaimedC S N P X L C B Q₀ s Q B′
+  pub cuthill-two-calls : r ≡ answerC 7 P₀ (graphRefusal S N) (cuthillAnswer S N K X₀ L₀ T₀ W) → P ≡ figuresC 7 P₀ runList (cuthillAnswer S N K X₀ L₀ T₀ W)
+      → X ≡ lentC 7 P₀ X₀ (cuthillNumbers S N K X₀ L₀ T₀ W) → L ≡ lentC 7 P₀ L₀ (cuthillLevels S N K X₀ L₀ T₀ W) → CuthillClaimedC S N K P X L C B Q₀ s Q B′
   unfolding cuthillAnswer
-  cuthill-two-calls a p x l = two-calls (cuthillRun (graphOf S N)) S N X₀ L₀ P₀ P X L _ _ _ (cuthill-claim S N X₀ L₀ T₀ W) a p x l accepts C B B′ Q₀ Q answers figures bytes
+  cuthill-two-calls a p x l = two-calls (cuthillRun (graphOf S N) K) S N K X₀ L₀ P₀ P X L _ _ _ (cuthill-claim S N K X₀ L₀ T₀ W) a p x l accepts C B B′ Q₀ Q answers figures bytes

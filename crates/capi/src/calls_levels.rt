@@ -4,18 +4,13 @@ ghost use Rattle.basis.specs.Moments.{was, left};
 ghost use Rattle.spec.specs.CallsLevels.{adjacencyAnswer, rootedAnswer, rootedLevels, rootedSizes, endsAnswer, endsScratch, combinedAnswer, combinedLevels, combinedScratch};
 ghost use Rattle.spec.specs.Graph.{graphRefusal};
 ghost use Rattle.capi_figures.specs.Figures.{number, answerC, lentC, figuresC, rootedList, endsList, combinedList};
-use crate::lists::lists_refusal;
-use capi_figures::legal::put_combined;
-use capi_figures::legal::put_ends;
-use capi_figures::legal::put_rooted;
-use capi_figures::or_five;
 
 // Whether the two lists are a legal graph. No figures.
 #[no_mangle]
 pub extern "C" fn wagonepoch_test_adjacency(starts: &[u16], neighbours: &[u16]) -> u16
     ensures { λ r. ⌜ r ≡ number (adjacencyAnswer (was starts) (was neighbours)) ⌝ }
 {
-    lists_refusal(starts, neighbours)
+    capi_levels::lists::lists_refusal(starts, neighbours)
 }
 
 // Rooted levels and their sizes. Figures: depth, width, count reached.
@@ -33,13 +28,7 @@ pub extern "C" fn wagonepoch_rooted_levels(
     ensures { λ _. ⌜ left levels ≡ lentC 3 (was figures) (was levels) (rootedLevels (was starts) (was neighbours) root (was levels) (was sizes)) ⌝ }
     ensures { λ _. ⌜ left sizes ≡ lentC 3 (was figures) (was sizes) (rootedSizes (was starts) (was neighbours) root (was levels) (was sizes)) ⌝ }
 {
-    if figures.len() < 3 {
-        return or_five(lists_refusal(starts, neighbours));
-    }
-    put_rooted(
-        levels::rooted_levels(starts, neighbours, root, levels, sizes),
-        figures,
-    )
+    capi_levels::calls_levels::rooted_levels(starts, neighbours, root, levels, sizes, figures)
 }
 
 // The ends of a part. Figures: v, u, k, the width at v, the width at u, passes.
@@ -55,10 +44,7 @@ pub extern "C" fn wagonepoch_ends(
     ensures { λ _. ⌜ left figures ≡ figuresC 6 (was figures) endsList (endsAnswer (was starts) (was neighbours) node (was scratch)) ⌝ }
     ensures { λ _. ⌜ left scratch ≡ lentC 6 (was figures) (was scratch) (endsScratch (was starts) (was neighbours) node (was scratch)) ⌝ }
 {
-    if figures.len() < 6 {
-        return or_five(lists_refusal(starts, neighbours));
-    }
-    put_ends(levels::ends(starts, neighbours, node, scratch), figures)
+    capi_levels::calls_levels::ends(starts, neighbours, node, scratch, figures)
 }
 
 // The combined levels of a part. Figures: k, the greatest level count.
@@ -76,11 +62,5 @@ pub extern "C" fn wagonepoch_combined_levels(
     ensures { λ _. ⌜ left levels ≡ lentC 2 (was figures) (was levels) (combinedLevels (was starts) (was neighbours) node (was levels) (was scratch)) ⌝ }
     ensures { λ _. ⌜ left scratch ≡ lentC 2 (was figures) (was scratch) (combinedScratch (was starts) (was neighbours) node (was levels) (was scratch)) ⌝ }
 {
-    if figures.len() < 2 {
-        return or_five(lists_refusal(starts, neighbours));
-    }
-    put_combined(
-        levels::combined_levels(starts, neighbours, node, levels, scratch),
-        figures,
-    )
+    capi_levels::calls_levels::combined_levels(starts, neighbours, node, levels, scratch, figures)
 }

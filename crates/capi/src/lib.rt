@@ -6,4 +6,3 @@ mod calls_levels;
 mod calls_mesh;
 mod calls_numbering;
 mod calls_store;
-mod lists;

@@ -9,7 +9,7 @@ ghost use Rattle.numbering_measures.specs.Answer.{meaning as measuresMeaning};
 ghost use Rattle.mesh.specs.Answer.{meaning as meshMeaning};
 ghost use Rattle.numbering.specs.Answer.{meaning as runMeaning};
 ghost use Rattle.numbering_report.specs.Answers.{directionMeaning, answerMeaning};
-ghost use Rattle.store.specs.Answer.{meaning as eliminationMeaning};
+ghost use Rattle.store_elimination.specs.Answer.{meaning as eliminationMeaning};
 ghost use Rattle.capi_figures.specs.Figures.{number, written, rootedList, endsList, combinedList, measuresList, directionNumber, reportList, runList, eliminationList, meshList};
 use crate::list::count;
 use crate::list::put;
@@ -22,7 +22,7 @@ use numbering::answer::RunAnswer;
 use numbering_measures::MeasuresAnswer;
 use numbering_report::answer::Direction;
 use numbering_report::answer::ReportAnswer;
-use store::Elimination;
+use store_elimination::Elimination;
 
 // Rooted levels: depth, width, count reached.
 pub fn put_rooted(answer: RootedAnswer, list: &mut [u64]) -> u16

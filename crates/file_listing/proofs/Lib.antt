@@ -1,3 +1,3 @@
 pub mod Accepted
 pub mod Output
-pub mod Texts
+pub mod Refused

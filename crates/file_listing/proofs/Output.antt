@@ -11,53 +11,39 @@ use borrow.Author.Tests.{le-leb}
 use Rattle.basis.specs.Lists.{overwrite}
 use Rattle.spec.specs.Graph.{Graph, maxNodes}
 use Rattle.spec.specs.Numbering.{run}
-use Rattle.spec.specs.Refusal.{_orElse_}
-use Rattle.spec.specs.File.{fileNodes, fileGraph, headerRefusal, bodyRefusal, fileRefusal, refusedLine, listing, output, programOutput}
-use Rattle.laws.proofs.Refused.{or-else-first}
+use Rattle.spec.specs.File.{fileNodes, fileCounts, fileGraph, fileRefusal, refusedLine, listing, output, programOutput}
 use Rattle.file_reading.proofs.Files.{file-refusal-most}
 use Rattle.file_writing.specs.Listed.{outputRoom}
 use Rattle.file_writing.proofs.Decimals.{four-digits}
 use Rattle.file_writing.proofs.Fits.{listing-fits}
 use Rattle.file_writing.proofs.Refusals.{refused-length}
-use Rattle.file_listing.proofs.Accepted.{mesh-is-legal, size-is, nodes-few}
+use Rattle.file_listing.proofs.Accepted.{mesh-is-legal, size-is, nodes-few, counts-of-nodes}
 
 module _ (file : List ℕ) where
-  -- ---- the refusal
-
-  -- by the header
-  pub by-header : {c : ℕ} → c ≡ headerRefusal file → 1 ≤ c → fileRefusal file ≡ c
-  unfolding fileRefusal
-  by-header {c} e some = ap (λ (x : ℕ). x orElse bodyRefusal file) (sym e) ∙ or-else-first c (bodyRefusal file) some
-
-  -- by what follows it
-  pub by-body : {A : Type 0} (f : ℕ → A) {x : A} → headerRefusal file ≡ 0 → x ≡ f (bodyRefusal file) → x ≡ f (fileRefusal file)
-  unfolding fileRefusal
-  by-body f good e = e ∙ ap (λ (h : ℕ). f (h orElse bodyRefusal file)) (sym good)
-
   -- ---- the text
 
   of-refused : {c : ℕ} → fileRefusal file ≡ c → 1 ≤ c → programOutput file ≡ refusedLine c
   unfolding programOutput output
-  of-refused {c} e some = ap (λ (r : ℕ). output r (fileGraph file)) e ∙ line c some
+  of-refused {c} e some = ap (λ (r : ℕ). output r (fileGraph file) (fileCounts file)) e ∙ line c some
     where
-      line : (d : ℕ) → 1 ≤ d → output d (fileGraph file) ≡ refusedLine d
+      line : (d : ℕ) → 1 ≤ d → output d (fileGraph file) (fileCounts file) ≡ refusedLine d
       line zero h = absurd (omega arith)
       line (suc d) h = refl
 
-  of-accepted : fileRefusal file ≡ 0 → programOutput file ≡ listing (fileGraph file) (run (fileGraph file))
+  of-accepted : fileRefusal file ≡ 0 → programOutput file ≡ listing (fileGraph file) (run (fileGraph file) (fileCounts file))
   unfolding programOutput output
-  of-accepted e = ap (λ (r : ℕ). output r (fileGraph file)) e
+  of-accepted e = ap (λ (r : ℕ). output r (fileGraph file) (fileCounts file)) e
 
   -- ---- its length
 
-  by-refusal : (m : ℕ) → (fileRefusal file ≡ 0 → fileNodes file ≤ m) → (c : ℕ) → fileRefusal file ≡ c → length (output c (fileGraph file)) ≤ outputRoom m
+  by-refusal : (m : ℕ) → (fileRefusal file ≡ 0 → fileNodes file ≤ m) → (c : ℕ) → fileRefusal file ≡ c → length (output c (fileGraph file) (fileCounts file)) ≤ outputRoom m
   unfolding output
   by-refusal m h zero e =
       let n = size-is file e in
-      omega (arith, n, h e, listing-fits (mesh-is-legal file e) (omega (arith, n, nodes-few file e)))
+      omega (arith, n, h e, listing-fits (mesh-is-legal file e) (fileCounts file) (omega (arith, n, nodes-few file e)) (counts-of-nodes file e))
   by-refusal m h (suc c) e = omega (arith, refused-length (suc c), four-digits (suc c) (omega (arith, e, file-refusal-most file)))
 
-  -- 99 + 15m bytes hold what is printed of a file of at most m nodes, a refusal's line too
+  -- 104 + 15m bytes hold what is printed of a file of at most m nodes, a refusal's line too
   pub bytes-suffice : (m : ℕ) → (fileRefusal file ≡ 0 → fileNodes file ≤ m) → length (programOutput file) ≤ outputRoom m
   unfolding programOutput
   bytes-suffice m h = by-refusal m h (fileRefusal file) refl
@@ -81,10 +67,10 @@ module _ (file : List ℕ) where
       record { bytes-are = bytes ∙ rw (fits, t); output-is = written ∙ rw (fits, t) }
 
   -- the listing of its graph
-  pub listing-written : {r : ℕ} {g : Graph} {O X : List ℕ} → fileRefusal file ≡ 0 → g ≡ fileGraph file
-      → r ≡ length (listing g (run g)) → X ≡ overwrite (listing g (run g)) O → Written r O X
-  listing-written {r} {g} {O} {X} e same bytes written =
-      let t : listing g (run g) ≡ programOutput file = ap (λ (h : Graph). listing h (run h)) same ∙ sym (of-accepted e) in
+  pub listing-written : {r : ℕ} {g : Graph} {K O X : List ℕ} → fileRefusal file ≡ 0 → g ≡ fileGraph file → K ≡ fileCounts file
+      → r ≡ length (listing g (run g K)) → X ≡ overwrite (listing g (run g K)) O → Written r O X
+  listing-written {r} {g} {K} {O} {X} e same counts bytes written =
+      let t : listing g (run g K) ≡ programOutput file = ap₂ (λ (h : Graph) (k : List ℕ). listing h (run h k)) same counts ∙ sym (of-accepted e) in
       record { bytes-are = bytes ∙ ap length t; output-is = written ∙ ap (λ (u : List ℕ). overwrite u O) t }
 
   -- so the first r bytes are what is printed

@@ -4,22 +4,15 @@ use Prim.Native.Nat.{ℕ, _*_, _≤_, _<_}
 use lib.ListN.{length}
 use Rattle.spec.specs.Graph.{maxNodes, maxEntries}
 use Rattle.spec.specs.Lent.{wordsPerNode}
-use Rattle.file_writing.specs.Listed.{outputRoom}
 
 -- the most words that a file can have after its header of 9 bytes
 abbrev pub maxWords : ℕ
 maxWords = 32763
 
 -- for the lists that a file is read to, and the scratch of its run
-pub record ReadingRoom (words starts neighbours scratch : List ℕ) : Type 0 where
+pub record ReadingRoom (words starts neighbours scratch counts : List ℕ) : Type 0 where
   pub words-fit : maxWords ≤ length words
   pub starts-fit : maxNodes < length starts
   pub neighbours-fit : maxEntries ≤ length neighbours
   pub scratch-fits : wordsPerNode * maxNodes ≤ length scratch
-
--- for the numbers and levels of its nodes, the passes of its parts, and its text
-pub record TextRoom (numbers levels passes output : List ℕ) : Type 0 where
-  pub numbers-fit : maxNodes ≤ length numbers
-  pub levels-fit : maxNodes ≤ length levels
-  pub passes-fit : maxNodes ≤ length passes
-  pub output-fits : outputRoom maxNodes ≤ length output
+  pub counts-fit : maxNodes ≤ length counts

@@ -1,17 +1,15 @@
 -- The words of a file, byte by byte. Assumes nothing.
 use mathlib.Core.Path.{_≡_, refl, sym, ap, ap₂, _∙_}
-use mathlib.Core.List.{List, [], _∷_, _++_}
+use mathlib.Core.List.{List, [], _∷_}
 use Prim.Native.Nat.{ℕ, zero, suc, _+_, _*_, _-_, _/_, _≤_, _<_}
-use native.Mathlib.Nat.{zero-add}
 use native.Mathlib.Omega.{arith}
-use lib.ListN.{length, getD, take, drop, length-drop}
+use lib.ListN.{length, getD, drop, length-drop}
 use lib.Dec.{eqb, ltb}
 use borrow.Author.Tests.{ltb-false}
 use mathlib.Core.Bool.{false, not, _||_}
 use Rattle.basis.proofs.Logic.{or-none}
-use lib.Seq.{take-length, getD-drop, drop-drop, paste}
-use Rattle.basis.specs.Lists.{overwrite}
-use Rattle.spec.specs.File.{word, wordsOf, fileWords, fileVersion, fileNodes, fileElements, body, hasMark, badHeader}
+use lib.Seq.{getD-drop, drop-drop}
+use Rattle.spec.specs.File.{word, wordsOf, fileWords, fileVersion, fileNodes, fileElements, bodyWords, countWords, body, hasMark, badHeader}
 
 -- ---- words of bytes
 
@@ -59,29 +57,29 @@ module _ (bs : List ℕ) (h : 9 ≤ length bs) where
 
 -- ---- the words after the header
 
-body-is : (bs : List ℕ) → body bs ≡ wordsOf (drop 9 bs)
-unfolding body fileWords
-body-is bs =
+words-are : (bs : List ℕ) → bodyWords bs ≡ wordsOf (drop 9 bs)
+unfolding bodyWords fileWords
+words-are bs =
     sym (drop-drop 1 2 (wordsOf (drop 3 bs)))
     ∙ ap (drop 1) (sym (drop-drop 1 1 (wordsOf (drop 3 bs))) ∙ ap (drop 1) (words-tail (drop 3 bs)) ∙ words-tail (drop 2 (drop 3 bs)))
     ∙ words-tail (drop 2 (drop 2 (drop 3 bs)))
     ∙ ap wordsOf (ap (λ (l : List ℕ). drop 2 (drop 2 l)) (drop-drop 2 3 bs) ∙ ap (drop 2) (drop-drop 2 5 bs) ∙ drop-drop 2 7 bs)
 
-pub body-length : (bs : List ℕ) → length (body bs) ≡ (length bs - 9) / 2
-body-length bs = ap length (body-is bs) ∙ words-length (drop 9 bs) ∙ ap (λ (n : ℕ). n / 2) (length-drop 9 bs)
+pub all-words : (bs : List ℕ) → length (bodyWords bs) ≡ (length bs - 9) / 2
+all-words bs = ap length (words-are bs) ∙ words-length (drop 9 bs) ∙ ap (λ (n : ℕ). n / 2) (length-drop 9 bs)
 
-pub body-at : (bs : List ℕ) (i : ℕ) → i < length (body bs) → getD (body bs) i 0 ≡ word (getD bs (9 + 2 * i) 0) (getD bs (9 + 2 * i + 1) 0)
-body-at bs i h =
-    let l : i + i + 1 < length (drop 9 bs) = omega (arith, body-length bs, length-drop 9 bs) in
+pub word-is : (bs : List ℕ) (i : ℕ) → i < length (bodyWords bs) → getD (bodyWords bs) i 0 ≡ word (getD bs (9 + 2 * i) 0) (getD bs (9 + 2 * i + 1) 0)
+word-is bs i h =
+    let l : i + i + 1 < length (drop 9 bs) = omega (arith, all-words bs, length-drop 9 bs) in
     let e : 9 + (i + i) ≡ 9 + 2 * i = omega arith in
     let f : 9 + (i + i + 1) ≡ 9 + 2 * i + 1 = omega arith in
-    ap (λ (w : List ℕ). getD w i 0) (body-is bs) ∙ words-at (drop 9 bs) i l
+    ap (λ (w : List ℕ). getD w i 0) (words-are bs) ∙ words-at (drop 9 bs) i l
     ∙ ap₂ word (getD-drop 9 bs (i + i) 0 ∙ ap (λ (k : ℕ). getD bs k 0) e) (getD-drop 9 bs (i + i + 1) 0 ∙ ap (λ (k : ℕ). getD bs k 0) f)
 
--- a list copied whole to the front of another
-pub pasted : (d s : List ℕ) (n : ℕ) → n ≡ length s → paste d 0 s n ≡ overwrite s d
-pasted d s n e =
-    ap (λ (k : ℕ). take k s ++ drop (0 + k) d) e ∙ ap₂ _++_ (take-length s) (ap (λ (k : ℕ). drop k d) (zero-add (length s)))
+-- those behind the counts
+pub body-length : (bs : List ℕ) → length (body bs) ≡ (length bs - 9) / 2 - countWords bs
+unfolding body
+body-length bs = length-drop (countWords bs) (bodyWords bs) ∙ ap (λ (n : ℕ). n - countWords bs) (all-words bs)
 
 -- ---- tests of the header
 
@@ -89,7 +87,7 @@ pasted d s n e =
 pub header-whole : (bs : List ℕ) → badHeader bs ≡ false → (9 ≤ length bs) × (length bs ≤ 65535)
 unfolding badHeader
 header-whole bs e =
-    let a = or-none (ltb 65535 (length bs) || ltb (length bs) 9 || not (hasMark bs)) (not (eqb (fileVersion bs) 1)) e .0 in
+    let a = or-none (ltb 65535 (length bs) || ltb (length bs) 9 || not (hasMark bs)) (not (eqb (fileVersion bs) 1 || eqb (fileVersion bs) 2)) e .0 in
     let b = or-none (ltb 65535 (length bs) || ltb (length bs) 9) (not (hasMark bs)) a .0 in
     let c = or-none (ltb 65535 (length bs)) (ltb (length bs) 9) b in
     (ltb-false (length bs) 9 (c .1), ltb-false 65535 (length bs) (c .0))

@@ -1,19 +1,19 @@
--- What a file is refused by after its header, test by test, and its graph. Assumes nothing.
+-- What a file is refused by after its header and its counts, test by test, and its graph. Assumes nothing.
 use mathlib.Core.Path.{_≡_, sym, ap, _∙_, subst}
-use mathlib.Core.Bool.{Bool, false}
+use mathlib.Core.Bool.{Bool, true, false}
 use mathlib.Core.List.{List, [], _∷_}
-use Prim.Native.Nat.{ℕ, zero, suc, _+_, _*_, _≤_, _<_}
+use Prim.Native.Nat.{ℕ, zero, suc, _+_, _*_, _≤_}
 use native.Mathlib.Omega.{arith}
 use lib.ListN.{length, take, drop}
 use lib.Dec.{eqb, ltb}
-use borrow.Author.Tests.{lt-ltb, le-ltb, ltb-false}
+use borrow.Author.Tests.{ltb-false}
 use Rattle.basis.proofs.Logic.{or-none}
 use Rattle.spec.specs.Refusal.{refuse, _orElse_}
 use Rattle.spec.specs.Lent.{refused, accepted, outcome}
 use Rattle.spec.specs.Graph.{Graph, badSize}
 use Rattle.spec.specs.Mesh.{nodeCount, badNodes, elementRefusal, elementsRefusal, meshGraph, refuses11}
 use Rattle.spec.specs.CallsMesh.{graphOfElements}
-use Rattle.spec.specs.File.{fileNodes, fileElements, body, badHeader, countedRefusal, wordsTaken, leftOver, fileGraph, headerRefusal, bodyRefusal, fileRefusal}
+use Rattle.spec.specs.File.{fileNodes, fileElements, countWords, body, badHeader, cutCounts, badFileCounts, countedRefusal, wordsTaken, leftOver, fileGraph, headerRefusal, countsRefusal, bodyRefusal, fileRefusal}
 use Rattle.laws.proofs.Lent.{outcome-accepted, outcome-refused, answer-refused}
 use Rattle.laws.proofs.Refused.{or-else-zero, refuse-zero, or-else-first, or-else-has, refuse-has}
 use Rattle.mesh_elements.proofs.Elements.{in-order}
@@ -67,14 +67,14 @@ module _ (bs : List ℕ) where
     taken-small = omega (arith, both .1, taken-most (fileElements bs) (fileNodes bs) (body bs) (both .0))
 
     -- bytes are left over
-    pub by-left : 9 + 2 * t < length bs → refused 12 ≡ outcome (wordsRefusal bs) (length (body bs))
+    pub by-left : ltb (9 + 2 * countWords bs + 2 * t) (length bs) ≡ true → refused 12 ≡ outcome (wordsRefusal bs) (length (body bs))
     unfolding wordsRefusal leftOver outcome
-    by-left h = rw (both .0, lt-ltb (9 + 2 * taken) (length bs) (omega (arith, both .1)))
+    by-left h = rw (both .0, both .1, h)
 
     -- none are
-    pub by-none : length bs ≤ 9 + 2 * t → accepted (length (body bs)) ≡ outcome (wordsRefusal bs) (length (body bs))
+    pub by-none : ltb (9 + 2 * countWords bs + 2 * t) (length bs) ≡ false → accepted (length (body bs)) ≡ outcome (wordsRefusal bs) (length (body bs))
     unfolding wordsRefusal leftOver outcome
-    by-none h = rw (both .0, le-ltb (9 + 2 * taken) (length bs) (omega (arith, both .1)))
+    by-none h = rw (both .0, both .1, h)
 
 -- ---- after the words: 11 or none
 
@@ -112,15 +112,22 @@ module _ (bs : List ℕ) where
   unfolding bodyRefusal wordsRefusal
   body-split = sym (in-order (countedRefusal (fileElements bs) (fileNodes bs) (body bs)) (refuse (leftOver bs) 12) (refuse (refuses11 (fileGraph bs)) 11))
 
-  -- the table ends with 12
-  pub file-refusal-most : fileRefusal bs ≤ 12
-  unfolding fileRefusal headerRefusal
+  -- no number of the program's is above 15
+  pub file-refusal-most : fileRefusal bs ≤ 15
+  unfolding fileRefusal headerRefusal countsRefusal
   file-refusal-most =
-      let P : ℕ → Type 0 = λ c. c ≤ 12 in
+      let P : ℕ → Type 0 = λ c. c ≤ 15 in
       let eleven : ℕ = refuse (refuses11 (fileGraph bs)) 11 in
-      let header : P (refuse (badHeader bs) 12 orElse refuse (badSize (fileNodes bs)) 1) = or-else-has P (refuse (badHeader bs) 12) (refuse (badSize (fileNodes bs)) 1) (told (badHeader bs) 12 (omega arith) (λ e. omega arith) .most) (told (badSize (fileNodes bs)) 1 (omega arith) (λ e. omega arith) .most) in
-      let whole : P (wordsRefusal bs orElse eleven) = or-else-has P (wordsRefusal bs) eleven (words-told .most) (refuse-has P (refuses11 (fileGraph bs)) 11 (omega arith) (omega arith)) in
-      or-else-has P (refuse (badHeader bs) 12 orElse refuse (badSize (fileNodes bs)) 1) (bodyRefusal bs) header (subst P (sym body-split) whole)
+      let one : ℕ = refuse (badSize (fileNodes bs)) 1 in
+      let header : P (refuse (badHeader bs) 12 orElse one) = or-else-has P (refuse (badHeader bs) 12) one (few (badHeader bs) 12 (omega arith)) (few (badSize (fileNodes bs)) 1 (omega arith)) in
+      let fifteen : ℕ = refuse (badFileCounts bs) 15 in
+      let counts : P (refuse (cutCounts bs) 12 orElse fifteen) = or-else-has P (refuse (cutCounts bs) 12) fifteen (few (cutCounts bs) 12 (omega arith)) (few (badFileCounts bs) 15 (omega arith)) in
+      let whole : P (wordsRefusal bs orElse eleven) = or-else-has P (wordsRefusal bs) eleven (omega (arith, words-told .most)) (few (refuses11 (fileGraph bs)) 11 (omega arith)) in
+      or-else-has P (refuse (badHeader bs) 12 orElse one) ((refuse (cutCounts bs) 12 orElse fifteen) orElse bodyRefusal bs) header
+      (or-else-has P (refuse (cutCounts bs) 12 orElse fifteen) (bodyRefusal bs) counts (subst P (sym body-split) whole))
+    where
+      few : (b : Bool) (c : ℕ) → c ≤ 15 → refuse b c ≤ 15
+      few b c h = refuse-has (λ d. d ≤ 15) b c h (omega arith)
 
   -- the words are refused, so the file is, by the same number
   pub words-refused : (r : ℕ) → refused r ≡ outcome (wordsRefusal bs) (length (body bs)) → (bodyRefusal bs ≡ r) × (1 ≤ r) × (r ≡ 11 → ⊥)
@@ -145,7 +152,7 @@ module _ (bs : List ℕ) where
     every : wordsTaken (fileElements bs) (body bs) ≡ length (body bs)
     unfolding leftOver
     every =
-        let l = ltb-false (9 + 2 * wordsTaken (fileElements bs) (body bs)) (length bs) (parts .1) in
+        let l = ltb-false (9 + 2 * countWords bs + 2 * wordsTaken (fileElements bs) (body bs)) (length bs) (parts .1) in
         omega (arith, l, body-length bs, taken-most (fileElements bs) (fileNodes bs) (body bs) (parts .0))
 
     -- the elements are those of the word list

@@ -43,5 +43,9 @@ pub(crate) fn bad_header(file: &[u8]) -> bool
     if !has_mark(file) {
         return true;
     }
-    word_at(file, 3) != 1
+    let version = word_at(file, 3);
+    if version == 1 {
+        return false;
+    }
+    version != 2
 }

@@ -1,18 +1,22 @@
-// Functions that ask for a header that is not refused, and room.
+// Functions that ask for a header that is not refused, and room; those of the elements, for counts that are not.
 ghost use mathlib.Core.Path.{_≡_};
 ghost use mathlib.Core.Bool.{_||_};
-ghost use Prim.Native.Nat.{_≤_, _<_};
+ghost use Prim.Native.Nat.{_+_, _*_, _≤_, _<_};
 ghost use lib.ListN.{length};
-ghost use lib.Dec.{eqb};
+ghost use lib.Dec.{eqb, ltb};
 ghost use Rattle.basis.specs.Lists.{overwrite};
 ghost use Rattle.basis.specs.Moments.{was, left};
 ghost use Rattle.spec.specs.Lent.{outcome, filled, scratchAfter};
 ghost use Rattle.spec.specs.Mesh.{entryCount, startList, neighbourList};
-ghost use Rattle.spec.specs.File.{fileNodes, body, countedRefusal, wordsTaken, fileGraph, headerRefusal, bodyRefusal};
+ghost use Rattle.spec.specs.File.{headerSize, fileNodes, countWords, body, countedRefusal, wordsTaken, fileGraph, headerRefusal, countsRefusal, bodyRefusal};
 ghost use Rattle.mesh.specs.Answer.{meaning};
 ghost use Rattle.file_reading.specs.Answer.{tested};
 ghost use Rattle.file_reading.specs.Words.{wordsRefusal};
+
+pub mod counts;
+
 use crate::answer::Tested;
+use crate::legal::counts::count_words;
 use mesh::Entries;
 
 // n, the number of nodes.
@@ -21,21 +25,6 @@ pub fn nodes(file: &[u8]) -> usize
     ensures { λ r. ⌜ r ≡ fileNodes (was file) ⌝ }
 {
     graph_words::wide(crate::header::word_at(file, 5))
-}
-
-// Writes the words after the header to the front of the list, and returns how many there are.
-fn decode(file: &[u8], list: &mut [u16]) -> usize
-    requires { ⌜ (9 ≤ length (now file)) × (length (body (now file)) ≤ length (now list)) ⌝ }
-    ensures { λ r. ⌜ r ≡ length (body (was file)) ⌝ }
-    ensures { λ _. ⌜ left list ≡ overwrite (body (was file)) (was list) ⌝ }
-{
-    let count = (file.len() - 9) / 2;
-    let mut i = 0;
-    while i < count {
-        list[i] = crate::header::word_at(file, 9 + 2 * i);
-        i += 1;
-    }
-    count
 }
 
 // Tests `count` elements of a file of n nodes, one by one: how many words they take, or the refusal: 9, 10, or 12 for a record that
@@ -60,10 +49,31 @@ fn test_elements(count: usize, n: usize, list: &[u16]) -> Tested
     Tested::Taken(at)
 }
 
-// Decodes the words after the header and tests the elements in them: how many words there are, all of them taken, or the refusal:
+// Writes the words of the elements, those behind the counts, to the front of the list, and returns how many there are.
+fn decode(file: &[u8], list: &mut [u16]) -> usize
+    requires { ⌜ (headerRefusal (now file) ≡ 0) × (countsRefusal (now file) ≡ 0) × (length (body (now file)) ≤ length (now list)) ⌝ }
+    ensures { λ r. ⌜ r ≡ length (body (was file)) ⌝ }
+    ensures { λ _. ⌜ left list ≡ overwrite (body (was file)) (was list) ⌝ }
+{
+    let from = count_words(file);
+    let count = crate::words::size(file) - from;
+    crate::words::copy(file, from, count, list);
+    count
+}
+
+// Whether bytes are left over behind the header, the counts and `taken` words of elements.
+fn left_over(file: &[u8], taken: usize) -> bool
+    requires { ⌜ (headerRefusal (now file) ≡ 0) × (taken ≤ length (body (now file))) ⌝ }
+    ensures { λ r. ⌜ r ≡ ltb (headerSize + 2 * countWords (was file) + 2 * taken) (length (was file)) ⌝ }
+{
+    let from = count_words(file);
+    9 + 2 * from + 2 * taken < file.len()
+}
+
+// Decodes the words of the elements and tests the elements in them: how many words there are, all of them taken, or the refusal:
 // "bytes left over once all elements pass" are 12.
 fn read_elements(file: &[u8], list: &mut [u16]) -> Tested
-    requires { ⌜ (headerRefusal (now file) ≡ 0) × (length (body (now file)) ≤ length (now list)) ⌝ }
+    requires { ⌜ (headerRefusal (now file) ≡ 0) × (countsRefusal (now file) ≡ 0) × (length (body (now file)) ≤ length (now list)) ⌝ }
     ensures { λ r. ⌜ tested r ≡ outcome (wordsRefusal (was file)) (length (body (was file))) ⌝ }
     ensures { λ _. ⌜ left list ≡ overwrite (body (was file)) (was list) ⌝ }
 {
@@ -74,7 +84,7 @@ fn read_elements(file: &[u8], list: &mut [u16]) -> Tested
     match answer {
         Tested::Refused(number) => Tested::Refused(number),
         Tested::Taken(taken) => {
-            if 9 + 2 * taken < file.len() {
+            if left_over(file, taken) {
                 Tested::Refused(12)
             } else {
                 Tested::Taken(size)
@@ -91,7 +101,7 @@ pub fn read_mesh(
     neighbours: &mut [u16],
     scratch: &mut [u16],
 ) -> Entries
-    requires { ⌜ (headerRefusal (now file) ≡ 0) × (length (body (now file)) ≤ length (now list)) ⌝ }
+    requires { ⌜ (headerRefusal (now file) ≡ 0) × (countsRefusal (now file) ≡ 0) × (length (body (now file)) ≤ length (now list)) ⌝ }
     requires { ⌜ (fileNodes (now file) < length (now starts)) × (32768 ≤ length (now neighbours)) × (fileNodes (now file) ≤ length (now scratch)) ⌝ }
     ensures { λ r. ⌜ meaning r ≡ outcome (bodyRefusal (was file)) (entryCount (fileGraph (was file))) ⌝ }
     ensures { λ _. ⌜ left list ≡ overwrite (body (was file)) (was list) ⌝ }

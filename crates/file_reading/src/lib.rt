@@ -1,4 +1,4 @@
-// A file's bytes, read to the two lists of its mesh: header, words, elements, then the adjacency.
+// A file's bytes, read to its counts of unknowns and the two lists of its mesh: header, counts, elements, then the adjacency.
 ghost use mathlib.Core.Path.{_≡_};
 ghost use Rattle.basis.specs.Moments.{was};
 ghost use Rattle.spec.specs.File.{headerRefusal};
@@ -6,8 +6,9 @@ ghost use Rattle.spec.specs.File.{headerRefusal};
 mod answer;
 mod header;
 pub mod legal;
+mod words;
 
-// What a file is refused by before its elements are looked at, 12 or 1, or 0: "length, mark and version for 12 first, then 1".
+// What a file is refused by before its counts are looked at, 12 or 1, or 0: "length, mark and version for 12 first, then 1".
 pub fn header_refusal(file: &[u8]) -> u16
     ensures { λ r. ⌜ r ≡ headerRefusal (was file) ⌝ }
 {

@@ -1,25 +1,26 @@
--- How large the figures, numbers, levels and passes of a run are: of n nodes, all but the profile are at most n. Assumes nothing.
+-- How large the figures, numbers, levels and passes of a run are: of n nodes at most n; width, bandwidth and front at most as many as there are
+-- unknowns, 24,576, and the profile at most their square. Assumes nothing.
 use mathlib.Core.Path.{_≡_, refl, sym, ap}
-use mathlib.Core.Bool.{Bool, true}
+use mathlib.Core.Bool.{Bool, true, false}
 use mathlib.Core.List.{List, [], _∷_, map}
-use Prim.Native.Nat.{ℕ, _-_, _≤_}
+use Prim.Native.Nat.{ℕ, _*_, _≤_}
+use native.Mathlib.Nat.{mul-le-mul}
 use native.Mathlib.Omega.{arith}
 use lib.ListN.{length, length-append, length-map}
 use lib.Dec.{eqb, ltb}
-use Rattle.basis.specs.Lists.{memb, upFrom, joinAll, greatest, sum}
+use Rattle.basis.specs.Lists.{memb, joinAll, greatest, sum}
 use Rattle.basis.proofs.Count.{all-stand, length-filter, count-length}
 use Rattle.basis.proofs.Index.{greatest-le}
 use Rattle.basis.proofs.Lists.{memb-map, map-map}
 use Rattle.basis.proofs.Logic.{or-left, or-right, eqb-self}
 use Rattle.basis.proofs.Perm.{perm-length}
-use Rattle.spec.specs.Combined.{countAt, widthOf}
 use Rattle.spec.specs.Ends.{ends}
 use Rattle.spec.specs.Graph.{Graph, nodes, ofNode}
 use Rattle.spec.specs.Levels.{levels, levelOf, part, leaders, parts}
-use Rattle.spec.specs.Measures.{renumbered, frontAt, fronts, front}
+use Rattle.spec.specs.Measures.{frontAt, fronts, front}
 use Rattle.spec.specs.Numbering.{partLevels, partResultBy, partResult, partResults, figuresOf, runOf, run}
+use Rattle.spec.specs.Unknowns.{badCounts, renumberedUnknowns}
 use Rattle.laws.specs.Legal.{Node, LegalGraph}
-use Rattle.laws.proofs.ByTest.{renumbered-legal}
 use Rattle.laws.proofs.Ends.{ends-of}
 use Rattle.laws.proofs.Legal.{length-nodes}
 use Rattle.laws.proofs.Levels.{part-self}
@@ -27,21 +28,22 @@ use Rattle.laws.proofs.Measures.{bandwidth-le}
 use Rattle.laws.proofs.Named.{part-levels}
 use Rattle.laws.proofs.Parts.{leaders-in, parts-perm}
 use Rattle.laws.proofs.Passes.{leaders-most, passes-sum}
-use Rattle.laws.proofs.Renumber.{number-node, renumbered-size}
-use Rattle.laws.proofs.ResultLevels.{depth-of}
-use Rattle.laws.proofs.RunLevels.{width-of, run-level}
+use Rattle.laws.proofs.Renumber.{number-node}
+use Rattle.laws.proofs.RunLevels.{depth-of, width-of, run-level}
+use Rattle.laws.proofs.UnknownBounds.{counts-size, unknowns-most, renumbered-unknowns-size, unknown-width-few, profile-most}
+use Rattle.laws.proofs.Unknowns.{renumbered-unknowns-legal}
 use Rattle.laws.proofs.Whole.{run-numbering, run-measured-bandwidth, run-measured-profile, run-measured-front}
-use Rattle.graph_envelope.proofs.Envelope.{profile-most}
 
-module _ (g : Graph) where
-  pub nodes-is : run g .figures .nodes ≡ g .size
+module _ (g : Graph) (cs : List ℕ) where
+  pub nodes-is : run g cs .figures .nodes ≡ g .size
   unfolding run runOf figuresOf
   nodes-is = refl
 
-  passes-of : (z : ℕ) → partResult g z .report .passes ≡ ends g z .passes
+  passes-of : (z : ℕ) → partResult g cs z .report .passes ≡ ends g z .passes
   unfolding partResult partResultBy
   passes-of z = refl
 
+module _ (g : Graph) where
   part-few : (z : ℕ) → length (part g z) ≤ g .size
   unfolding part
   part-few z =
@@ -80,92 +82,91 @@ module _ {g : Graph} (G : LegalGraph g) where
   over-all f h =
       omega (arith, over-parts f h (leaders g) (λ z m. leaders-in g z m .0), perm-length (parts-perm G), length-nodes g)
 
+module _ {g : Graph} (G : LegalGraph g) (cs : List ℕ) where
   -- ---- the figures
 
-  pub parts-most : run g .figures .parts ≤ g .size
+  pub parts-most : run g cs .figures .parts ≤ g .size
   unfolding run runOf figuresOf partResults
-  parts-most = omega (arith, length-map (leaders g) (partResult g), leaders-most g)
+  parts-most = omega (arith, length-map (leaders g) (partResult g cs), leaders-most g)
 
-  pub levels-most : run g .figures .levels ≤ g .size
+  pub levels-most : run g cs .figures .levels ≤ g .size
   unfolding run runOf figuresOf partResults
   levels-most =
       omega (
         arith,
-        ap sum (map-map (λ r. r .report .k) (partResult g) (leaders g)),
-        over-all (λ z. partResult g z .report .k) (λ z Z. omega (arith, depth-of g z, depth-few z Z)),
+        ap sum (map-map (λ r. r .report .k) (partResult g cs) (leaders g)),
+        over-all G (λ z. partResult g cs z .report .k) (λ z Z. omega (arith, depth-of g cs z, depth-few G z Z)),
       )
 
-  pub passes-most : sum (run g .passes) ≤ g .size
+  pub passes-most : sum (run g cs .passes) ≤ g .size
   unfolding partResults
   passes-most =
       omega (
         arith,
-        passes-sum g,
-        ap sum (map-map (λ r. r .report .passes) (partResult g) (leaders g)),
-        over-all (λ z. partResult g z .report .passes) (λ z Z. omega (arith, passes-of g z, passes-few z Z)),
+        passes-sum g cs,
+        ap sum (map-map (λ r. r .report .passes) (partResult g cs) (leaders g)),
+        over-all G (λ z. partResult g cs z .report .passes) (λ z Z. omega (arith, passes-of g cs z, passes-few G z Z)),
       )
 
-  part-width : (z : ℕ) → Node g z → partResult g z .report .width ≤ g .size
-  unfolding widthOf countAt
-  part-width z Z =
-      let ls = partLevels g (ends g z) in
-      omega (
-        arith,
-        width-of g z,
-        greatest-le (countAt ls) (upFrom 1 (ends g z .k)) (length ls) (λ i h. count-length (eqb i) ls),
-        part-levels G Z .size,
-      )
+  -- ---- the figures in unknowns
 
-  pub width-most : run g .figures .width ≤ g .size
-  unfolding run runOf figuresOf partResults
-  width-most =
-      omega (
-        arith,
-        ap greatest (map-map (λ r. r .report .width) (partResult g) (leaders g)),
-        greatest-le (λ z. partResult g z .report .width) (leaders g) (g .size) (λ z m. part-width z (leaders-in g z m .0)),
-      )
+  module _ (ok : badCounts (g .size) cs ≡ false) where
+    part-width : (z : ℕ) → partResult g cs z .report .width ≤ sum cs
+    part-width z = omega (arith, width-of g cs z, unknown-width-few g cs (ends g z .k) (partLevels g (ends g z)) (counts-size (g .size) cs ok))
 
-  -- the measures are of a legal graph of as many nodes
-  new : Graph
-  new = renumbered g (run g .numbers)
+    pub width-most : run g cs .figures .width ≤ 6 * g .size
+    unfolding run runOf figuresOf partResults
+    width-most =
+        omega (
+          arith,
+          ap greatest (map-map (λ r. r .report .width) (partResult g cs) (leaders g)),
+          greatest-le (λ z. partResult g cs z .report .width) (leaders g) (sum cs) (λ z m. part-width z),
+          unknowns-most (g .size) cs ok,
+        )
 
-  new-legal : LegalGraph new
-  unfolding new
-  new-legal = renumbered-legal G (run g .numbers)
+    -- the measures are of a legal graph of the unknowns
+    new : Graph
+    new = renumberedUnknowns g cs (run g cs .numbers)
 
-  new-size : new .size ≡ g .size
-  unfolding new
-  new-size = renumbered-size G (run g .numbers) (run-numbering G)
+    new-legal : LegalGraph new
+    unfolding new
+    new-legal = renumbered-unknowns-legal G cs (run g cs .numbers)
 
-  pub bandwidth-most : run g .figures .bandwidth ≤ g .size - 1
-  unfolding new
-  bandwidth-most =
-      omega (
-        arith,
-        run-measured-bandwidth G,
-        bandwidth-le new (g .size - 1) (λ q p Q e. let P = new-legal .inside q p e in omega (arith, Q .low, Q .high, P .low, P .high, new-size)),
-      )
+    new-size : new .size ≤ 6 * g .size
+    unfolding new
+    new-size = omega (arith, renumbered-unknowns-size g cs (run g cs .numbers) (counts-size (g .size) cs ok) (run-numbering G cs), unknowns-most (g .size) cs ok)
 
-  pub front-most : run g .figures .front ≤ g .size
-  unfolding new front fronts frontAt
-  front-most =
-      omega (
-        arith,
-        run-measured-front G,
-        greatest-le (frontAt new) (nodes new) (length (nodes new)) (λ i m. count-length _ (nodes new)),
-        length-nodes new,
-        new-size,
-      )
+    pub bandwidth-most : run g cs .figures .bandwidth ≤ 6 * g .size
+    unfolding new
+    bandwidth-most =
+        omega (
+          arith,
+          run-measured-bandwidth G cs,
+          bandwidth-le new (new .size) (λ q p Q e. let P = new-legal .inside q p e in omega (arith, Q .low, Q .high, P .low, P .high)),
+          new-size,
+        )
 
-  pub profile-few : g .size ≤ 4096 → run g .figures .profile ≤ 8386560
-  unfolding new
-  profile-few few = omega (arith, run-measured-profile G, profile-most new new-legal (omega (arith, new-size)))
+    pub front-most : run g cs .figures .front ≤ 6 * g .size
+    unfolding new front fronts frontAt
+    front-most =
+        omega (
+          arith,
+          run-measured-front G cs,
+          greatest-le (frontAt new) (nodes new) (length (nodes new)) (λ i m. count-length _ (nodes new)),
+          length-nodes new,
+          new-size,
+        )
+
+    pub profile-few : g .size ≤ 4096 → run g cs .figures .profile ≤ 603979776
+    unfolding new
+    profile-few few =
+        let s : new .size ≤ 24576 = omega (arith, new-size, few) in omega (arith, run-measured-profile G cs, profile-most new, mul-le-mul s s)
 
   -- ---- the rows
 
-  pub number-most : (z : ℕ) → Node g z → ofNode (run g .numbers) z ≤ g .size
-  number-most z Z = number-node G (run g .numbers) (run-numbering G) z Z .high
+  pub number-most : (z : ℕ) → Node g z → ofNode (run g cs .numbers) z ≤ g .size
+  number-most z Z = number-node G (run g cs .numbers) (run-numbering G cs) z Z .high
 
-  pub level-most : (z : ℕ) → Node g z → ofNode (run g .levels) z ≤ g .size
+  pub level-most : (z : ℕ) → Node g z → ofNode (run g cs .levels) z ≤ g .size
   level-most z Z =
-      let s = part-self G Z in omega (arith, run-level G z z Z s, part-levels G Z .most z s, depth-few z Z, part-few g z)
+      let s = part-self G Z in omega (arith, run-level G cs z z Z s, part-levels G Z .most z s, depth-few G z Z, part-few g z)

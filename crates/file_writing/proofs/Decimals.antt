@@ -31,8 +31,12 @@ more-digits b k h few n l =
 pub four-digits : (n : ℕ) → n < 10000 → length (decimal n) ≤ 4
 four-digits = more-digits 1000 3 (omega arith) (more-digits 100 2 (omega arith) (more-digits 10 1 (omega arith) (λ n l. omega (arith, length-one n l))))
 
-pub seven-digits : (n : ℕ) → n < 10000000 → length (decimal n) ≤ 7
-seven-digits = more-digits 1000000 6 (omega arith) (more-digits 100000 5 (omega arith) (more-digits 10000 4 (omega arith) four-digits))
+pub five-digits : (n : ℕ) → n < 100000 → length (decimal n) ≤ 5
+five-digits = more-digits 10000 4 (omega arith) four-digits
+
+pub nine-digits : (n : ℕ) → n < 1000000000 → length (decimal n) ≤ 9
+nine-digits =
+    more-digits 100000000 8 (omega arith) (more-digits 10000000 7 (omega arith) (more-digits 1000000 6 (omega arith) (more-digits 100000 5 (omega arith) five-digits)))
 
 -- of x, `count` digits are counted, the last of `rest` among them
 pub record Counted (x rest count : ℕ) : Type 0 where

@@ -1,4 +1,5 @@
--- The listing of a run is `listed` of its figures, numbers, levels and passes, and 99 bytes and 15 for each row hold it. Assumes nothing.
+-- The listing of a run is `listed` of its figures, numbers, levels and passes, and 104 bytes and 15 for each row hold it. Assumes nothing.
+use mathlib.Core.Bool.{false}
 use mathlib.Core.Path.{_≡_, refl, sym, ap, ap₂, _∙_}
 use mathlib.Core.List.{List, [], _∷_, _++_, map, append-assoc, append-nil}
 use Prim.Native.String.{String}
@@ -11,13 +12,14 @@ use Rattle.basis.proofs.Lists.{join-append}
 use Rattle.spec.specs.Text.{ascii, decimal, newline}
 use Rattle.spec.specs.Graph.{Graph, nodes, ofNode}
 use Rattle.spec.specs.Numbering.{Figures, Run, run}
+use Rattle.spec.specs.Unknowns.{badCounts}
 use Rattle.spec.specs.File.{item, figuresLine, nodeLine, listing}
 use Rattle.laws.specs.Legal.{Node, LegalGraph}
 use Rattle.laws.proofs.Numberings.{numbering-length}
 use Rattle.laws.proofs.Whole.{run-numbering}
 use Rattle.file_writing.specs.Listed.{firstItems, lastItems, rowItems, rows, listed, outputRoom}
 use Rattle.file_writing.proofs.Bounds.{nodes-is, parts-most, levels-most, passes-most, width-most, bandwidth-most, front-most, profile-few, number-most, level-most}
-use Rattle.file_writing.proofs.Decimals.{four-digits, seven-digits}
+use Rattle.file_writing.proofs.Decimals.{four-digits, five-digits, nine-digits}
 use Rattle.file_writing.proofs.Rows.{rows-suc}
 
 -- ---- the same text
@@ -78,27 +80,30 @@ number-within x h = record { within = four-digits x h }
 four : (label : String) (x : ℕ) → x < 10000 → Within (item label x) (length (ascii label) + 4)
 four label x h = item-within label x 4 (four-digits x h)
 
--- figures and a sum of passes of four digits, and a profile of seven
+five : (label : String) (x : ℕ) → x < 100000 → Within (item label x) (length (ascii label) + 5)
+five label x h = item-within label x 5 (five-digits x h)
+
+-- figures in nodes and a sum of passes of four digits, figures in unknowns of five, and a profile of nine
 record Short (f : Figures) (total : ℕ) : Type 0 where
   nodes : f .nodes < 10000
   parts : f .parts < 10000
-  bandwidth : f .bandwidth < 10000
-  profile : f .profile < 10000000
-  front : f .front < 10000
+  bandwidth : f .bandwidth < 100000
+  profile : f .profile < 1000000000
+  front : f .front < 100000
   levels : f .levels < 10000
-  width : f .width < 10000
+  width : f .width < 100000
   passes : total < 10000
 
-line-within : (f : Figures) (total : ℕ) → Short f total → Within (figuresLine f total) 99
+line-within : (f : Figures) (total : ℕ) → Short f total → Within (figuresLine f total) 104
 unfolding figuresLine ascii
 line-within f total h =
     joined (four "nodes " (f .nodes) (h .nodes))
     (joined (four " parts " (f .parts) (h .parts))
-    (joined (four " bandwidth " (f .bandwidth) (h .bandwidth))
-    (joined (item-within " profile " (f .profile) 7 (seven-digits (f .profile) (h .profile)))
-    (joined (four " front " (f .front) (h .front))
+    (joined (five " bandwidth " (f .bandwidth) (h .bandwidth))
+    (joined (item-within " profile " (f .profile) 9 (nine-digits (f .profile) (h .profile)))
+    (joined (five " front " (f .front) (h .front))
     (joined (four " levels " (f .levels) (h .levels))
-    (joined (four " width " (f .width) (h .width))
+    (joined (five " width " (f .width) (h .width))
     (joined (four " passes " total (h .passes)) line-end)))))))
 
 row-within : (z a b : ℕ) → z < 10000 → a < 10000 → b < 10000 → Within (joinAll (rowItems z a b)) 15
@@ -119,36 +124,37 @@ rows-fit xs ls (suc k) s h =
       rows-fit xs ls k (omega arith) (λ i l. h i (omega arith)),
     )
 
-module _ {g : Graph} (G : LegalGraph g) (few : g .size ≤ 4096) where
-  short : Short (run g .figures) (sum (run g .passes))
-  short = record {
-    nodes = omega (arith, nodes-is g);
-    parts = omega (arith, parts-most G);
-    bandwidth = omega (arith, bandwidth-most G);
-    profile = omega (arith, profile-few G few);
-    front = omega (arith, front-most G);
-    levels = omega (arith, levels-most G);
-    width = omega (arith, width-most G);
-    passes = omega (arith, passes-most G);
-  }
-
-  entries : (i : ℕ) → i < g .size → (getD (run g .numbers) i 0 < 10000) × (getD (run g .levels) i 0 < 10000)
-  unfolding ofNode
-  entries i l =
-      let N : Node g (suc i) = record { low = omega arith; high = omega arith } in
-      (omega (arith, number-most G (suc i) N), omega (arith, level-most G (suc i) N))
-
+module _ {g : Graph} (G : LegalGraph g) (cs : List ℕ) where
   -- what `write_listing` writes of a run
-  pub run-listing : listing g (run g) ≡ listed (run g .figures) (run g .numbers) (run g .levels) (run g .passes)
-  run-listing = listing-is g (run g) (numbering-length (g .size) (run g .numbers) (run-numbering G))
+  pub run-listing : listing g (run g cs) ≡ listed (run g cs .figures) (run g cs .numbers) (run g cs .levels) (run g cs .passes)
+  run-listing = listing-is g (run g cs) (numbering-length (g .size) (run g cs .numbers) (run-numbering G cs))
 
-  -- and has room
-  pub listing-fits : length (listing g (run g)) ≤ outputRoom (g .size)
-  listing-fits =
-      omega (
-        arith,
-        ap length (listing-split g (run g)),
-        length-append (figuresLine (run g .figures) (sum (run g .passes))) (rows (run g .numbers) (run g .levels) (g .size)),
-        line-within (run g .figures) (sum (run g .passes)) short .within,
-        rows-fit (run g .numbers) (run g .levels) (g .size) (omega arith) entries,
-      )
+  module _ (few : g .size ≤ 4096) (ok : badCounts (g .size) cs ≡ false) where
+    short : Short (run g cs .figures) (sum (run g cs .passes))
+    short = record {
+      nodes = omega (arith, nodes-is g cs);
+      parts = omega (arith, parts-most G cs);
+      bandwidth = omega (arith, bandwidth-most G cs ok);
+      profile = omega (arith, profile-few G cs ok few);
+      front = omega (arith, front-most G cs ok);
+      levels = omega (arith, levels-most G cs);
+      width = omega (arith, width-most G cs ok);
+      passes = omega (arith, passes-most G cs);
+    }
+
+    entries : (i : ℕ) → i < g .size → (getD (run g cs .numbers) i 0 < 10000) × (getD (run g cs .levels) i 0 < 10000)
+    unfolding ofNode
+    entries i l =
+        let N : Node g (suc i) = record { low = omega arith; high = omega arith } in
+        (omega (arith, number-most G cs (suc i) N), omega (arith, level-most G cs (suc i) N))
+
+    -- it has room
+    pub listing-fits : length (listing g (run g cs)) ≤ outputRoom (g .size)
+    listing-fits =
+        omega (
+          arith,
+          ap length (listing-split g (run g cs)),
+          length-append (figuresLine (run g cs .figures) (sum (run g cs .passes))) (rows (run g cs .numbers) (run g cs .levels) (g .size)),
+          line-within (run g cs .figures) (sum (run g cs .passes)) short .within,
+          rows-fit (run g cs .numbers) (run g cs .levels) (g .size) (omega arith) entries,
+        )

@@ -34,6 +34,7 @@ listedTexts f numbers levels passes =
 unfoldable pub listed : Figures → List ℕ → List ℕ → List ℕ → List ℕ
 listed f numbers levels passes = joinAll (listedTexts f numbers levels passes)
 
--- as many bytes hold every listing of n nodes: 99 its first line, 15 each row
+-- as many bytes hold every listing of n nodes: 104 its first line, whose figures in unknowns have up to 5 digits and the profile up to 9, and 15
+-- each row
 abbrev pub outputRoom : ℕ → ℕ
-outputRoom n = 99 + 15 * n
+outputRoom n = 104 + 15 * n

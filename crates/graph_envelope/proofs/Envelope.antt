@@ -17,6 +17,7 @@ use Rattle.laws.specs.Legal.{Node, LegalGraph}
 use Rattle.laws.proofs.Legal.{node-in}
 use Rattle.laws.proofs.Renumber.{firstOld, number-node, first-old, profile-old}
 use Rattle.graph_envelope.specs.Numbers.{Words}
+use Rattle.graph_envelope.proofs.Folds.{sum-more}
 
 -- a row holds nodes only
 pub row-words : {g : Graph} → LegalGraph g → (p n : ℕ) → g .size ≡ n → Words n (g .row p)
@@ -32,11 +33,7 @@ spans g x p = sum (map (λ a. rowSpan (renumbered g x) (ofNode x a)) (upFrom 1 p
 
 -- one node more
 pub spans-more : (g : Graph) (x : List ℕ) (p : ℕ) {t r : ℕ} → t ≡ spans g x p → r ≡ rowSpan (renumbered g x) (ofNode x (p + 1)) → t + r ≡ spans g x (p + 1)
-spans-more g x p {t} {r} et er =
-    let e : 1 + p ≡ p + 1 = omega arith in
-    ap₂ _+_ et er
-    ∙ ap (λ (a : ℕ). spans g x p + rowSpan (renumbered g x) (ofNode x a)) (sym e)
-    ∙ sym (ap (spans g x) (add-one p) ∙ sum-step (λ a. rowSpan (renumbered g x) (ofNode x a)) 1 p)
+spans-more g x p et er = sum-more (λ a. rowSpan (renumbered g x) (ofNode x a)) p et er
 
 module _ {g : Graph} (G : LegalGraph g) (x : List ℕ) (ok : isNumbering (g .size) x ≡ true) where
   -- f is the least over the row

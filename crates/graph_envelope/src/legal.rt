@@ -12,6 +12,9 @@ ghost use Rattle.spec.specs.Measures.{isNumbering, orderOf, renumbered, firstIn
 ghost use Rattle.laws.specs.Handed.{graphNow, graphWas, sizeNow};
 ghost use Rattle.laws.specs.Legal.{Node, LegalGraph, Starts};
 ghost use Rattle.graph_envelope.specs.Numbers.{Words};
+
+pub mod unknowns;
+
 use graph::legal::row;
 use graph_words::legal::clear;
 use graph_words::smaller;

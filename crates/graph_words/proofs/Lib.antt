@@ -1,1 +1,2 @@
 pub mod Erasing
+pub mod Unknowns

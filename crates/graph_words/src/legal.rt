@@ -1,10 +1,13 @@
 // Functions that ask for room: their callers have tested the lengths.
 ghost use mathlib.Core.Path.{_≡_};
+ghost use mathlib.Core.Bool.{cond};
 ghost use Prim.Native.Nat.{_≤_};
 ghost use lib.ListN.{length};
+ghost use Rattle.basis.specs.Lists.{sum};
 ghost use Rattle.basis.specs.Moments.{was, left};
 ghost use Rattle.basis.specs.Stored.{stored, nought};
 ghost use Rattle.spec.specs.Lent.{zeroed};
+ghost use Rattle.spec.specs.Unknowns.{badCounts};
 ghost use Rattle.graph_words.specs.Erasable.{listed, Erasable};
 use crate::wide;
 
@@ -31,4 +34,28 @@ pub fn erase(words: &mut [u16], base: usize, at: usize, count: usize)
         words[base + v - 1] = 0;
         i += 1;
     }
+}
+
+// How many unknowns n nodes have: the sum of their counts; 0 where these are none (15), since a list has n words, each of 1 to 6.
+pub fn unknowns(counts: &[u16], n: usize) -> usize
+    requires { ⌜ n ≤ 4096 ⌝ }
+    ensures { λ r. ⌜ r ≡ cond (badCounts n (was counts)) 0 (sum (was counts)) ⌝ }
+{
+    if counts.len() != n {
+        return 0;
+    }
+    let mut total = 0;
+    let mut i = 0;
+    while i < n {
+        let c = wide(counts[i]);
+        if c == 0 {
+            return 0;
+        }
+        if c > 6 {
+            return 0;
+        }
+        total += c;
+        i += 1;
+    }
+    total
 }

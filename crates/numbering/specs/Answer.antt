@@ -6,6 +6,6 @@ use Rattle.numbering.specs.declared.answer.RunAnswer.{RunAnswer}
 use Rattle.numbering.specs.declared.answer.RunAnswer.the-variants as run
 
 abbrev pub meaning : RunAnswer → Outcome Figures
--- 1 to 4 or 5, by its number
+-- 1 to 4, 5 or 15, by its number
 meaning (run.Refused c) = refused c
 meaning (run.Numbered f) = accepted (seven f)

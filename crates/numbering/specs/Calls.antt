@@ -6,15 +6,15 @@ use Rattle.spec.specs.Claim.{NumberedAs}
 use Rattle.spec.specs.Graph.{graphOf}
 use Rattle.spec.specs.Lent.{Outcome, outcome, filled}
 use Rattle.spec.specs.Numbering.{Run, Figures}
-use Rattle.numbering_whole.specs.Orders.{resultOf, wholeIn}
-use Rattle.numbering_whole.specs.declared.order.Order.{Order}
+use Rattle.numbering_next.specs.Orders.{resultOf, wholeIn}
+use Rattle.numbering_next.specs.declared.order.Order.{Order}
 
-module _ (order : Order) (starts neighbours numbersBuffer levelsBuffer passesBuffer scratch : List ℕ) where
+module _ (order : Order) (starts neighbours counts numbersBuffer levelsBuffer passesBuffer scratch : List ℕ) where
   abbrev refusal : ℕ
-  refusal = runRefusal starts neighbours numbersBuffer levelsBuffer passesBuffer scratch
+  refusal = runRefusal starts neighbours counts numbersBuffer levelsBuffer passesBuffer scratch
 
   abbrev whole : Run
-  whole = wholeIn order (graphOf starts neighbours)
+  whole = wholeIn order (graphOf starts neighbours) counts
 
   abbrev pub answerIn : Outcome Figures
   answerIn = outcome refusal (whole .figures)
@@ -28,6 +28,6 @@ module _ (order : Order) (starts neighbours numbersBuffer levelsBuffer passesBuf
   abbrev pub passesIn : List ℕ
   passesIn = filled refusal (whole .passes) passesBuffer
 
--- what a library above rests on, of the figures F, the numbers X and the levels L
-abbrev pub NumberedIn : Order → List ℕ → List ℕ → Figures → List ℕ → List ℕ → Type 0
-NumberedIn order S N F X L = NumberedAs (wholeIn order (graphOf S N)) (resultOf order (graphOf S N)) S N F X L
+-- what a library above rests on, of the counts K, the figures F, the numbers X and the levels L
+abbrev pub NumberedIn : Order → List ℕ → List ℕ → List ℕ → Figures → List ℕ → List ℕ → Type 0
+NumberedIn order S N K F X L = NumberedAs (wholeIn order (graphOf S N) K) (resultOf order (graphOf S N) K) S N K F X L

@@ -1,4 +1,5 @@
-// Document 01's second library: the whole run; and A.3's call beside it. Both test what they are handed in the order of the table: 1 to 4, then 5.
+// Document 01's second library: the whole run; and A.3's call beside it. Both take the counts of unknowns, by old number, and test what they are
+// handed in the order of the table: 1 to 4, then 5, then 15.
 pub mod answer;
 
 ghost use mathlib.Core.Path.{_≡_};
@@ -18,8 +19,9 @@ ghost use Rattle.numbering.specs.Answer.{meaning};
 ghost use Rattle.numbering.specs.Calls.{answerIn, numbersIn, levelsIn, passesIn, NumberedIn};
 use answer::RunAnswer;
 use graph::Adjacency;
+use graph_words::legal::unknowns;
+use numbering_next::order::Order;
 use numbering_whole::legal::number_all;
-use numbering_whole::order::Order;
 
 // 5: numbers, levels, passes or scratch are short.
 fn any_short(n: usize, numbers: usize, levels: usize, passes: usize, scratch: usize) -> bool
@@ -44,17 +46,18 @@ fn number(
     order: Order,
     starts: &[u16],
     neighbours: &[u16],
+    counts: &[u16],
     numbers: &mut [u16],
     levels: &mut [u16],
     passes: &mut [u16],
     scratch: &mut [u16],
 ) -> RunAnswer
-    ensures { λ r. ⌜ meaning r ≡ answerIn order (was starts) (was neighbours) (was numbers) (was levels) (was passes) (was scratch) ⌝ }
-    ensures { λ _. ⌜ left numbers ≡ numbersIn order (was starts) (was neighbours) (was numbers) (was levels) (was passes) (was scratch) ⌝ }
-    ensures { λ _. ⌜ left levels ≡ levelsIn order (was starts) (was neighbours) (was numbers) (was levels) (was passes) (was scratch) ⌝ }
-    ensures { λ _. ⌜ left passes ≡ passesIn order (was starts) (was neighbours) (was numbers) (was levels) (was passes) (was scratch) ⌝ }
-    ensures { λ _. ⌜ left scratch ≡ runScratch (was starts) (was neighbours) (was numbers) (was levels) (was passes) (was scratch) ⌝ }
-    ensures { λ r. ⌜ ((F : Figures) → meaning r ≡ accepted F → NumberedIn order (was starts) (was neighbours) F (take (sizeOf (was starts)) (left numbers)) (take (sizeOf (was starts)) (left levels))) ⌝ }
+    ensures { λ r. ⌜ meaning r ≡ answerIn order (was starts) (was neighbours) (was counts) (was numbers) (was levels) (was passes) (was scratch) ⌝ }
+    ensures { λ _. ⌜ left numbers ≡ numbersIn order (was starts) (was neighbours) (was counts) (was numbers) (was levels) (was passes) (was scratch) ⌝ }
+    ensures { λ _. ⌜ left levels ≡ levelsIn order (was starts) (was neighbours) (was counts) (was numbers) (was levels) (was passes) (was scratch) ⌝ }
+    ensures { λ _. ⌜ left passes ≡ passesIn order (was starts) (was neighbours) (was counts) (was numbers) (was levels) (was passes) (was scratch) ⌝ }
+    ensures { λ _. ⌜ left scratch ≡ runScratch (was starts) (was neighbours) (was counts) (was numbers) (was levels) (was passes) (was scratch) ⌝ }
+    ensures { λ r. ⌜ ((F : Figures) → meaning r ≡ accepted F → NumberedIn order (was starts) (was neighbours) (was counts) F (take (sizeOf (was starts)) (left numbers)) (take (sizeOf (was starts)) (left levels))) ⌝ }
 {
     match graph::test_adjacency(starts, neighbours) {
         Adjacency::Refused(c) => RunAnswer::Refused(c),
@@ -63,14 +66,20 @@ fn number(
             if any_short(n, numbers.len(), levels.len(), passes.len(), scratch.len()) {
                 return RunAnswer::Refused(5);
             }
+            let total = unknowns(counts, n);
+            if total == 0 {
+                return RunAnswer::Refused(15);
+            }
             let f = number_all(
                 order,
                 starts,
                 neighbours,
+                counts,
                 &mut numbers[..n],
                 &mut levels[..n],
                 &mut passes[..n],
                 scratch,
+                total,
             );
             RunAnswer::Numbered(f)
         }
@@ -81,22 +90,24 @@ fn number(
 pub fn run(
     starts: &[u16],
     neighbours: &[u16],
+    counts: &[u16],
     numbers: &mut [u16],
     levels: &mut [u16],
     passes: &mut [u16],
     scratch: &mut [u16],
 ) -> RunAnswer
-    ensures { λ r. ⌜ meaning r ≡ runAnswer (was starts) (was neighbours) (was numbers) (was levels) (was passes) (was scratch) ⌝ }
-    ensures { λ _. ⌜ left numbers ≡ runNumbers (was starts) (was neighbours) (was numbers) (was levels) (was passes) (was scratch) ⌝ }
-    ensures { λ _. ⌜ left levels ≡ runLevels (was starts) (was neighbours) (was numbers) (was levels) (was passes) (was scratch) ⌝ }
-    ensures { λ _. ⌜ left passes ≡ runPasses (was starts) (was neighbours) (was numbers) (was levels) (was passes) (was scratch) ⌝ }
-    ensures { λ _. ⌜ left scratch ≡ runScratch (was starts) (was neighbours) (was numbers) (was levels) (was passes) (was scratch) ⌝ }
-    ensures { λ r. ⌜ ((F : Figures) → meaning r ≡ accepted F → Numbered (was starts) (was neighbours) F (take (sizeOf (was starts)) (left numbers)) (take (sizeOf (was starts)) (left levels))) ⌝ }
+    ensures { λ r. ⌜ meaning r ≡ runAnswer (was starts) (was neighbours) (was counts) (was numbers) (was levels) (was passes) (was scratch) ⌝ }
+    ensures { λ _. ⌜ left numbers ≡ runNumbers (was starts) (was neighbours) (was counts) (was numbers) (was levels) (was passes) (was scratch) ⌝ }
+    ensures { λ _. ⌜ left levels ≡ runLevels (was starts) (was neighbours) (was counts) (was numbers) (was levels) (was passes) (was scratch) ⌝ }
+    ensures { λ _. ⌜ left passes ≡ runPasses (was starts) (was neighbours) (was counts) (was numbers) (was levels) (was passes) (was scratch) ⌝ }
+    ensures { λ _. ⌜ left scratch ≡ runScratch (was starts) (was neighbours) (was counts) (was numbers) (was levels) (was passes) (was scratch) ⌝ }
+    ensures { λ r. ⌜ ((F : Figures) → meaning r ≡ accepted F → Numbered (was starts) (was neighbours) (was counts) F (take (sizeOf (was starts)) (left numbers)) (take (sizeOf (was starts)) (left levels))) ⌝ }
 {
     number(
         Order::GibbsPooleStockmeyer,
         starts,
         neighbours,
+        counts,
         numbers,
         levels,
         passes,
@@ -108,22 +119,24 @@ pub fn run(
 pub fn reverse_cuthill_mckee(
     starts: &[u16],
     neighbours: &[u16],
+    counts: &[u16],
     numbers: &mut [u16],
     levels: &mut [u16],
     passes: &mut [u16],
     scratch: &mut [u16],
 ) -> RunAnswer
-    ensures { λ r. ⌜ meaning r ≡ cuthillAnswer (was starts) (was neighbours) (was numbers) (was levels) (was passes) (was scratch) ⌝ }
-    ensures { λ _. ⌜ left numbers ≡ cuthillNumbers (was starts) (was neighbours) (was numbers) (was levels) (was passes) (was scratch) ⌝ }
-    ensures { λ _. ⌜ left levels ≡ cuthillLevels (was starts) (was neighbours) (was numbers) (was levels) (was passes) (was scratch) ⌝ }
-    ensures { λ _. ⌜ left passes ≡ cuthillPasses (was starts) (was neighbours) (was numbers) (was levels) (was passes) (was scratch) ⌝ }
-    ensures { λ _. ⌜ left scratch ≡ cuthillScratch (was starts) (was neighbours) (was numbers) (was levels) (was passes) (was scratch) ⌝ }
-    ensures { λ r. ⌜ ((F : Figures) → meaning r ≡ accepted F → CuthillNumbered (was starts) (was neighbours) F (take (sizeOf (was starts)) (left numbers)) (take (sizeOf (was starts)) (left levels))) ⌝ }
+    ensures { λ r. ⌜ meaning r ≡ cuthillAnswer (was starts) (was neighbours) (was counts) (was numbers) (was levels) (was passes) (was scratch) ⌝ }
+    ensures { λ _. ⌜ left numbers ≡ cuthillNumbers (was starts) (was neighbours) (was counts) (was numbers) (was levels) (was passes) (was scratch) ⌝ }
+    ensures { λ _. ⌜ left levels ≡ cuthillLevels (was starts) (was neighbours) (was counts) (was numbers) (was levels) (was passes) (was scratch) ⌝ }
+    ensures { λ _. ⌜ left passes ≡ cuthillPasses (was starts) (was neighbours) (was counts) (was numbers) (was levels) (was passes) (was scratch) ⌝ }
+    ensures { λ _. ⌜ left scratch ≡ cuthillScratch (was starts) (was neighbours) (was counts) (was numbers) (was levels) (was passes) (was scratch) ⌝ }
+    ensures { λ r. ⌜ ((F : Figures) → meaning r ≡ accepted F → CuthillNumbered (was starts) (was neighbours) (was counts) F (take (sizeOf (was starts)) (left numbers)) (take (sizeOf (was starts)) (left levels))) ⌝ }
 {
     number(
         Order::ReverseCuthillMcKee,
         starts,
         neighbours,
+        counts,
         numbers,
         levels,
         passes,

@@ -3,7 +3,5 @@ pub struct PartRoot {
     pub v: u16,
     // how many levels are rooted at it
     pub k: u16,
-    // the greatest of them
-    pub width: u16,
     pub passes: u16,
 }

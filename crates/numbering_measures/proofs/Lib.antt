@@ -1,4 +1,9 @@
-pub mod Widths
+pub mod Ones
+pub mod Ordered
+pub mod Nodes
+pub mod Walked
 pub mod Opened
+pub mod Gathered
+pub mod Steps
 pub mod Swept
 pub mod Answers

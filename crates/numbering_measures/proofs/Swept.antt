@@ -1,165 +1,155 @@
--- The front from the counts: what is opened up to i, less what is passed before i. Assumes nothing.
-use mathlib.Core.Path.{_≡_, refl, sym, ap, _∙_}
-use mathlib.Core.Logic.{_⊎_, inl, inr, ⊎-elim}
-use mathlib.Core.Bool.{true, not, _&&_, and-false}
-use mathlib.Core.List.{List, [], _∷_, _++_, map, append-nil}
-use Prim.Native.Nat.{ℕ, zero, suc, _+_, _-_, _≤_, _<_, max}
-use native.Mathlib.Numerals.{add-one}
+-- The front from the words: what is opened up to i, less what is passed before i. Assumes nothing.
+use mathlib.Core.Path.{_≡_, refl, sym, ap, _∙_, subst}
+use mathlib.Core.Logic.{_⊎_, inl, inr}
+use mathlib.Core.Bool.{true, false}
+use mathlib.Core.List.{List, map}
+use Prim.Native.Nat.{ℕ, zero, suc, _+_, _-_, _*_, _≤_, _<_}
 use native.Mathlib.Omega.{arith}
-use lib.ListN.{length, getD, take, drop, replicate, length-map, length-replicate}
-use lib.Seq.{take-at, take-suc, getD-drop, drop-length}
-use lib.Dec.{eqb, leb, ltb}
-use borrow.Author.Tests.{le-leb, lt-leb, leb-true, lt-ltb, le-ltb, ltb-true}
-use Rattle.basis.specs.Lists.{countb, greatest, sum, upFrom}
-use Rattle.basis.proofs.Count.{bit-one, bit-none, count-map, count-cong, count-length, count-parted, count-range}
-use Rattle.basis.proofs.Index.{getD-right, greatest-le, greatest-step}
-use Rattle.basis.proofs.Lists.{length-upFrom, upFrom-append, upFrom-in, map-append, map-cong, sum-append}
-use Rattle.basis.proofs.Logic.{same, and-split, and-make, lt-or-le}
-use Rattle.basis.proofs.Perm.{perm-count}
-use Rattle.spec.specs.Graph.{Graph, nodes, ofNode}
-use Rattle.spec.specs.Measures.{isNumbering, renumbered, frontAt, fronts, front}
+use lib.ListN.{length, take}
+use lib.Dec.{eqb, leb}
+use borrow.Author.Tests.{le-leb, lt-leb, eq-eqb, ne-eqb}
+use Rattle.basis.specs.Lists.{bit, greatest, sum, upFrom}
+use Rattle.basis.proofs.Index.{greatest-le}
+use Rattle.basis.proofs.Lists.{upFrom-in, map-cong, sum-cong, sum-add, sum-none}
+use Rattle.basis.proofs.Logic.{lt-or-le, eq-or-ne}
+use Rattle.spec.specs.Graph.{Graph, nodes, ofNode, graphOf}
+use Rattle.spec.specs.Measures.{isNumbering, orderOf, renumbered, front}
+use Rattle.spec.specs.Unknowns.{badCounts, renumberedUnknowns}
 use Rattle.laws.specs.Legal.{Node, LegalGraph}
-use Rattle.laws.proofs.Legal.{node-in, as-map, length-nodes}
-use Rattle.laws.proofs.Numberings.{numbering-length, numbering-perm}
-use Rattle.laws.proofs.Renumber.{firstOld, first-old, front-old, renumbered-size}
-use Rattle.graph_envelope.proofs.Envelope.{first-low, first-most}
-use Rattle.numbering_measures.specs.Fronts.{firsts, opened, Sweeps}
-use Rattle.numbering_measures.proofs.Opened.{firstAt, length-opened}
+use Rattle.laws.specs.Unknowns.{nodeFront}
+use Rattle.laws.proofs.Legal.{node-in, length-nodes}
+use Rattle.laws.proofs.Renumber.{renumbered-size}
+use Rattle.laws.proofs.UnknownBounds.{counts-size}
+use Rattle.graph_envelope.specs.Numbers.{Words}
+use Rattle.graph_envelope.specs.Aheads.{aheads}
+use Rattle.graph_envelope.proofs.Envelope.{first-low}
+use Rattle.graph_envelope.proofs.InUnknowns.{order-long, order-words, newCounts, count-few, ahead-is, aheads-long, front-unknowns, opened-unknowns}
+use Rattle.numbering_ones.proofs.Passed.{take-next}
+use Rattle.numbering_measures.specs.Fronts.{Climbs, stepsOf, opens, opened, Sweeps}
+use Rattle.numbering_measures.specs.Measurable.{Measurable}
+use Rattle.numbering_measures.proofs.Opened.{firstAt, sum-few, weight-none, weight-most, length-opened, opened-at}
+use Rattle.numbering_measures.proofs.Steps.{length-steps, steps-upto, aheads-climb}
 
--- ---- sums over the front of a list
-
--- one word more
-pub take-more : (l : List ℕ) (i : ℕ) → i < length l → sum (take (i + 1) l) ≡ sum (take i l) + getD l i 0
-take-more l i h =
-    let e : i + 1 ≡ suc i = omega arith in
-    ap (λ (k : ℕ). sum (take k l)) e
-    ∙ ap sum (take-suc l i 0 h)
-    ∙ sum-append (take i l) (getD l i 0 ∷ [])
-    ∙ omega arith
-
--- the word at i, of a list of which the words before i were set to 0
-pub word-ahead : (C c : List ℕ) (i : ℕ) → c ≡ replicate i 0 ++ drop i C → getD c i 0 ≡ getD C i 0
-word-ahead C c i e =
-    let Z : List ℕ = replicate i 0 in
-    let z : length Z ≡ i = length-replicate i 0 in
-    let n : i + (i - length Z) ≡ i = omega arith in
-    ap (λ (l : List ℕ). getD l i 0) e ∙ getD-right 0 Z (drop i C) i (omega arith) ∙ getD-drop i C (i - length Z) 0 ∙ ap (λ (k : ℕ). getD C k 0) n
-
--- and all set to 0 in the end
-pub words-passed : (C c : List ℕ) (i : ℕ) → i ≡ length C → c ≡ replicate i 0 ++ drop i C → c ≡ replicate (length C) 0
-words-passed C c i n e =
-    e ∙ ap (λ (k : ℕ). replicate k 0 ++ drop k C) n ∙ ap (λ (l : List ℕ). replicate (length C) 0 ++ l) (drop-length C) ∙ append-nil (replicate (length C) 0)
-
--- the first m of what is made of 1 .. n
-take-made : (f : ℕ → ℕ) (n m : ℕ) → m ≤ n → take m (map f (upFrom 1 n)) ≡ map f (upFrom 1 m)
-take-made f n m h =
-    let e : m + (n - m) ≡ n = omega arith in
-    ap (λ (k : ℕ). take m (map f (upFrom 1 k))) (sym e)
-    ∙ ap (λ (l : List ℕ). take m (map f l)) (sym (upFrom-append 1 m (n - m)))
-    ∙ ap (take m) (map-append f (upFrom 1 m) (upFrom (1 + m) (n - m)))
-    ∙ take-at (map f (upFrom 1 m)) (map f (upFrom (1 + m) (n - m))) m (length-map (upFrom 1 m) f ∙ length-upFrom 1 m)
-
--- ---- what is passed before i: the numbers below i
-
-below-none : (i a k : ℕ) → i ≤ a → countb (λ v. ltb v i) (upFrom a k) ≡ 0
-below-none i a zero l = refl
-below-none i a (suc k) l = omega (arith, bit-none (ltb a i) (le-ltb a i l), below-none i (suc a) k (omega arith))
-
-below-range : (i a k : ℕ) → a ≤ i → i ≤ a + k → countb (λ v. ltb v i) (upFrom a k) ≡ i - a
-below-range i a zero l h = omega arith
-below-range i a (suc k) l h =
-    ⊎-elim
-    (λ (m : a < i). omega (arith, bit-one (ltb a i) (lt-ltb a i m), below-range i (suc a) k m (omega arith)))
-    (λ (m : i ≤ a). omega (arith, below-none i a (suc k) m))
-    (lt-or-le a i)
-
--- the greatest of what a sweep sees: one number more
-pub sweep-more : (C : List ℕ) (i : ℕ)
-    → greatest (map (λ i. sum (take i C) - (i - 1)) (upFrom 1 (i + 1))) ≡ max (greatest (map (λ i. sum (take i C) - (i - 1)) (upFrom 1 i))) (sum (take (i + 1) C) - i)
-sweep-more C i =
-    let e : 1 + i ≡ i + 1 = omega arith in
-    let w : sum (take (i + 1) C) - ((i + 1) - 1) ≡ sum (take (i + 1) C) - i = omega arith in
-    ap (λ (k : ℕ). greatest (map (λ i. sum (take i C) - (i - 1)) (upFrom 1 k))) (add-one i)
-    ∙ greatest-step (λ i. sum (take i C) - (i - 1)) 1 i
-    ∙ ap (λ (k : ℕ). max (greatest (map (λ i. sum (take i C) - (i - 1)) (upFrom 1 i))) (sum (take k C) - (k - 1))) e
-    ∙ ap (max (greatest (map (λ i. sum (take i C) - (i - 1)) (upFrom 1 i)))) w
-
--- it is small
-pub sweep-most : {C : List ℕ} → Sweeps C → greatest (map (λ i. sum (take i C) - (i - 1)) (upFrom 1 (length C))) ≤ 4096
+-- what is swept is small
+pub sweep-most : {C : List ℕ} → Sweeps C → greatest (map (λ i. sum (take i C) - 6 * i) (upFrom 1 (length C))) ≤ 49152
 sweep-most {C} s =
-    greatest-le (λ i. sum (take i C) - (i - 1)) (upFrom 1 (length C)) 4096
-    (λ i m. let w = upFrom-in 1 (length C) i m in omega (arith, s .few, s .most i (omega arith)))
+    greatest-le (λ i. sum (take i C) - 6 * i) (upFrom 1 (length C)) 49152
+    (λ i m. let w = upFrom-in 1 (length C) i m in omega (arith, s .most i (omega arith)))
 
-module _ {g : Graph} (G : LegalGraph g) (x : List ℕ) (ok : isNumbering (g .size) x ≡ true) where
-  -- opened up to m: the nodes with f at most m
-  opened-upto : (m : ℕ) → m ≤ g .size → sum (take m (opened g x (g .size))) ≡ countb (λ a. leb (firstAt g x a) m) (nodes g)
-  unfolding opened firsts nodes
-  opened-upto m h =
-      ap sum (take-made (λ i. countb (eqb i) (firsts g x (g .size))) (g .size) m h)
-      ∙ count-range 1 m (firsts g x (g .size))
-      ∙ count-map (λ v. leb 1 v && ltb v (1 + m)) (firstAt g x) (nodes g)
-      ∙ count-cong _ _ (nodes g) (λ a i. each a (node-in g a i))
-    where
-      each : (a : ℕ) → Node g a → leb 1 (firstAt g x a) && ltb (firstAt g x a) (1 + m) ≡ leb (firstAt g x a) m
-      each a A =
-          same _ _
-          (λ e. let l = ltb-true (firstAt g x a) (1 + m) (and-split (leb 1 (firstAt g x a)) _ e .1) in le-leb (firstAt g x a) m (omega arith))
-          (λ e. let l = leb-true (firstAt g x a) m e in and-make (le-leb 1 (firstAt g x a) (first-low G x ok a A)) (lt-ltb (firstAt g x a) (1 + m) (omega arith)))
+module _ {S N K x : List ℕ} (M : Measurable S N K x) where
+  abbrev g : Graph
+  g = graphOf S N
 
-  -- and of these the ones that are passed are the numbers below m
-  passed : (i : ℕ) → 1 ≤ i → i ≤ g .size → countb (λ a. leb (firstAt g x a) i && not (leb i (ofNode x a))) (nodes g) ≡ i - 1
-  passed i low high =
-      count-cong (λ a. leb (firstAt g x a) i && not (leb i (ofNode x a))) (λ a. ltb (ofNode x a) i) (nodes g) (λ a m. each a (node-in g a m))
-      ∙ sym (count-map (λ v. ltb v i) (ofNode x) (nodes g))
-      ∙ ap (countb (λ v. ltb v i)) (as-map g x (numbering-length (g .size) x ok))
-      ∙ perm-count (λ v. ltb v i) (numbering-perm (g .size) x ok)
-      ∙ below-range i 1 (g .size) low (omega arith)
+  abbrev G : LegalGraph g
+  G = M .lists .graph
+
+  abbrev ok : isNumbering (g .size) x ≡ true
+  ok = M .numbered
+
+  abbrev fit : badCounts (g .size) K ≡ false
+  fit = M .counted
+
+  -- the unknowns of the nodes with f at most m
+  abbrev upto : ℕ → ℕ
+  upto m = sum (map (λ a. bit (leb (firstAt g K x a) m) * ofNode K a) (nodes g))
+
+  upto-none : upto 0 ≡ 0
+  upto-none =
+      sum-cong (λ a. bit (leb (firstAt g K x a) 0) * ofNode K a) (λ a. 0) (nodes g)
+      (λ a m. weight-none (leb (firstAt g K x a) 0) (ofNode K a) (lt-leb (firstAt g K x a) 0 (first-low G x ok a (node-in g a m))))
+      ∙ sum-none (nodes g)
+
+  upto-step : (m : ℕ) → upto (suc m) ≡ upto m + opens g K x (g .size) (suc m)
+  unfolding opens nodes
+  upto-step m =
+      sum-cong (λ a. bit (leb (firstAt g K x a) (suc m)) * ofNode K a) (λ a. bit (leb (firstAt g K x a) m) * ofNode K a + bit (eqb (suc m) (firstAt g K x a)) * ofNode K a) (nodes g)
+      (λ a i. each (firstAt g K x a) (ofNode K a) (lt-or-le (suc m) (firstAt g K x a)) (eq-or-ne (suc m) (firstAt g K x a)))
+      ∙ sum-add (λ a. bit (leb (firstAt g K x a) m) * ofNode K a) (λ a. bit (eqb (suc m) (firstAt g K x a)) * ofNode K a) (nodes g)
     where
-      each : (a : ℕ) → Node g a → leb (firstAt g x a) i && not (leb i (ofNode x a)) ≡ ltb (ofNode x a) i
-      each a A = go (lt-or-le (ofNode x a) i)
+      each : (f c : ℕ) → (suc m < f) ⊎ (f ≤ suc m) → (suc m ≡ f) ⊎ (suc m ≡ f → ⊥) → bit (leb f (suc m)) * c ≡ bit (leb f m) * c + bit (eqb (suc m) f) * c
+      each f c (inl l) e = rw (lt-leb f (suc m) l, lt-leb f m (omega arith), ne-eqb (suc m) f (λ (z : suc m ≡ f). omega arith)) (omega arith)
+      each f c (inr l) (inl e) = rw (le-leb f (suc m) l, lt-leb f m (omega arith), eq-eqb (suc m) f e) (omega arith)
+      each f c (inr l) (inr ne) = rw (le-leb f (suc m) l, le-leb f m (low ne), ne-eqb (suc m) f ne) (omega arith)
         where
-          go : (ofNode x a < i) ⊎ (i ≤ ofNode x a) → leb (firstAt g x a) i && not (leb i (ofNode x a)) ≡ ltb (ofNode x a) i
-          go (inl l) = rw (lt-ltb (ofNode x a) i l, lt-leb i (ofNode x a) l, le-leb (firstAt g x a) i (omega (arith, first-most G x ok a A)))
-          go (inr l) = rw (le-ltb (ofNode x a) i l, le-leb i (ofNode x a) l) (and-false (leb (firstAt g x a) i))
+          low : (suc m ≡ f → ⊥) → f ≤ m
+          low ne = omega arith
 
-  -- the front at i, and the i − 1 passed, are what is opened up to i
-  pub front-opened : (i : ℕ) → 1 ≤ i → i ≤ g .size → sum (take i (opened g x (g .size))) ≡ (i - 1) + frontAt (renumbered g x) i
-  front-opened i low high =
+  upto-few : (m : ℕ) → upto m ≤ 6 * g .size
+  upto-few m =
       omega (
         arith,
-        opened-upto i high,
-        count-parted (λ a. leb (firstAt g x a) i) (λ a. leb i (ofNode x a)) (nodes g),
-        passed i low high,
-        front-old G x ok i,
-        count-cong (λ a. leb (firstAt g x a) i && leb i (ofNode x a)) (λ a. leb (firstOld G x ok a) i && leb i (ofNode x a)) (nodes g)
-            (λ a m. ap (λ (v : ℕ). leb v i && leb i (ofNode x a)) (first-old G x ok a (node-in g a m))),
+        sum-few (λ a. bit (leb (firstAt g K x a) m) * ofNode K a) (nodes g)
+            (λ a i. omega (arith, weight-most (leb (firstAt g K x a) m) (ofNode K a), count-few G x ok K fit a (node-in g a i) .1)),
+        length-nodes g,
       )
 
-  -- so the counts can be swept
-  module _ (C : List ℕ) (e : C ≡ opened g x (g .size)) where
-    pub opened-long : length C ≡ g .size
-    opened-long = ap length e ∙ length-opened g x (g .size)
+  -- the words up to m: what they were, and what is opened
+  opened-upto : (W : List ℕ) → length W ≡ g .size → (m : ℕ) → m ≤ g .size → sum (take m (opened g K x W (g .size))) ≡ sum (take m W) + upto m
+  opened-upto W len zero h = omega (arith, upto-none)
+  opened-upto W len (suc m) h =
+      omega (
+        arith,
+        take-next (opened g K x W (g .size)) m (omega (arith, length-opened g K x W (g .size))),
+        take-next W m (omega arith),
+        opened-at g K x W (g .size) m h,
+        opened-upto W len m (omega arith),
+        upto-step m,
+      )
 
-    upto : (i : ℕ) → sum (take i C) ≡ sum (take i (opened g x (g .size)))
-    upto i = ap (λ (l : List ℕ). sum (take i l)) e
+  -- the order can be added up, and what is ahead climbs
+  pub order-ready : {o : List ℕ} → o ≡ orderOf x → (badCounts (length K) K ≡ false) × (Words (length K) o × (length o ≤ 4096))
+  order-ready {o} e =
+      let s : length K ≡ g .size = counts-size (g .size) K fit in (
+        ap (λ (n : ℕ). badCounts n K) s ∙ fit,
+        (subst (λ (l : List ℕ). Words (length K) l) (sym e) (order-words G x ok (length K) s), omega (arith, ap length e, order-long G x ok, M .lists .starts .few)),
+      )
 
-    pub opened-sweeps : g .size ≤ 4096 → Sweeps C
-    opened-sweeps few = record {
-      few = omega (arith, opened-long);
+  pub aheads-climbs : Climbs (aheads K (orderOf x))
+  aheads-climbs = let r = order-ready refl in aheads-climb K (orderOf x) (r .0) (r .1 .0) (r .1 .1)
+
+  abbrev steps : List ℕ
+  steps = stepsOf (aheads K (orderOf x))
+
+  pub steps-long : length steps ≡ g .size
+  steps-long = length-steps (aheads K (orderOf x)) ∙ aheads-long G x ok K fit
+
+  -- so the words can be swept
+  module _ (C : List ℕ) (e : C ≡ opened g K x (stepsOf (aheads K (orderOf x))) (g .size)) where
+    pub swept-long : length C ≡ g .size
+    swept-long = ap length e ∙ length-opened g K x steps (g .size)
+
+    split : (m : ℕ) → m ≤ g .size → sum (take m C) ≡ sum (take m steps) + upto m
+    split m h = ap (λ (l : List ℕ). sum (take m l)) e ∙ opened-upto steps steps-long m h
+
+    -- 6 for each number, and the front
+    at : (m : ℕ) → Node g m → sum (take m C) ≡ 6 * m + nodeFront (renumbered g x) (newCounts K x) m
+    at m N =
+        omega (
+          arith,
+          split m (N .high),
+          steps-upto (aheads K (orderOf x)) aheads-climbs m (omega (arith, N .high, aheads-long G x ok K fit)),
+          ahead-is G x ok K fit m N,
+          opened-unknowns G x ok K fit m N,
+        )
+
+    pub opened-sweeps : Sweeps C
+    opened-sweeps = record {
+      few = omega (arith, swept-long, M .lists .starts .few);
       most = λ i h.
-          let l : i ≤ g .size = omega (arith, opened-long) in
-          omega (arith, opened-long, upto i, opened-upto i l, count-length (λ a. leb (firstAt g x a) i) (nodes g), length-nodes g);
+          let l : i ≤ g .size = omega (arith, swept-long) in
+          omega (arith, M .lists .starts .few, split i l, upto-few i, steps-upto (aheads K (orderOf x)) aheads-climbs i (omega (arith, aheads-long G x ok K fit)));
       enough = λ i h.
-          let l : i + 1 ≤ g .size = omega (arith, opened-long) in
-          omega (arith, upto (i + 1), front-opened (i + 1) (omega arith) l);
+          let l : i + 1 ≤ g .size = omega (arith, swept-long) in
+          omega (arith, at (i + 1) (record { low = omega arith; high = l }));
     }
 
     -- and give the front
-    pub front-swept : greatest (map (λ i. sum (take i C) - (i - 1)) (upFrom 1 (length C))) ≡ front (renumbered g x)
-    unfolding front fronts nodes
+    pub front-swept : greatest (map (λ i. sum (take i C) - 6 * i) (upFrom 1 (length C))) ≡ front (renumberedUnknowns g K x)
+    unfolding nodes
     front-swept =
-        ap (λ (n : ℕ). greatest (map (λ i. sum (take i C) - (i - 1)) (upFrom 1 n))) opened-long
+        ap (λ (n : ℕ). greatest (map (λ i. sum (take i C) - 6 * i) (upFrom 1 n))) swept-long
         ∙ ap greatest
-        (map-cong (λ i. sum (take i C) - (i - 1)) (frontAt (renumbered g x)) (upFrom 1 (g .size))
-        (λ i m. let w = upFrom-in 1 (g .size) i m in omega (arith, upto i, front-opened i (w .0) (omega arith))))
-        ∙ ap (λ (n : ℕ). greatest (map (frontAt (renumbered g x)) (upFrom 1 n))) (sym (renumbered-size G x ok))
+        (map-cong (λ i. sum (take i C) - 6 * i) (nodeFront (renumbered g x) (newCounts K x)) (upFrom 1 (g .size))
+        (λ i m. let w = upFrom-in 1 (g .size) i m in omega (arith, at i (record { low = w .0; high = omega (arith, w .1) }))))
+        ∙ ap (λ (n : ℕ). greatest (map (nodeFront (renumbered g x) (newCounts K x)) (upFrom 1 n))) (sym (renumbered-size G x ok))
+        ∙ front-unknowns G x ok K fit

@@ -1,2 +1,3 @@
 pub mod Answer
+pub mod Measurable
 pub mod Fronts

@@ -1,11 +1,5 @@
-// What the measures call answers.
-
-// "Bandwidth is the greatest difference over an edge", "Profile is the sum of q − f_q", "the reported front is the greatest".
-pub struct Measures {
-    pub bandwidth: u32,
-    pub profile: u32,
-    pub front: u32,
-}
+// What the measures call answers: its three figures, or the number of a refusal.
+use numbering_ones::Measures;
 
 pub enum MeasuresAnswer {
     Accepted(Measures),

@@ -1,76 +1,38 @@
-// The three measures of a legal graph under a numbering: for the call, and for the crates above. One walk over the rows finds f_q for
-// each number q: the profile is the sum of q − f_q; the bandwidth is the greatest, as each edge is seen from its higher end; and the
-// front follows from how often each f occurs.
+// The three measures of a legal graph under a numbering, in unknowns: for the call, and for the crates above.
 ghost use mathlib.Core.Path.{_≡_};
-ghost use mathlib.Core.Bool.{true};
+ghost use mathlib.Core.Bool.{true, false};
 ghost use lib.ListN.{length, replicate};
+ghost use Rattle.basis.specs.Lists.{sum};
 ghost use Rattle.basis.specs.Moments.{was, left};
 ghost use Rattle.spec.specs.CallsNumbering.{measureFigures};
-ghost use Rattle.spec.specs.Measures.{isNumbering, renumbered, bandwidth, profile};
+ghost use Rattle.spec.specs.Measures.{isNumbering};
+ghost use Rattle.spec.specs.Unknowns.{badCounts, renumberedUnknowns};
 ghost use Rattle.laws.specs.Handed.{graphWas, sizeNow, sizeWas};
 ghost use Rattle.graph.specs.Facts.{LegalLists};
-ghost use Rattle.numbering_measures.specs.Answer.{three};
-ghost use Rattle.numbering_measures.specs.Fronts.{opened};
-use crate::answer::Measures;
-use crate::fronts::sweep;
-use graph_envelope::legal::first;
-use graph_envelope::legal::number;
-use graph_words::larger;
-use graph_words::legal::clear;
+ghost use Rattle.numbering_ones.specs.Three.{three};
+use crate::unknowns::figures_in_unknowns;
+use numbering_ones::Measures;
 
-// What the spans q − f_q give: the greatest and the sum.
-struct Spans {
-    bandwidth: u32,
-    profile: u32,
-}
-
-// Bandwidth and profile, and for each number i the count of the numbers j with f_j = i.
-fn walk(starts: &[u16], neighbours: &[u16], numbering: &[u16], counts: &mut [u16]) -> Spans
-    requires { ⌜ LegalLists (now starts) (now neighbours) ⌝ }
-    requires { ⌜ isNumbering (sizeNow starts) (now numbering) ≡ true ⌝ }
-    requires { ⌜ now counts ≡ replicate (sizeNow starts) 0 ⌝ }
-    ensures { λ r. ⌜ r .bandwidth ≡ bandwidth (renumbered (graphWas starts neighbours) (was numbering)) ⌝ }
-    ensures { λ r. ⌜ r .profile ≡ profile (renumbered (graphWas starts neighbours) (was numbering)) ⌝ }
-    ensures { λ _. ⌜ left counts ≡ opened (graphWas starts neighbours) (was numbering) (sizeWas starts) ⌝ }
-{
-    let n = numbering.len();
-    let mut widest = 0;
-    let mut sum: u32 = 0;
-    let mut p = 0;
-    while p < n {
-        p += 1;
-        let f = first(starts, neighbours, numbering, p);
-        let span = number(numbering, p) - f;
-        widest = larger(widest, span);
-        sum += span as u32;
-        let i = f - 1;
-        counts[i] = counts[i] + 1;
-    }
-    Spans {
-        bandwidth: widest as u32,
-        profile: sum,
-    }
-}
-
-// Bandwidth, profile and front. The n words lent end as 0.
+// Bandwidth, profile and front of `total` unknowns: where these are as many as the nodes, each has one, and the rows are walked once only.
+// Any n words are lent, and end as 0.
 pub fn figures(
     starts: &[u16],
     neighbours: &[u16],
+    counts: &[u16],
     numbering: &[u16],
-    counts: &mut [u16],
+    words: &mut [u16],
+    total: usize,
 ) -> Measures
     requires { ⌜ LegalLists (now starts) (now neighbours) ⌝ }
+    requires { ⌜ badCounts (sizeNow starts) (now counts) ≡ false ⌝ }
     requires { ⌜ isNumbering (sizeNow starts) (now numbering) ≡ true ⌝ }
-    requires { ⌜ length (now counts) ≡ sizeNow starts ⌝ }
-    ensures { λ r. ⌜ three r ≡ measureFigures (renumbered (graphWas starts neighbours) (was numbering)) ⌝ }
-    ensures { λ _. ⌜ left counts ≡ replicate (sizeWas starts) 0 ⌝ }
+    requires { ⌜ length (now words) ≡ sizeNow starts ⌝ }
+    requires { ⌜ total ≡ sum (now counts) ⌝ }
+    ensures { λ r. ⌜ three r ≡ measureFigures (renumberedUnknowns (graphWas starts neighbours) (was counts) (was numbering)) ⌝ }
+    ensures { λ _. ⌜ left words ≡ replicate (sizeWas starts) 0 ⌝ }
 {
-    clear(counts, numbering.len());
-    let spans = walk(starts, neighbours, numbering, counts);
-    let most = sweep(counts);
-    Measures {
-        bandwidth: spans.bandwidth,
-        profile: spans.profile,
-        front: most as u32,
+    if total == numbering.len() {
+        return numbering_ones::legal::figures(starts, neighbours, numbering, words);
     }
+    figures_in_unknowns(starts, neighbours, counts, numbering, words)
 }

@@ -2,7 +2,7 @@
 -- stored. Assumes nothing.
 use mathlib.Core.Path.{_≡_, sym, ap, _∙_, subst}
 use mathlib.Core.Logic.{inr}
-use mathlib.Core.Bool.{true}
+use mathlib.Core.Bool.{true, false}
 use mathlib.Core.List.{List}
 use Prim.Native.Nat.{ℕ, _+_, _-_, _*_, _≤_, _<_}
 use native.Mathlib.Nat.{le-refl}
@@ -14,10 +14,12 @@ use Rattle.basis.specs.Perm.{Once}
 use Rattle.basis.proofs.Lists.{upFrom-in, length-upFrom, map-cong}
 use Rattle.spec.specs.Graph.{Graph}
 use Rattle.spec.specs.Levels.{part}
+use Rattle.spec.specs.Unknowns.{badCounts}
 use Rattle.laws.specs.Legal.{Node, LegalGraph}
+use Rattle.laws.specs.Structure.{LevelStructure}
 use Rattle.laws.proofs.Levels.{part-node}
 use Rattle.laws.proofs.Parts.{part-inside, part-once}
-use Rattle.levels_laws.specs.Areas.{wordsOf}
+use Rattle.levels_laws.specs.Areas.{wordsOf, tallyOf}
 use Rattle.levels_laws.specs.Given.{firstOf}
 use Rattle.levels_laws.specs.Members.{Members}
 use Rattle.levels_laws.specs.Starts.{membersOf}
@@ -27,6 +29,8 @@ use Rattle.numbering_sequence.specs.Answer.{Areas, PartAt}
 use Rattle.levels.proofs.OnePart.{members-lent}
 use Rattle.numbering_sequence.proofs.Members.{lowest-same, areas-stay, part-stays}
 use Rattle.numbering_sequence.proofs.Stored.{stored-slice}
+use Rattle.numbering_width.specs.Width.{Weighable}
+use Rattle.numbering_width.proofs.Structure.{structure-weighable}
 
 module _ {g : Graph} (G : LegalGraph g) (few : g .size ≤ 4096) {from to : ℕ} (X : List ℕ)
     (P : PartGiven g from to (wordsOf (g .size) X) (slice (5 * g .size) (6 * g .size) X)) where
@@ -96,6 +100,12 @@ module _ {g : Graph} (G : LegalGraph g) (few : g .size ≤ 4096) {from to : ℕ}
         low = λ i a b. m-range (getD U (4 * n + i) 0) (in-part i a b) .0;
         high = λ i a b. m-range (getD U (4 * n + i) 0) (in-part i a b) .1;
       }
+
+  -- what the width asks of words U in which a level structure of the part stands, behind n words that are 0
+  pub given-weighable : {cs : List ℕ} {k v u : ℕ} {ls U : List ℕ} → LevelStructure g z k v u ls → badCounts n cs ≡ false → length U ≡ length X
+      → ((i : ℕ) → 4 * n ≤ i → i < 5 * n → getD U i 0 ≡ getD X i 0) → tallyOf n U ≡ ls → ((i : ℕ) → i < n → getD U i 0 ≡ 0) → Weighable n from to k cs U
+  given-weighable {U = U} S counted l h levels clean =
+      structure-weighable S counted (omega (arith, l, room)) (members-at U l h) (λ q. ap (memb q) (same-members U h) ∙ m-part q) levels clean
 
   -- the words in front are 0
   pub front : (i : ℕ) → i < 4 * n → getD X i 0 ≡ 0

@@ -1,6 +1,6 @@
--- The numbers and the levels of a part handed over to the caller's lists, from the words that hold what is found of it: what
--- `give_numbers` and `give_levels` ask, and that the lists are renewed and the words as before. Assumes nothing.
-use mathlib.Core.Path.{_≡_, sym, ap, _∙_, subst}
+-- The words that hold what is found of a part: what `width_of` asks of them and returns; and its numbers and levels handed over to the
+-- caller's lists, what `give_numbers` and `give_levels` ask, and that the lists are renewed and the words as before. Assumes nothing.
+use mathlib.Core.Path.{_≡_, sym, ap, ap₂, _∙_, subst}
 use mathlib.Core.Logic.{_⊎_, inl, inr, ⊎-elim}
 use mathlib.Core.Bool.{Bool, true, false, cond}
 use mathlib.Core.List.{List, map}
@@ -19,12 +19,13 @@ use Rattle.basis.proofs.Stored.{length-stored, stored-at, stored-other}
 use Rattle.spec.specs.Graph.{Graph, nodes, ofNode}
 use Rattle.spec.specs.Levels.{part}
 use Rattle.spec.specs.Numbering.{PartResult}
+use Rattle.spec.specs.Unknowns.{badCounts, unknownWidth}
 use Rattle.laws.specs.Results.{Sound}
 use Rattle.laws.specs.Legal.{Node, LegalGraph}
 use Rattle.laws.proofs.Legal.{length-nodes, ofNode-at, ofNode-map, by-node}
 use Rattle.laws.proofs.Levels.{part-node}
 use Rattle.laws.proofs.Parts.{part-once}
-use Rattle.levels_laws.specs.Areas.{wordsOf}
+use Rattle.levels_laws.specs.Areas.{wordsOf, tallyOf}
 use Rattle.levels_laws.specs.Model.{numberAt, written}
 use Rattle.levels_laws.specs.Given.{firstOf}
 use Rattle.levels_laws.specs.Members.{Members}
@@ -33,8 +34,10 @@ use Rattle.levels_laws.specs.Starts.{membersOf}
 use Rattle.levels_laws.proofs.Blank.{run-in, run-before, run-behind}
 use Rattle.levels_laws.proofs.Written.{length-written, written-at}
 use Rattle.levels.specs.Part.{PartGiven}
+use Rattle.numbering_sequence.proofs.Stored.{stored-slice}
+use Rattle.numbering_width.specs.Width.{Weighable}
 use Rattle.numbering_part.specs.Part.{orderAt, numberFrom, numbered, renewed, Numberable}
-use Rattle.numbering_part.proofs.Given.{room, z-node, m-part, m-range, part-size, same-members, members-at, front, sixth}
+use Rattle.numbering_part.proofs.Given.{room, z-node, m-part, m-range, part-size, same-members, members-at, given-weighable, front, sixth}
 
 -- a word of a list by node is its entry one place before the number
 at-node : (L : List ℕ) {g : Graph} (q : ℕ) → Node g q → at L q ≡ ofNode L q
@@ -51,7 +54,7 @@ window a k U X r l h =
 
 module _ {g : Graph} (G : LegalGraph g) (few : g .size ≤ 4096) {from to : ℕ} (X : List ℕ)
     (P : PartGiven g from to (wordsOf (g .size) X) (slice (5 * g .size) (6 * g .size) X))
-    {found : PartResult} (R : Sound g (firstOf (g .size) from (wordsOf (g .size) X)) found)
+    {cs : List ℕ} {found : PartResult} (R : Sound g cs (firstOf (g .size) from (wordsOf (g .size) X)) found)
     {W₂ : List ℕ} (w₂ : W₂ ≡ sets (sets X (g .size) (found .order)) (5 * g .size) (found .levels)) where
   abbrev n : ℕ
   n = g .size
@@ -114,6 +117,22 @@ module _ {g : Graph} (G : LegalGraph g) (few : g .size ≤ 4096) {from to : ℕ}
   two-level i h =
       ap (λ (l : List ℕ). getD l (5 * n + i) 0) w₂
       ∙ sets-at (sets X n o) (5 * n) lv i (omega (arith, lv-size, length-sets X n o, fits)) (omega (arith, lv-size))
+
+  -- ---- the width
+
+  two-levels : tallyOf n W₂ ≡ lv
+  two-levels =
+      let k : 6 * n ≡ 5 * n + n = omega arith in
+      ap₂ (λ (i : ℕ) (l : List ℕ). slice (5 * g .size) i l) k w₂ ∙ stored-slice (sets X n o) (5 * n) n lv lv-size (omega (arith, length-sets X n o, fits))
+
+  pub width-ok : {k : ℕ} → k ≡ found .report .k → badCounts n cs ≡ false → Weighable n from to k cs W₂
+  width-ok e counted =
+      rw e (given-weighable G few X P (R .structure) counted two-size two-member two-levels (λ i h. two-low i (omega arith) (inl h) ∙ front G few X P i (omega arith)))
+
+  pub width-done : {k r : ℕ} → k ≡ found .report .k → r ≡ unknownWidth g cs k (tallyOf n W₂) → r ≡ found .report .width
+  width-done e h = h ∙ ap₂ (unknownWidth g cs) e two-levels ∙ sym (R .width)
+
+  -- ---- the numbers
 
   pub number-ok : {K : List ℕ} → length K ≡ n → Numberable n m from W₂ K
   number-ok r = record {

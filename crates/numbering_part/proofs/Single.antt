@@ -1,27 +1,27 @@
 -- A part of one node: its figures, its number and its one level, from the laws of every part and of whatever is found of it. Assumes nothing.
 use mathlib.Core.Path.{_≡_, sym, ap, _∙_}
 use mathlib.Core.Bool.{true, false, cond}
-use mathlib.Core.List.{List, [], _∷_}
-use Prim.Native.Nat.{ℕ, suc, _+_, _-_, _<_}
+use mathlib.Core.List.{List, [], _∷_, map}
+use Prim.Native.Nat.{ℕ, _+_, _-_}
 use native.Mathlib.Omega.{arith}
 use lib.ListN.{length, getD, set, length-map, length-set}
 use lib.Dec.{eqb}
 use borrow.Author.Tests.{eqb-true}
-use Rattle.basis.specs.Lists.{memb}
-use Rattle.basis.proofs.Index.{times-only}
+use Rattle.basis.specs.Lists.{memb, sum}
 use Rattle.basis.proofs.Lists.{memb-one}
 use Rattle.basis.proofs.Logic.{by-test, eqb-self}
-use Rattle.basis.proofs.Perm.{perm-length, perm-memb}
-use Rattle.spec.specs.Combined.{countAt}
+use Rattle.basis.proofs.Perm.{perm-length, perm-memb, perm-sum}
 use Rattle.spec.specs.Graph.{Graph, nodes, ofNode}
 use Rattle.spec.specs.Levels.{part}
 use Rattle.spec.specs.Numbering.{PartResult}
+use Rattle.spec.specs.Unknowns.{unknownsAt}
 use Rattle.laws.specs.Results.{Sound}
 use Rattle.laws.specs.Legal.{Node, LegalGraph}
 use Rattle.laws.specs.Structure.{LevelStructure}
-use Rattle.laws.proofs.Combined.{width-met}
-use Rattle.laws.proofs.Legal.{length-nodes, ofNode-map, by-node}
+use Rattle.laws.proofs.Legal.{length-nodes, ofNode-at, ofNode-map, by-node}
 use Rattle.laws.proofs.Levels.{part-self}
+use Rattle.laws.proofs.PartOrder.{forward-is, levels-perm}
+use Rattle.laws.proofs.UnknownOrder.{unknown-width-met, weight-is}
 use Rattle.levels_search.proofs.Tallies.{ofNode-set}
 use Rattle.numbering_part.specs.Part.{numberFrom, renewed, newNumbers, newLevels, partFiguresOf}
 
@@ -31,7 +31,7 @@ alone z [] e m = absurd (omega arith)
 alone z (x ∷ []) e m = ap (λ (y : ℕ). y ∷ []) (sym (eqb-true z x (sym (memb-one z x) ∙ m)))
 alone z (x ∷ y ∷ l) e m = absurd (omega arith)
 
-module _ {g : Graph} (G : LegalGraph g) {z : ℕ} (Z : Node g z) {found : PartResult} (R : Sound g z found) (one : length (part g z) ≡ 1) where
+module _ {g : Graph} (G : LegalGraph g) {z : ℕ} (Z : Node g z) {cs : List ℕ} {found : PartResult} (R : Sound g cs z found) (one : length (part g z) ≡ 1) where
   part-is : part g z ≡ z ∷ []
   part-is = alone z (part g z) one (part-self G Z)
 
@@ -52,31 +52,24 @@ module _ {g : Graph} (G : LegalGraph g) {z : ℕ} (Z : Node g z) {found : PartRe
   k-one : found .report .k ≡ 1
   k-one = sym (S .u-last) ∙ ap (ofNode ls) (only _ (R .u-part)) ∙ level-one
 
-  -- and has no other node
-  count-one : countAt ls 1 ≡ 1
-  unfolding countAt ofNode
-  count-one = times-only 1 ls (z - 1) (omega (arith, S .size, Z .low, Z .high)) at-z other
-    where
-      at-z : getD ls (z - 1) 0 ≡ 1
-      at-z = let e : z ≡ suc (z - 1) = omega (arith, Z .low) in ap (ofNode ls) (sym e) ∙ level-one
+  -- and has all its unknowns
+  unknowns-one : unknownsAt g cs ls 1 ≡ ofNode cs z
+  unknowns-one =
+      let f : ℕ → ℕ = λ x. cond (eqb (ofNode ls x) 1) (ofNode cs x) 0 in
+      let r = forward-is G Z S (R .v-part) in
+      let all : sum (map f (part g z)) ≡ ofNode cs z + 0 = ap (λ (l : List ℕ). sum (map f l)) part-is ∙ rw level-one in
+      sym (weight-is G cs Z S r 1 (omega arith)) ∙ perm-sum f (levels-perm G Z S r) ∙ all ∙ omega arith
 
-      other : (j : ℕ) → j < length ls → getD ls j 0 ≡ 1 → j ≡ z - 1
-      other j b e =
-          let N : Node g (suc j) = record { low = omega arith; high = omega (arith, S .size) } in
-          by-test (memb (suc j) (part g z))
-          (λ t. omega (arith, only (suc j) t))
-          (λ t. let o : ofNode ls (suc j) ≡ 0 = S .outside (suc j) N t in absurd (omega (arith, o)))
-
-  width-one : found .report .width ≡ 1
+  width-one : found .report .width ≡ getD cs (z - 1) 0
   width-one =
-      let m = width-met (found .report .k) ls (omega (arith, k-one)) in
+      let m = unknown-width-met g cs (found .report .k) ls (omega (arith, k-one)) in
       let i : m .0 ≡ 1 = omega (arith, m .1, m .2, k-one) in
-      R .width ∙ sym (m .3) ∙ ap (countAt ls) i ∙ count-one
+      R .width ∙ sym (m .3) ∙ ap (unknownsAt g cs ls) i ∙ unknowns-one ∙ ofNode-at cs z (Z .low)
 
   passes-one : found .report .passes ≡ 1
   passes-one = omega (arith, R .some-pass, R .most-passes, k-one)
 
-  pub figures-one : record { k = 1; width = 1; passes = 1 } ≡ partFiguresOf (found .report)
+  pub figures-one : record { k = 1; width = getD cs (z - 1) 0; passes = 1 } ≡ partFiguresOf (found .report)
   figures-one = λ i. record { k = sym k-one i; width = sym width-one i; passes = sym passes-one i }
 
   -- ---- the two lists

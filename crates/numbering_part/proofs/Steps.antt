@@ -1,5 +1,5 @@
--- The order of a part after its combined levels, by what each of the two has ensured of the words: what `sequence` asks, and that the words
--- then hold what is found of the part. Assumes nothing.
+-- The order of a part after its combined levels, by what each of the two has ensured of the words: what `sequence` asks, that the words then
+-- hold what is found of the part, and its report. Assumes nothing.
 use mathlib.Core.Path.{_≡_, sym, ap, _∙_, ap₂}
 use mathlib.Core.List.{List, _++_, append-assoc}
 use Prim.Native.Nat.{ℕ, _+_, _-_, _*_, _≤_}
@@ -10,21 +10,20 @@ use Rattle.basis.proofs.Perm.{perm-length}
 use Rattle.spec.specs.Combined.{combined}
 use Rattle.spec.specs.Ends.{Ends, ends}
 use Rattle.spec.specs.Graph.{Graph}
-use Rattle.spec.specs.Levels.{part}
-use Rattle.spec.specs.Numbering.{partResultBy, partResult}
+use Rattle.spec.specs.Numbering.{directionOf, partResultBy, partResult}
 use Rattle.laws.specs.Results.{Sound}
 use Rattle.laws.specs.Legal.{Node, LegalGraph}
 use Rattle.laws.proofs.Combined.{combined-levels}
 use Rattle.laws.proofs.Ends.{ends-of}
 use Rattle.laws.proofs.Legal.{ofNode-at}
-use Rattle.laws.proofs.Named.{part-width}
 use Rattle.levels_laws.specs.Areas.{wordsOf}
 use Rattle.levels_laws.specs.Given.{firstOf, merged}
 use Rattle.levels_laws.proofs.GivenEntry.{merged-alone}
 use Rattle.levels.specs.Part.{PartGiven, partLevelsOf}
 use Rattle.levels.specs.declared.shape.PartLevels.{PartLevels}
-use Rattle.numbering_sequence.specs.Answer.{Sequenceable}
-use Rattle.numbering_part.specs.Part.{partFiguresOf}
+use Rattle.numbering_sequence.specs.Answer.{sequenceOf, Sequenceable}
+use Rattle.numbering_sequence.specs.declared.shape.Sequence.{Sequence}
+use Rattle.numbering_part.specs.Part.{foundMeaning}
 use Rattle.numbering_sequence.proofs.Stored.{stored-swap, stored-again}
 use Rattle.laws.proofs.Whole.{part-sound}
 use Rattle.numbering_part.proofs.Given.{room, z-node, part-size, stored-first, stored-areas, stored-part, stored-levels}
@@ -86,21 +85,29 @@ module _ {g : Graph} (G : LegalGraph g) (few : g .size ≤ 4096) {from to : ℕ}
     pub sequence-ready : {r : PartLevels} → r ≡ partLevelsOf g e → Sequenceable g (5 * n) (4 * n + from) m (r .k) (r .v) (r .u) W₁
     sequence-ready p = sequence-ok (ap (λ (x : PartLevels). x .k) p) (ap (λ (x : PartLevels). x .v) p) (ap (λ (x : PartLevels). x .u) p)
 
-    -- the order and the levels as now named are there, and all else is as it was
-    pub sequence-done : {W₂ : List ℕ} → W₂ ≡ sets (sets W₁ n (partResult g (getD W₁ (4 * n + from) 0) .order)) (5 * n) (partResult g (getD W₁ (4 * n + from) 0) .levels)
-        → W₂ ≡ sets (sets X n (partResult g z .order)) (5 * n) (partResult g z .levels)
-    sequence-done w₂ =
-        let R : Sound g z (partResult g z) = part-sound G .sound z Z in
-        let o : List ℕ = partResult g z .order in
-        let lv : List ℕ = partResult g z .levels in
-        let s : length o ≡ m = perm-length (R .perm) ∙ part-size G few X P in
-        w₂ ∙ ap₂ (λ (l : List ℕ) (x : ℕ). sets (sets l n (partResult g x .order)) (5 * n) (partResult g x .levels)) one-is first-is
-        ∙ ap (λ (l : List ℕ). sets l (5 * n) lv) (stored-swap C X n o (5 * n) (omega (arith, P .most)))
-        ∙ stored-again (sets X n o) (5 * n) C lv (C-size ∙ sym (R .structure .size)) (omega (arith, R .structure .size, length-sets X n o, room G few X P))
+    module _ (cs : List ℕ) where
+      -- the order and the levels as now named are there, and all else is as it was
+      pub sequence-done : {W₂ : List ℕ}
+          → W₂ ≡ sets (sets W₁ n (partResult g cs (getD W₁ (4 * n + from) 0) .order)) (5 * n) (partResult g cs (getD W₁ (4 * n + from) 0) .levels)
+          → W₂ ≡ sets (sets X n (partResult g cs z .order)) (5 * n) (partResult g cs z .levels)
+      sequence-done w₂ =
+          let R : Sound g cs z (partResult g cs z) = part-sound G cs .sound z Z in
+          let o : List ℕ = partResult g cs z .order in
+          let lv : List ℕ = partResult g cs z .levels in
+          let s : length o ≡ m = perm-length (R .perm) ∙ part-size G few X P in
+          w₂ ∙ ap₂ (λ (l : List ℕ) (x : ℕ). sets (sets l n (partResult g cs x .order)) (5 * n) (partResult g cs x .levels)) one-is first-is
+          ∙ ap (λ (l : List ℕ). sets l (5 * n) lv) (stored-swap C X n o (5 * n) (omega (arith, P .most)))
+          ∙ stored-again (sets X n o) (5 * n) C lv (C-size ∙ sym (R .structure .size)) (omega (arith, R .structure .size, length-sets X n o, room G few X P))
 
-  -- what is returned
-  pub figures-done : {r : PartLevels} → r ≡ partLevelsOf g e → record { k = r .k; width = r .width; passes = r .passes } ≡ partFiguresOf (partResult g z .report)
-  unfolding partResult partResultBy
-  figures-done {r} p =
-      ap (λ (x : PartLevels). record { k = x .k; width = x .width; passes = x .passes }) p
-      ∙ ap (λ (w : ℕ). record { k = e .k; width = w; passes = e .passes }) (sym (part-width G Z))
+      -- what is returned
+      pub depth-done : {r : PartLevels} → r ≡ partLevelsOf g e → r .k ≡ partResult g cs z .report .k
+      unfolding partResult partResultBy
+      depth-done p = ap (λ (x : PartLevels). x .k) p
+
+      pub found-done : {r : PartLevels} → r ≡ partLevelsOf g e → {s : Sequence} → s ≡ sequenceOf g cs (ends g (getD W₁ (4 * n + from) 0))
+          → {w : ℕ} → w ≡ partResult g cs z .report .width
+          → foundMeaning (record { v = s .v; u = s .u; k = r .k; width = w; passes = r .passes; turned = s .turned }) ≡ partResult g cs z .report
+      unfolding partResult partResultBy
+      found-done p {s} q h =
+          let q′ : s ≡ sequenceOf g cs e = q ∙ ap (λ (x : ℕ). sequenceOf g cs (ends g x)) first-is in
+          λ i. record { v = q′ i .v; u = q′ i .u; k = p i .k; width = h i; passes = p i .passes; direction = directionOf (q′ i .turned) }

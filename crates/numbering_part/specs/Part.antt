@@ -8,10 +8,11 @@ use Rattle.basis.specs.Lists.{memb, upFrom, position}
 use Rattle.basis.specs.Perm.{Once}
 use Rattle.spec.specs.Graph.{Graph, nodes, ofNode}
 use Rattle.spec.specs.Levels.{part}
-use Rattle.spec.specs.Numbering.{PartReport, PartResult}
+use Rattle.spec.specs.Numbering.{PartReport, PartResult, directionOf}
 use Rattle.levels_laws.specs.Areas.{wordsOf}
 use Rattle.levels_laws.specs.Given.{firstOf}
 use Rattle.numbering_part.specs.declared.shape.PartFigures.{PartFigures}
+use Rattle.numbering_part.specs.declared.shape.PartFound.{PartFound}
 
 -- the order of m nodes that stands behind the first n words
 abbrev pub orderAt : ℕ → ℕ → List ℕ → List ℕ
@@ -40,6 +41,10 @@ newNumbers g z found a X = renewed g z (numberFrom a (found .order)) X
 -- the levels L, by old number, after they got their levels
 abbrev pub newLevels : Graph → ℕ → PartResult → List ℕ → List ℕ
 newLevels g z found L = renewed g z (ofNode (found .levels)) L
+
+-- the report of a part of which this was found
+abbrev pub foundMeaning : PartFound → PartReport
+foundMeaning f = record { v = f .v; u = f .u; k = f .k; width = f .width; passes = f .passes; direction = directionOf (f .turned) }
 
 -- what the run sums up of a part's report
 abbrev pub partFiguresOf : PartReport → PartFigures

@@ -2,27 +2,32 @@
 // part's order; then come the members of the parts and, where the tally was, the part's levels by old number. Linear in the part's nodes and
 // entries: nothing here is n.
 ghost use mathlib.Core.Path.{_≡_};
+ghost use mathlib.Core.Bool.{false};
 ghost use Prim.Native.Nat.{_+_, _-_, _≤_, _<_};
 ghost use lib.ListN.{length, replicate, set};
-ghost use lib.Seq.{sets, slice};
+ghost use lib.Seq.{sets};
 ghost use Rattle.basis.specs.Moments.{was, left};
 ghost use Rattle.basis.specs.Stored.{stored, nought};
 ghost use Rattle.spec.specs.Graph.{graphRefusal};
 ghost use Rattle.spec.specs.Numbering.{partResult};
+ghost use Rattle.spec.specs.Unknowns.{badCounts};
 ghost use Rattle.laws.specs.Handed.{graphNow, graphWas, sizeNow, sizeWas};
 ghost use Rattle.laws.specs.Scratch.{tallyArea, areasEnd};
-ghost use Rattle.levels_laws.specs.Areas.{wordsOf};
+ghost use Rattle.levels_laws.specs.Areas.{wordsOf, tallyOf};
 ghost use Rattle.levels_laws.specs.Model.{numberAt, written};
 ghost use Rattle.levels_laws.specs.Members.{Members};
 ghost use Rattle.levels_laws.specs.Starts.{membersOf};
 ghost use Rattle.levels.specs.Part.{PartGiven};
-ghost use Rattle.numbering_part.specs.Part.{orderAt, numbered, lowestIn, newNumbers, newLevels, partFiguresOf, Numberable};
+ghost use Rattle.numbering_sequence.specs.Answer.{withResult};
+ghost use Rattle.numbering_part.specs.Part.{orderAt, numbered, lowestIn, newNumbers, newLevels, foundMeaning, partFiguresOf, Numberable};
 use crate::shape::PartFigures;
+use crate::shape::PartFound;
 use graph_words::areas::MEMBERS;
 use graph_words::areas::TALLY;
 use graph_words::wide;
 use levels::legal::combine_part;
 use numbering_sequence::legal::sequence;
+use numbering_width::legal::width_of;
 
 // "take the next free numbers": those after a, in the part's order, whose words it clears.
 pub fn give_numbers(scratch: &mut [u16], numbers: &mut [u16], n: usize, m: usize, a: usize)
@@ -70,11 +75,53 @@ pub fn number_lone(numbers: &mut [u16], levels: &mut [u16], q: usize, from: usiz
     levels[q - 1] = 1;
 }
 
+// Levels, order and width of the part whose members stand from..to: the order stands behind the first n words, the levels in TALLY. All else
+// is as before.
+pub fn find_part(
+    starts: &[u16],
+    neighbours: &[u16],
+    counts: &[u16],
+    scratch: &mut [u16],
+    from: usize,
+    to: usize,
+) -> PartFound
+    requires { ⌜ graphRefusal (now starts) (now neighbours) ≡ 0 ⌝ }
+    requires { ⌜ badCounts (sizeNow starts) (now counts) ≡ false ⌝ }
+    requires { ⌜ PartGiven (graphNow starts neighbours) from to (wordsOf (sizeNow starts) (now scratch)) (tallyOf (sizeNow starts) (now scratch)) ⌝ }
+    ensures { λ r. ⌜ foundMeaning r ≡ partResult (graphWas starts neighbours) (was counts) (lowestIn (sizeWas starts) from (was scratch)) .report ⌝ }
+    ensures { λ _. ⌜ left scratch ≡ withResult (sizeWas starts) (tallyArea (sizeWas starts)) (partResult (graphWas starts neighbours) (was counts) (lowestIn (sizeWas starts) from (was scratch))) (was scratch) ⌝ }
+{
+    let n = starts.len() - 1;
+    let f = combine_part(starts, neighbours, scratch, from, to);
+    let s = sequence(
+        starts,
+        neighbours,
+        counts,
+        scratch,
+        TALLY * n,
+        MEMBERS * n + from,
+        to - from,
+        f.k,
+        f.v,
+        f.u,
+    );
+    let width = width_of(counts, scratch, n, from, to, f.k);
+    PartFound {
+        v: s.v,
+        u: s.u,
+        k: f.k,
+        width,
+        passes: f.passes,
+        turned: s.turned,
+    }
+}
+
 // The part whose members stand from..to: its nodes get the numbers after `from` in `numbers`, and their levels in `levels`, n words each by
 // old number. The scratch is as before.
 pub fn number_part(
     starts: &[u16],
     neighbours: &[u16],
+    counts: &[u16],
     scratch: &mut [u16],
     numbers: &mut [u16],
     levels: &mut [u16],
@@ -82,28 +129,17 @@ pub fn number_part(
     to: usize,
 ) -> PartFigures
     requires { ⌜ graphRefusal (now starts) (now neighbours) ≡ 0 ⌝ }
-    requires { ⌜ PartGiven (graphNow starts neighbours) from to (wordsOf (sizeNow starts) (now scratch)) (slice (tallyArea (sizeNow starts)) (areasEnd (sizeNow starts)) (now scratch)) ⌝ }
+    requires { ⌜ badCounts (sizeNow starts) (now counts) ≡ false ⌝ }
+    requires { ⌜ PartGiven (graphNow starts neighbours) from to (wordsOf (sizeNow starts) (now scratch)) (tallyOf (sizeNow starts) (now scratch)) ⌝ }
     requires { ⌜ (length (now numbers) ≡ sizeNow starts) × (length (now levels) ≡ sizeNow starts) ⌝ }
-    ensures { λ r. ⌜ r ≡ partFiguresOf (partResult (graphWas starts neighbours) (lowestIn (sizeWas starts) from (was scratch)) .report) ⌝ }
+    ensures { λ r. ⌜ r ≡ partFiguresOf (partResult (graphWas starts neighbours) (was counts) (lowestIn (sizeWas starts) from (was scratch)) .report) ⌝ }
     ensures { λ _. ⌜ left scratch ≡ was scratch ⌝ }
-    ensures { λ _. ⌜ left numbers ≡ newNumbers (graphWas starts neighbours) (lowestIn (sizeWas starts) from (was scratch)) (partResult (graphWas starts neighbours) (lowestIn (sizeWas starts) from (was scratch))) from (was numbers) ⌝ }
-    ensures { λ _. ⌜ left levels ≡ newLevels (graphWas starts neighbours) (lowestIn (sizeWas starts) from (was scratch)) (partResult (graphWas starts neighbours) (lowestIn (sizeWas starts) from (was scratch))) (was levels) ⌝ }
+    ensures { λ _. ⌜ left numbers ≡ newNumbers (graphWas starts neighbours) (lowestIn (sizeWas starts) from (was scratch)) (partResult (graphWas starts neighbours) (was counts) (lowestIn (sizeWas starts) from (was scratch))) from (was numbers) ⌝ }
+    ensures { λ _. ⌜ left levels ≡ newLevels (graphWas starts neighbours) (lowestIn (sizeWas starts) from (was scratch)) (partResult (graphWas starts neighbours) (was counts) (lowestIn (sizeWas starts) from (was scratch))) (was levels) ⌝ }
 {
     let n = starts.len() - 1;
-    let m = to - from;
-    let f = combine_part(starts, neighbours, scratch, from, to);
-    sequence(
-        starts,
-        neighbours,
-        scratch,
-        TALLY * n,
-        MEMBERS * n + from,
-        m,
-        f.k,
-        f.v,
-        f.u,
-    );
-    give_numbers(scratch, numbers, n, m, from);
+    let f = find_part(starts, neighbours, counts, scratch, from, to);
+    give_numbers(scratch, numbers, n, to - from, from);
     give_levels(scratch, levels, n, from, to);
     PartFigures {
         k: f.k,

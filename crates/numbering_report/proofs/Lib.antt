@@ -1,2 +1,3 @@
 pub mod Reported
 pub mod Found
+pub mod Refusals

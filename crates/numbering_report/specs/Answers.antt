@@ -1,8 +1,6 @@
 -- What the part report means in document 01's numbers and values. Assumes nothing.
-use Prim.Native.Nat.{ℕ}
 use Rattle.spec.specs.Lent.{Outcome, accepted, refused}
 use Rattle.spec.specs.Numbering as numbering
-use Rattle.numbering_sequence.specs.declared.shape.Sequence.{Sequence}
 use Rattle.numbering_report.specs.declared.answer.Direction.{Direction}
 use Rattle.numbering_report.specs.declared.answer.Direction.the-variants.{Forward, Reversed}
 use Rattle.numbering_report.specs.declared.answer.PartReport.{PartReport}
@@ -20,10 +18,6 @@ reportMeaning r = record { v = r .v; u = r .u; k = r .k; width = r .width; passe
 
 -- the call's answer
 abbrev pub answerMeaning : ReportAnswer → Outcome numbering.PartReport
--- 1 to 6 of the table, by its number
+-- 1 to 6 or 15 of the table, by its number
 answerMeaning (Refused c) = refused c
 answerMeaning (Report r) = accepted (reportMeaning r)
-
--- the report of the part with the order s
-abbrev pub reported : Sequence → ℕ → ℕ → ℕ → numbering.PartReport
-reported s k width passes = record { v = s .v; u = s .u; k = k; width = width; passes = passes; direction = numbering.directionOf (s .turned) }

@@ -5,7 +5,7 @@ pub enum Direction {
     Reversed,
 }
 
-// "The part report gives v and u as now named, k, the combined levels' width, passes and a direction"
+// "The part report gives v and u as now named, k, the combined levels' width, passes and a direction"; the width is in unknowns
 pub struct PartReport {
     pub v: u16,
     pub u: u16,

@@ -1,10 +1,11 @@
-// The report of a part, from what its ends, its combined levels and its order gave.
+// The report of a part, from what was found of it.
 ghost use mathlib.Core.Path.{_≡_};
 ghost use Rattle.spec.specs.Numbering.{directionOf};
-ghost use Rattle.numbering_report.specs.Answers.{directionMeaning, reportMeaning, reported};
+ghost use Rattle.numbering_part.specs.Part.{foundMeaning};
+ghost use Rattle.numbering_report.specs.Answers.{directionMeaning, reportMeaning};
 use crate::answer::Direction;
 use crate::answer::PartReport;
-use numbering_sequence::shape::Sequence;
+use numbering_part::shape::PartFound;
 
 // Reversed exactly if the part's numbers were turned.
 fn direction(turned: bool) -> Direction
@@ -16,17 +17,17 @@ fn direction(turned: bool) -> Direction
     Direction::Forward
 }
 
-// The report of the part with the order s, of k levels; a change of names leaves their width as it was.
-pub fn report(s: Sequence, k: u16, width: u16, passes: u16) -> PartReport
-    ensures { λ r. ⌜ reportMeaning r ≡ reported s k width passes ⌝ }
+// The report of the part of which this was found.
+pub fn report(f: PartFound) -> PartReport
+    ensures { λ r. ⌜ reportMeaning r ≡ foundMeaning f ⌝ }
 {
-    let way = direction(s.turned);
+    let way = direction(f.turned);
     PartReport {
-        v: s.v,
-        u: s.u,
-        k,
-        width,
-        passes,
+        v: f.v,
+        u: f.u,
+        k: f.k,
+        width: f.width,
+        passes: f.passes,
         direction: way,
     }
 }

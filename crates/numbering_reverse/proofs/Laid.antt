@@ -9,8 +9,9 @@ use borrow.Rule.Slice.PartMut.{midOf, putMid}
 use lib.ListN.{length, take, drop, getD, replicate, length-append, length-replicate, getD-replicate, take-append-drop, List·getD-append}
 use lib.Seq.{take-at, drop-at, drop-drop}
 use Rattle.spec.specs.Graph.{Graph, sizeOf}
-use Rattle.spec.specs.Measures.{inOrder, profile}
+use Rattle.spec.specs.Measures.{profile}
 use Rattle.spec.specs.Numbering.{turns}
+use Rattle.spec.specs.Unknowns.{orderUnknowns}
 use Rattle.numbering_reverse.specs.Places.{segment, Part, Clean}
 
 -- n zeros, the order, the rest
@@ -57,11 +58,11 @@ module _ (n m : ℕ) (o R W : List ℕ) (len : length o ≡ m) (e : W ≡ laid n
       ∙ ap (λ (l : List ℕ). replicate n 0 ++ (l ++ R)) (q ∙ ap reverse (ap (λ (j : ℕ). take j (drop n W)) k ∙ laid-order))
 
 -- "exactly if that makes its profile less"
-module _ (g : Graph) (o : List ℕ) {b f : ℕ} (eb : b ≡ profile (inOrder g (reverse o))) (ef : f ≡ profile (inOrder g o)) where
-  pub turns-yes : b < f → true ≡ turns g o
+module _ (g : Graph) (K o : List ℕ) {b f : ℕ} (eb : b ≡ profile (orderUnknowns g K (reverse o))) (ef : f ≡ profile (orderUnknowns g K o)) where
+  pub turns-yes : b < f → true ≡ turns g K o
   unfolding turns
-  turns-yes h = sym (lt-ltb (profile (inOrder g (reverse o))) (profile (inOrder g o)) (omega arith))
+  turns-yes h = sym (lt-ltb (profile (orderUnknowns g K (reverse o))) (profile (orderUnknowns g K o)) (omega arith))
 
-  pub turns-no : f ≤ b → false ≡ turns g o
+  pub turns-no : f ≤ b → false ≡ turns g K o
   unfolding turns
-  turns-no h = sym (le-ltb (profile (inOrder g (reverse o))) (profile (inOrder g o)) (omega arith))
+  turns-no h = sym (le-ltb (profile (orderUnknowns g K (reverse o))) (profile (orderUnknowns g K o)) (omega arith))

@@ -1,4 +1,4 @@
--- A part's order in the working words before, and after, its places are put. Assumes nothing.
+-- A part's order in the working words before, and after, the unknowns ahead are put. Assumes nothing.
 use mathlib.Core.Path.{_≡_, sym, ap, _∙_, subst}
 use mathlib.Core.List.{List, _++_}
 use Prim.Native.Nat.{ℕ, _+_, _≤_}
@@ -19,7 +19,7 @@ module _ {S N : List ℕ} (n m : ℕ) (B : List ℕ) (size : n ≡ sizeOf S) (fi
   pub ready-listed : Listed n (segment n m B)
   ready-listed = subst (λ (k : ℕ). Listed k (segment n m B)) (sym size) (part-listed P)
 
-  module _ (W : List ℕ) (p : Put n m B W m) where
+  module _ (K W : List ℕ) (p : Put K n m B W m) where
     -- the order stands as before
     pub order-kept : segment n m W ≡ segment n m B
     order-kept = ap (take m) (p .behind)
@@ -33,10 +33,10 @@ module _ {S N : List ℕ} (n m : ℕ) (B : List ℕ) (size : n ≡ sizeOf S) (fi
     listed-after : Listed n (segment n m W)
     listed-after = subst (λ (o : List ℕ). Listed n o) (sym order-kept) ready-listed
 
-    pub placed-after : Placed (segment n m W) W
-    placed-after = subst (λ (o : List ℕ). Placed o W) (sym order-kept) (put-all n m B fit W p)
+    pub placed-after : Placed K (segment n m W) W
+    placed-after = subst (λ (o : List ℕ). Placed K o W) (sym order-kept) (put-all n m B fit K W p)
 
-    -- the places can be taken away again, and the first n words are then 0
+    -- the words can be taken away again, and the first n words are then 0
     pub erase-ask : Erasable 0 n m W
     erase-ask = record { held = fit-after; inside = λ z i. let r = listed-after .inside z i in (r .0, omega (arith, r .1)) }
 

@@ -1,2 +1,2 @@
-// Whether a part's numbers are turned end for end: the profile of its order, and of the order reversed.
+// Whether a part's numbers are turned end for end: the profile in unknowns of its order, and of the order reversed.
 pub mod legal;

@@ -1,6 +1,6 @@
 -- A part's order and its turn in the working words, from the levels as now named. Assumes nothing.
 use mathlib.Core.Path.{_≡_, refl, sym, ap, ap₂, _∙_}
-use mathlib.Core.Bool.{Bool, true, cond}
+use mathlib.Core.Bool.{Bool, true, false, cond}
 use mathlib.Core.List.{List, _++_, reverse}
 use Prim.Native.Nat.{ℕ, _+_, _≤_}
 use native.Mathlib.Omega.{arith}
@@ -13,6 +13,7 @@ use Rattle.spec.specs.Ends.{Ends, ends}
 use Rattle.spec.specs.Graph.{Graph, graphOf, graphRefusal, sizeOf}
 use Rattle.spec.specs.Levels.{part}
 use Rattle.spec.specs.Numbering.{finishNode, partLevels, forwardOrder, turns, partResultBy, partResult}
+use Rattle.spec.specs.Unknowns.{badCounts}
 use Rattle.laws.specs.Legal.{Node, LegalGraph}
 use Rattle.laws.specs.Structure.{LevelStructure}
 use Rattle.laws.proofs.Levels.{part-node, part-on}
@@ -30,9 +31,9 @@ use Rattle.numbering_sequence.proofs.Members.{lowest-node, part-size}
 use Rattle.numbering_sequence.proofs.Structured.{laid-stored, structured-behind, structured-starting, structured-size, structured-words}
 
 -- the order of a part, after any turn
-turned-order : (g : Graph) (z : ℕ) → partResult g z .order ≡ cond (turns g (forwardBy g (ends g z))) (reverse (forwardBy g (ends g z))) (forwardBy g (ends g z))
+turned-order : (g : Graph) (K : List ℕ) (z : ℕ) → partResult g K z .order ≡ cond (turns g K (forwardBy g (ends g z))) (reverse (forwardBy g (ends g z))) (forwardBy g (ends g z))
 unfolding partResult partResultBy
-turned-order g z = refl
+turned-order g K z = refl
 
 cond-length : (b : Bool) (o : List ℕ) → length (cond b (reverse o) o) ≡ length o
 cond-length b o = by-test b (λ e. rw e (length-reverse o)) (λ e. rw e)
@@ -41,8 +42,8 @@ module _ {g : Graph} (G : LegalGraph g) {z : ℕ} (Z : Node g z) where
   forward-size : length (forwardBy g (ends g z)) ≡ length (part g z)
   forward-size = order-length G Z (part-levels G Z) (start-part G Z)
 
-  pub result-size : length (partResult g z .order) ≡ length (part g z)
-  result-size = ap length (turned-order g z) ∙ cond-length (turns g (forwardBy g (ends g z))) (forwardBy g (ends g z)) ∙ forward-size
+  pub result-size : (K : List ℕ) → length (partResult g K z .order) ≡ length (part g z)
+  result-size K = ap length (turned-order g K z) ∙ cond-length (turns g K (forwardBy g (ends g z))) (forwardBy g (ends g z)) ∙ forward-size
 
 module _ (S N : List ℕ) (legal : graphRefusal S N ≡ 0) {at from m k v : ℕ} {W : List ℕ} (A : Named (graphOf S N) at from m k v W) where
   abbrev g : Graph
@@ -96,8 +97,12 @@ module _ (S N : List ℕ) (legal : graphRefusal S N ≡ 0) {at from m k v : ℕ}
         }
 
     -- what `turn` asks
-    pub arranged-turn : ((sizeOf S ≡ sizeOf S) × (sizeOf S + m ≤ length W₁)) × (Part S N (segment (sizeOf S) m W₁) × Clean (sizeOf S) (segment (sizeOf S) m W₁) W₁)
-    arranged-turn = laid-ready (sizeOf S) m (forwardBy g e) (drop (sizeOf S + m) W) W₁ order-size stands refl is-part
+    pub arranged-turn : (K : List ℕ) → badCounts (sizeOf S) K ≡ false
+        → ((sizeOf S ≡ sizeOf S) × (sizeOf S + m ≤ length W₁))
+        × (Part S N (segment (sizeOf S) m W₁) × ((badCounts (sizeOf S) K ≡ false) × Clean (sizeOf S) (segment (sizeOf S) m W₁) W₁))
+    arranged-turn K counted =
+        let ready = laid-ready (sizeOf S) m (forwardBy g e) (drop (sizeOf S + m) W) W₁ order-size stands refl is-part in
+        (ready .0, (ready .1 .0, (counted, ready .1 .1)))
 
     -- and what it leaves
     order-is : segment (sizeOf S) m W₁ ≡ forwardBy g e
@@ -109,19 +114,19 @@ module _ (S N : List ℕ) (legal : graphRefusal S N ≡ 0) {at from m k v : ℕ}
         ∙ ap (drop m) (ap (drop (sizeOf S)) stands ∙ drop-at (replicate (sizeOf S) 0) (forwardBy g e ++ drop (sizeOf S + m) W) (sizeOf S) (length-replicate (sizeOf S) 0))
         ∙ drop-at (forwardBy g e) (drop (sizeOf S + m) W) m order-size
 
-    module _ {r : Bool} (t : r ≡ turns (graphOf S N) (segment (sizeOf S) m W₁)) where
-      pub arranged-turns : r ≡ turns (graphOf S N) (forwardBy (graphOf S N) (ends (graphOf S N) (getD W from 0)))
-      arranged-turns = t ∙ ap (turns g) order-is
+    module _ (K : List ℕ) {r : Bool} (t : r ≡ turns (graphOf S N) K (segment (sizeOf S) m W₁)) where
+      pub arranged-turns : r ≡ turns (graphOf S N) K (forwardBy (graphOf S N) (ends (graphOf S N) (getD W from 0)))
+      arranged-turns = t ∙ ap (turns g K) order-is
 
       pub arranged-words : {W₂ : List ℕ}
           → W₂ ≡ replicate (sizeOf S) 0 ++ (cond r (reverse (segment (sizeOf S) m W₁)) (segment (sizeOf S) m W₁) ++ drop (sizeOf S + m) W₁)
-          → W₂ ≡ sets W (sizeOf S) (partResult (graphOf S N) (getD W from 0) .order)
+          → W₂ ≡ sets W (sizeOf S) (partResult (graphOf S N) K (getD W from 0) .order)
       arranged-words {W₂} d =
           d ∙ ap₂ (λ (o x : List ℕ). replicate (sizeOf S) 0 ++ (o ++ x)) turned rest-is
-          ∙ laid-stored (A .areas) (partResult g z .order) size (omega (arith, part-most g z, part-size (A .part) (A .areas .from-held)))
+          ∙ laid-stored (A .areas) (partResult g K z .order) size (omega (arith, part-most g z, part-size (A .part) (A .areas .from-held)))
         where
-          size : length (partResult g z .order) ≡ m
-          size = result-size G Z ∙ part-size (A .part) (A .areas .from-held)
+          size : length (partResult g K z .order) ≡ m
+          size = result-size G Z K ∙ part-size (A .part) (A .areas .from-held)
 
-          turned : cond r (reverse (segment (sizeOf S) m W₁)) (segment (sizeOf S) m W₁) ≡ partResult g z .order
-          turned = ap₂ (λ (b : Bool) (o : List ℕ). cond b (reverse o) o) arranged-turns order-is ∙ sym (turned-order g z)
+          turned : cond r (reverse (segment (sizeOf S) m W₁)) (segment (sizeOf S) m W₁) ≡ partResult g K z .order
+          turned = ap₂ (λ (b : Bool) (o : List ℕ). cond b (reverse o) o) arranged-turns order-is ∙ sym (turned-order g K z)

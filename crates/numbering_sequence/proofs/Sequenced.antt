@@ -35,9 +35,9 @@ pub record Renamed (g : Graph) (at from : ℕ) (W : List ℕ) (x y : ℕ) (W₁ 
   pub finish : y ≡ finishNode g (ends g (getD W from 0))
   pub words : W₁ ≡ sets W at (partLevels g (ends g (getD W from 0)))
 
-levels-of : (g : Graph) (z : ℕ) → partResult g z .levels ≡ partLevels g (ends g z)
+levels-of : (g : Graph) (K : List ℕ) (z : ℕ) → partResult g K z .levels ≡ partLevels g (ends g z)
 unfolding partResult partResultBy
-levels-of g z = refl
+levels-of g K z = refl
 
 module _ (S N : List ℕ) (legal : graphRefusal S N ≡ 0) {at from m k v u : ℕ} {W : List ℕ} (Q : Sequenceable (graphOf S N) at from m k v u W) where
   abbrev g : Graph
@@ -126,20 +126,20 @@ module _ (S N : List ℕ) (legal : graphRefusal S N ≡ 0) {at from m k v u : �
     }
 
     -- and with it what is returned and left
-    pub sequenced : {t : Bool} {W₂ : List ℕ} → (t ≡ turns (graphOf S N) (forwardBy (graphOf S N) (ends (graphOf S N) (getD W₁ from 0))))
-        × (W₂ ≡ sets W₁ (sizeOf S) (partResult (graphOf S N) (getD W₁ from 0) .order))
-        → (_≡_ {A = Sequence} (record { v = x; u = y; turned = t }) (sequenceOf (graphOf S N) (ends (graphOf S N) (getD W from 0))))
-        × (W₂ ≡ sets (sets W (sizeOf S) (partResult (graphOf S N) (getD W from 0) .order)) at (partResult (graphOf S N) (getD W from 0) .levels))
-    sequenced {t} {W₂} d =
-        let h : t ≡ turns g (forwardBy g e) = d .0 ∙ ap (λ (q : ℕ). turns g (forwardBy g (ends g q))) same-lowest in (
+    pub sequenced : (K : List ℕ) {t : Bool} {W₂ : List ℕ} → (t ≡ turns (graphOf S N) K (forwardBy (graphOf S N) (ends (graphOf S N) (getD W₁ from 0))))
+        × (W₂ ≡ sets W₁ (sizeOf S) (partResult (graphOf S N) K (getD W₁ from 0) .order))
+        → (_≡_ {A = Sequence} (record { v = x; u = y; turned = t }) (sequenceOf (graphOf S N) K (ends (graphOf S N) (getD W from 0))))
+        × (W₂ ≡ sets (sets W (sizeOf S) (partResult (graphOf S N) K (getD W from 0) .order)) at (partResult (graphOf S N) K (getD W from 0) .levels))
+    sequenced K {t} {W₂} d =
+        let h : t ≡ turns g K (forwardBy g e) = d .0 ∙ ap (λ (q : ℕ). turns g K (forwardBy g (ends g q))) same-lowest in (
           rw (R .start, R .finish, h),
-          d .1 ∙ ap₂ (λ (l : List ℕ) (q : ℕ). sets l (sizeOf S) (partResult g q .order)) (R .words) same-lowest
-              ∙ stored-swap (partLevels g e) W (sizeOf S) (partResult g z .order) at (omega (arith, size, Q .areas .at-low, most))
-              ∙ ap (sets (sets W (sizeOf S) (partResult g z .order)) at) (sym (levels-of g z)),
+          d .1 ∙ ap₂ (λ (l : List ℕ) (q : ℕ). sets l (sizeOf S) (partResult g K q .order)) (R .words) same-lowest
+              ∙ stored-swap (partLevels g e) W (sizeOf S) (partResult g K z .order) at (omega (arith, size K, Q .areas .at-low, most))
+              ∙ ap (sets (sets W (sizeOf S) (partResult g K z .order)) at) (sym (levels-of g K z)),
         )
       where
-        size : length (partResult g z .order) ≡ m
-        size = result-size G Z ∙ part-size (Q .part) (Q .areas .from-held)
+        size : (K : List ℕ) → length (partResult g K z .order) ≡ m
+        size K = result-size G Z K ∙ part-size (Q .part) (Q .areas .from-held)
 
         most : m ≤ sizeOf S
         most = omega (arith, part-most g z, part-size (Q .part) (Q .areas .from-held))

@@ -22,9 +22,9 @@ use Rattle.numbering_sequence.specs.declared.shape.Sequence.{Sequence}
 abbrev pub forwardBy : Graph → Ends → List ℕ
 forwardBy g e = forwardOrder g (partLevels g e) (e .k) (startNode g e)
 
--- what is returned of it
-abbrev pub sequenceOf : Graph → Ends → Sequence
-sequenceOf g e = record { v = startNode g e; u = finishNode g e; turned = turns g (forwardBy g e) }
+-- what is returned of it: whether it is turned is decided in unknowns
+abbrev pub sequenceOf : Graph → List ℕ → Ends → Sequence
+sequenceOf g counts e = record { v = startNode g e; u = finishNode g e; turned = turns g counts (forwardBy g e) }
 
 -- ---- the working words
 
@@ -47,8 +47,8 @@ abbrev pub endsIn : Graph → ℕ → List ℕ → Ends
 endsIn g from W = ends g (getD W from 0)
 
 -- and what is found of it
-abbrev pub resultIn : Graph → ℕ → List ℕ → PartResult
-resultIn g from W = partResult g (getD W from 0)
+abbrev pub resultIn : Graph → List ℕ → ℕ → List ℕ → PartResult
+resultIn g counts from W = partResult g counts (getD W from 0)
 
 -- the words W with it: the order behind the first n words, the levels from `at` on
 abbrev pub withResult : ℕ → ℕ → PartResult → List ℕ → List ℕ

@@ -1,6 +1,7 @@
 // The order of one part of a legal graph in lent words, where the crates below leave its combined levels and its nodes. Linear in the part's
 // nodes and entries: nothing here is n.
 ghost use mathlib.Core.Path.{_≡_};
+ghost use mathlib.Core.Bool.{false};
 ghost use mathlib.Core.List.{List, map};
 ghost use Prim.Native.Nat.{ℕ, _+_, _≤_};
 ghost use lib.Dec.{ltb};
@@ -9,6 +10,7 @@ ghost use Rattle.basis.specs.Moments.{was, left};
 ghost use Rattle.spec.specs.Graph.{graphOf, graphRefusal, degree};
 ghost use Rattle.spec.specs.Combined.{mirrored};
 ghost use Rattle.spec.specs.Numbering.{turns};
+ghost use Rattle.spec.specs.Unknowns.{badCounts};
 ghost use Rattle.laws.specs.Handed.{graphNow, graphWas, sizeNow, sizeWas};
 ghost use Rattle.laws.specs.Legal.{Starts};
 ghost use Rattle.numbering_sequence.specs.Answer.{forwardBy, sequenceOf, endsIn, resultIn, withResult, Sequenceable, Named, Mirrorable};
@@ -41,10 +43,11 @@ fn mirror(work: &mut [u16], n: usize, at: usize, from: usize, m: usize, k: u16)
     }
 }
 
-// The part's order from v as now named, turned end for end if that makes its profile less: whether it is.
+// The part's order from v as now named, turned end for end if that makes its profile in unknowns less: whether it is.
 fn arrange(
     starts: &[u16],
     neighbours: &[u16],
+    counts: &[u16],
     work: &mut [u16],
     at: usize,
     from: usize,
@@ -53,13 +56,14 @@ fn arrange(
     v: u16,
 ) -> bool
     requires { ⌜ graphRefusal (now starts) (now neighbours) ≡ 0 ⌝ }
+    requires { ⌜ badCounts (sizeNow starts) (now counts) ≡ false ⌝ }
     requires { ⌜ Named (graphNow starts neighbours) at from m k v (now work) ⌝ }
-    ensures { λ r. ⌜ r ≡ turns (graphWas starts neighbours) (forwardBy (graphWas starts neighbours) (endsIn (graphWas starts neighbours) from (was work))) ⌝ }
-    ensures { λ _. ⌜ left work ≡ sets (was work) (sizeWas starts) (resultIn (graphWas starts neighbours) from (was work) .order) ⌝ }
+    ensures { λ r. ⌜ r ≡ turns (graphWas starts neighbours) (was counts) (forwardBy (graphWas starts neighbours) (endsIn (graphWas starts neighbours) from (was work))) ⌝ }
+    ensures { λ _. ⌜ left work ≡ sets (was work) (sizeWas starts) (resultIn (graphWas starts neighbours) (was counts) from (was work) .order) ⌝ }
 {
     let n = starts.len() - 1;
     numbering_order::legal::forward(starts, neighbours, work, at, from, m, k, v);
-    numbering_reverse::legal::turn(starts, neighbours, work, n, m)
+    numbering_reverse::legal::turn(starts, neighbours, counts, work, n, m)
 }
 
 // The order of a part with k levels and the ends v and u: its m nodes stand in rising order from `from` on, its combined levels by old
@@ -68,6 +72,7 @@ fn arrange(
 pub fn sequence(
     starts: &[u16],
     neighbours: &[u16],
+    counts: &[u16],
     work: &mut [u16],
     at: usize,
     from: usize,
@@ -77,16 +82,17 @@ pub fn sequence(
     u: u16,
 ) -> Sequence
     requires { ⌜ graphRefusal (now starts) (now neighbours) ≡ 0 ⌝ }
+    requires { ⌜ badCounts (sizeNow starts) (now counts) ≡ false ⌝ }
     requires { ⌜ Sequenceable (graphNow starts neighbours) at from m k v u (now work) ⌝ }
-    ensures { λ r. ⌜ r ≡ sequenceOf (graphWas starts neighbours) (endsIn (graphWas starts neighbours) from (was work)) ⌝ }
-    ensures { λ _. ⌜ left work ≡ withResult (sizeWas starts) at (resultIn (graphWas starts neighbours) from (was work)) (was work) ⌝ }
+    ensures { λ r. ⌜ r ≡ sequenceOf (graphWas starts neighbours) (was counts) (endsIn (graphWas starts neighbours) from (was work)) ⌝ }
+    ensures { λ _. ⌜ left work ≡ withResult (sizeWas starts) at (resultIn (graphWas starts neighbours) (was counts) from (was work)) (was work) ⌝ }
 {
     if renames(starts, v, u) {
         let n = starts.len() - 1;
         mirror(work, n, at, from, m, k);
-        let turned = arrange(starts, neighbours, work, at, from, m, k, u);
+        let turned = arrange(starts, neighbours, counts, work, at, from, m, k, u);
         return Sequence { v: u, u: v, turned };
     }
-    let turned = arrange(starts, neighbours, work, at, from, m, k, v);
+    let turned = arrange(starts, neighbours, counts, work, at, from, m, k, v);
     Sequence { v, u, turned }
 }

@@ -13,7 +13,8 @@ use Rattle.spec.specs.CallsNumbering.{MeasureFigures, measureFigures}
 use Rattle.spec.specs.Graph.{graphOf, sizeOf, graphRefusal}
 use Rattle.spec.specs.Lent.{zeroed, wordsPerNode}
 use Rattle.spec.specs.Levels.{parts}
-use Rattle.spec.specs.Measures.{isNumbering, renumbered, bandwidth, profile, front}
+use Rattle.spec.specs.Measures.{isNumbering, bandwidth, profile, front}
+use Rattle.spec.specs.Unknowns.{renumberedUnknowns}
 use Rattle.spec.specs.Numbering.{PartResult, Figures}
 use Rattle.laws.specs.Legal.{LegalGraph}
 use Rattle.laws.specs.Results.{AllSound}
@@ -22,13 +23,14 @@ use Rattle.laws.proofs.Results.{all-numbering, all-bandwidth-is, all-profile-is
 use Rattle.graph.specs.Facts.{LegalLists}
 use Rattle.levels.proofs.Scratch.{zero-front, behind-front, zeroed-again}
 use Rattle.levels_laws.proofs.Blank.{zeroed-length}
-use Rattle.numbering_measures.specs.Answer.{three}
-use Rattle.numbering_measures.specs.declared.answer.Measures.{Measures}
-use Rattle.numbering_whole.specs.Orders.{resultOf, wholeIn}
-use Rattle.numbering_whole.specs.Ran.{Summed}
-use Rattle.numbering_whole.specs.declared.order.Order.{Order}
-use Rattle.numbering_whole.proofs.Orders.{sound-in}
-use Rattle.numbering_whole.proofs.Ran.{graph, starts, areas, areas-size, areas-front}
+use Rattle.numbering_ones.specs.Three.{three}
+use Rattle.numbering_ones.specs.declared.answer.Measures.{Measures}
+use Rattle.numbering_next.specs.Orders.{resultOf, wholeIn}
+use Rattle.numbering_next.specs.Ran.{Summed}
+use Rattle.numbering_next.specs.declared.order.Order.{Order}
+use Rattle.numbering_next.proofs.NextPart.{graph, starts}
+use Rattle.numbering_next.proofs.Orders.{sound-in}
+use Rattle.numbering_whole.proofs.Ran.{areas, areas-size, areas-front}
 
 -- ---- the scratch after the last part: n words are lent to the measures, come back as zeros, and all is cleared
 
@@ -97,26 +99,26 @@ module _ (S N : List ℕ) (legal : graphRefusal S N ≡ 0) where
 
   -- ---- the figures
 
-  module _ (order : Order) where
+  module _ (order : Order) (K : List ℕ) where
     abbrev results : ℕ → PartResult
-    results = resultOf order (graphOf S N)
+    results = resultOf order (graphOf S N) K
 
     G : LegalGraph (graphOf S N)
     G = graph S N legal
 
-    sound : AllSound (graphOf S N) (resultOf order (graphOf S N))
-    sound = sound-in order G
+    sound : AllSound (graphOf S N) K (resultOf order (graphOf S N) K)
+    sound = sound-in order G K
 
-    pub numbers-numbering : {X : List ℕ} → X ≡ wholeIn order (graphOf S N) .numbers → isNumbering (sizeOf S) X ≡ true
+    pub numbers-numbering : {X : List ℕ} → X ≡ wholeIn order (graphOf S N) K .numbers → isNumbering (sizeOf S) X ≡ true
     numbers-numbering x = ap (isNumbering (sizeOf S)) x ∙ all-numbering G results sound
 
-    pub seven-are : {X : List ℕ} {m : Measures} {parts nodes levels width : ℕ} → X ≡ wholeIn order (graphOf S N) .numbers
-        → three m ≡ measureFigures (renumbered (graphOf S N) X) → Summed (wholeIn order (graphOf S N) .figures) parts nodes levels width
+    pub seven-are : {X : List ℕ} {m : Measures} {parts nodes levels width : ℕ} → X ≡ wholeIn order (graphOf S N) K .numbers
+        → three m ≡ measureFigures (renumberedUnknowns (graphOf S N) K X) → Summed (wholeIn order (graphOf S N) K .figures) parts nodes levels width
         → _≡_ {A = Figures} (record { nodes = nodes; parts = parts; bandwidth = m .bandwidth; profile = m .profile; front = m .front; levels = levels; width = width })
-        (wholeIn order (graphOf S N) .figures)
+        (wholeIn order (graphOf S N) K .figures)
     unfolding measureFigures
     seven-are {X} {m} x e T =
-        let h = ap (renumbered (graphOf S N)) x in
+        let h = ap (renumberedUnknowns (graphOf S N) K) x in
         let b = ap (λ (f : MeasureFigures). f .bandwidth) e ∙ ap bandwidth h ∙ sym (all-bandwidth-is G results sound) in
         let p = ap (λ (f : MeasureFigures). f .profile) e ∙ ap profile h ∙ sym (all-profile-is G results sound) in
         let f = ap (λ (f : MeasureFigures). f .front) e ∙ ap front h ∙ sym (all-front-is G results sound) in

@@ -1,4 +1,2 @@
-pub mod Orders
-pub mod Found
 pub mod Ran
 pub mod Figures

@@ -1,4 +1,3 @@
 // A whole legal graph, numbered in one order or the other: one loop over the parts for both.
 pub mod legal;
-pub mod order;
 pub mod shape;

@@ -7,6 +7,6 @@ pub struct RunFigures {
     pub front: u32,
     // the levels of all parts
     pub levels: u32,
-    // the greatest count of a level
+    // the greatest number of unknowns in a level
     pub width: u16,
 }

@@ -17,7 +17,8 @@ fn text(
     numbers: &mut [u16; 4096],
     levels: &mut [u16; 4096],
     passes: &mut [u16; 4096],
-    output: &mut [u8; 61539],
+    counts: &mut [u16; 4096],
+    output: &mut [u8; 61544],
 ) -> usize
     ensures { λ r. ⌜ Counts r (left output) ⌝ }
     ensures { λ r. ⌜ take r (left output) ≡ programOutput (was file) ⌝ }
@@ -31,6 +32,7 @@ fn text(
         numbers,
         levels,
         passes,
+        counts,
         output,
     );
     bytes
@@ -46,7 +48,8 @@ fn main() {
     let mut numbers = [0u16; 4096];
     let mut levels = [0u16; 4096];
     let mut passes = [0u16; 4096];
-    let mut output = [0u8; 61539];
+    let mut counts = [0u16; 4096];
+    let mut output = [0u8; 61544];
     let size = io::read_full(STDIN_FILENO, &mut file);
     let bytes = text(
         &file[..size],
@@ -57,6 +60,7 @@ fn main() {
         &mut numbers,
         &mut levels,
         &mut passes,
+        &mut counts,
         &mut output,
     );
     io::write_all(STDOUT_FILENO, &output[..bytes]);

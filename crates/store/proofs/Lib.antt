@@ -1,7 +1,3 @@
-pub mod Degrees
-pub mod Counts
-pub mod Lent
-pub mod Answers
 pub mod TwoCalls
 pub mod NoIdle
 pub mod Runs

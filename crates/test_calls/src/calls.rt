@@ -107,15 +107,27 @@ fn report_figures(r: PartReport) {
     direction(way);
 }
 
-pub(crate) fn part_report(starts: &[u16], neighbours: &[u16], node: usize, scratch: &mut [u16]) {
-    match numbering_report::part_report(starts, neighbours, word(node), scratch) {
+pub(crate) fn part_report(
+    starts: &[u16],
+    neighbours: &[u16],
+    counts: &[u16],
+    node: usize,
+    scratch: &mut [u16],
+) {
+    match numbering_report::part_report(starts, neighbours, counts, word(node), scratch) {
         ReportAnswer::Refused(number) => refused(number),
         ReportAnswer::Report(r) => report_figures(r),
     }
 }
 
-pub(crate) fn measures(starts: &[u16], neighbours: &[u16], numbering: &[u16], scratch: &mut [u16]) {
-    match numbering_measures::measures(starts, neighbours, numbering, scratch) {
+pub(crate) fn measures(
+    starts: &[u16],
+    neighbours: &[u16],
+    counts: &[u16],
+    numbering: &[u16],
+    scratch: &mut [u16],
+) {
+    match numbering_measures::measures(starts, neighbours, counts, numbering, scratch) {
         MeasuresAnswer::Refused(number) => refused(number),
         MeasuresAnswer::Accepted(m) => {
             accepted(&[m.bandwidth as u64, m.profile as u64, m.front as u64])
@@ -153,11 +165,12 @@ fn elimination_counts(c: Counts) {
 pub(crate) fn eliminate(
     starts: &[u16],
     neighbours: &[u16],
+    counts: &[u16],
     numbering: &[u16],
     scratch: &mut [u16],
     bytes: &mut [u8],
 ) {
-    match store::eliminate(starts, neighbours, numbering, scratch, bytes) {
+    match store::eliminate(starts, neighbours, counts, numbering, scratch, bytes) {
         Elimination::Refused(number) => refused(number),
         Elimination::Accepted(c) => elimination_counts(c),
     }
@@ -185,6 +198,7 @@ pub(crate) fn number(
     call: usize,
     starts: &[u16],
     neighbours: &[u16],
+    counts: &[u16],
     numbers: &mut [u16],
     levels: &mut [u16],
     passes: &mut [u16],
@@ -192,10 +206,11 @@ pub(crate) fn number(
     bytes: &mut [u8],
 ) {
     match call {
-        8 => numbered(numbering::run(starts, neighbours, numbers, levels, passes, scratch)),
+        8 => numbered(numbering::run(starts, neighbours, counts, numbers, levels, passes, scratch)),
         9 => eliminated(store::run_eliminate(
             starts,
             neighbours,
+            counts,
             numbers,
             levels,
             passes,
@@ -205,6 +220,7 @@ pub(crate) fn number(
         11 => numbered(numbering::reverse_cuthill_mckee(
             starts,
             neighbours,
+            counts,
             numbers,
             levels,
             passes,
@@ -213,6 +229,7 @@ pub(crate) fn number(
         12 => eliminated(store::cuthill_eliminate(
             starts,
             neighbours,
+            counts,
             numbers,
             levels,
             passes,

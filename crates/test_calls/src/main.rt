@@ -1,8 +1,8 @@
 // Runs the entry points on cases from standard input and writes a line for each: the answer, and the end contents of what was lent. The cases
 // and the expected lines come from an independent program: tests/vectors/entry_points.py.
 //
-// A case: the call's number; three given lists (starts, neighbours, and a numbering or elements); a given node, or n; the lengths of four
-// lent lists and of the lent bytes. A call leaves alone what it doesn't need.
+// A case: the call's number; four given lists (starts, neighbours, counts of unknowns, and a numbering or elements); a given node, or n; the
+// lengths of four lent lists and of the lent bytes. A call leaves alone what it doesn't need.
 mod calls;
 
 // One call.
@@ -10,6 +10,7 @@ fn run(
     call: usize,
     starts: &[u16],
     neighbours: &[u16],
+    counts: &[u16],
     given: &[u16],
     node: usize,
     first: &mut [u16],
@@ -22,15 +23,16 @@ fn run(
         1 => calls::adjacency(starts, neighbours),
         2 => calls::rooted(starts, neighbours, node, first, second),
         3 => calls::ends(starts, neighbours, node, first),
-        4 => calls::measures(starts, neighbours, given, first),
-        5 => calls::eliminate(starts, neighbours, given, first, bytes),
+        4 => calls::measures(starts, neighbours, counts, given, first),
+        5 => calls::eliminate(starts, neighbours, counts, given, first, bytes),
         6 => calls::mesh(node, given, first, second, third),
         7 => calls::combined(starts, neighbours, node, first, second),
-        10 => calls::part_report(starts, neighbours, node, first),
+        10 => calls::part_report(starts, neighbours, counts, node, first),
         _ => calls::number(
             call,
             starts,
             neighbours,
+            counts,
             first,
             second,
             third,
@@ -45,6 +47,7 @@ fn answer(
     call: usize,
     starts: &[u16],
     neighbours: &[u16],
+    counts: &[u16],
     given: &[u16],
     node: usize,
     first: &mut [u16],
@@ -57,6 +60,7 @@ fn answer(
         call,
         starts,
         neighbours,
+        counts,
         given,
         node,
         first,
@@ -78,6 +82,7 @@ fn lend(
     call: usize,
     starts: &[u16],
     neighbours: &[u16],
+    counts: &[u16],
     given: &[u16],
     first: &mut [u16],
     second: &mut [u16],
@@ -95,6 +100,7 @@ fn lend(
         call,
         starts,
         neighbours,
+        counts,
         given,
         node,
         &mut first[..a],
@@ -109,6 +115,7 @@ fn lend(
 fn one(
     starts: &mut [u16],
     neighbours: &mut [u16],
+    counts: &mut [u16],
     given: &mut [u16],
     first: &mut [u16],
     second: &mut [u16],
@@ -122,12 +129,14 @@ fn one(
     }
     let a = test_vectors::read(starts);
     let b = test_vectors::read(neighbours);
-    let c = test_vectors::read(given);
+    let c = test_vectors::read(counts);
+    let d = test_vectors::read(given);
     lend(
         call,
         &starts[..a],
         &neighbours[..b],
-        &given[..c],
+        &counts[..c],
+        &given[..d],
         first,
         second,
         third,
@@ -140,6 +149,7 @@ fn one(
 fn another(
     starts: &mut [u16; 33000],
     neighbours: &mut [u16; 33000],
+    counts: &mut [u16; 33000],
     given: &mut [u16; 70000],
     first: &mut [u16; 33000],
     second: &mut [u16; 33000],
@@ -150,6 +160,7 @@ fn another(
     one(
         starts,
         neighbours,
+        counts,
         given,
         first,
         second,
@@ -163,6 +174,7 @@ fn another(
 fn main() {
     let mut starts = [0u16; 33000];
     let mut neighbours = [0u16; 33000];
+    let mut counts = [0u16; 33000];
     let mut given = [0u16; 70000];
     let mut first = [0u16; 33000];
     let mut second = [0u16; 33000];
@@ -174,6 +186,7 @@ fn main() {
         && another(
             &mut starts,
             &mut neighbours,
+            &mut counts,
             &mut given,
             &mut first,
             &mut second,

@@ -1,21 +1,26 @@
 // Reads files from standard input, each after its length, and writes a line for each: what the reading of it answers, and the end contents
-// of the four lent lists. The files and the expected lines come from an independent program: tests/vectors/files.py.
+// of the five lent lists. The files and the expected lines come from an independent program: tests/vectors/files.py.
 ghost use Prim.Native.Nat.{_≤_};
 ghost use lib.ListN.{length};
 use libc::STDIN_FILENO;
 use mesh::Entries;
 
-// The two steps of the reading: the header is tested before anything is lent.
+// The steps of the reading: the header is tested before anything is lent, then come the counts and the mesh.
 fn read(
     file: &[u8],
     list: &mut [u16; 35000],
     starts: &mut [u16; 4100],
     neighbours: &mut [u16; 32780],
     scratch: &mut [u16; 4100],
+    counts: &mut [u16; 4100],
 ) -> Entries
     requires { ⌜ length (now file) ≤ 70000 ⌝ }
 {
     let refusal = file_reading::header_refusal(file);
+    if refusal != 0 {
+        return Entries::Refused(refusal);
+    }
+    let refusal = file_reading::legal::counts::read_counts(file, counts);
     if refusal != 0 {
         return Entries::Refused(refusal);
     }
@@ -34,11 +39,13 @@ fn fill(
     starts: &mut [u16; 4100],
     neighbours: &mut [u16; 32780],
     scratch: &mut [u16; 4100],
+    counts: &mut [u16; 4100],
 ) {
     test_vectors::fill(list);
     test_vectors::fill(starts);
     test_vectors::fill(neighbours);
     test_vectors::fill(scratch);
+    test_vectors::fill(counts);
 }
 
 fn show(
@@ -46,11 +53,13 @@ fn show(
     starts: &[u16; 4100],
     neighbours: &[u16; 32780],
     scratch: &[u16; 4100],
+    counts: &[u16; 4100],
 ) {
     test_vectors::show(list);
     test_vectors::show(starts);
     test_vectors::show(neighbours);
     test_vectors::show(scratch);
+    test_vectors::show(counts);
     test_vectors::end_line();
 }
 
@@ -71,6 +80,7 @@ fn one(
     starts: &mut [u16; 4100],
     neighbours: &mut [u16; 32780],
     scratch: &mut [u16; 4100],
+    counts: &mut [u16; 4100],
 ) -> bool
     requires { ⌜ length (now file) ≤ 70000 ⌝ }
 {
@@ -78,9 +88,9 @@ fn one(
     if file.len() < size {
         return false;
     }
-    fill(list, starts, neighbours, scratch);
-    say(read(&file[..size], list, starts, neighbours, scratch));
-    show(list, starts, neighbours, scratch);
+    fill(list, starts, neighbours, scratch, counts);
+    say(read(&file[..size], list, starts, neighbours, scratch, counts));
+    show(list, starts, neighbours, scratch, counts);
     true
 }
 
@@ -90,8 +100,9 @@ fn another(
     starts: &mut [u16; 4100],
     neighbours: &mut [u16; 32780],
     scratch: &mut [u16; 4100],
+    counts: &mut [u16; 4100],
 ) -> bool {
-    one(file, list, starts, neighbours, scratch)
+    one(file, list, starts, neighbours, scratch, counts)
 }
 
 // A proved loop has to end, and nothing says that the input does: so the files are counted down.
@@ -101,6 +112,7 @@ fn main() {
     let mut starts = [0u16; 4100];
     let mut neighbours = [0u16; 32780];
     let mut scratch = [0u16; 4100];
+    let mut counts = [0u16; 4100];
     let mut left: usize = 1000000;
     while 0 < left
         && another(
@@ -109,6 +121,7 @@ fn main() {
             &mut starts,
             &mut neighbours,
             &mut scratch,
+            &mut counts,
         )
     {
         left -= 1;

@@ -1,57 +1,86 @@
 -- `numbering_measures::measures` meets its contract: the tests in turn, then the three measures. Assumes nothing.
-use Prim.Native.Nat.{_≤_}
+use Prim.Native.Nat.{ℕ, _≤_}
 use mathlib.Core.Path.{_≡_, sym, ap, _∙_}
-use mathlib.Core.Bool.{Bool, true, cond}
+use mathlib.Core.Bool.{Bool, true, false, cond}
+use mathlib.Core.List.{List}
 use native.Mathlib.Omega.{arith}
 use borrow.Author.Needs.{needs}
 use denote.Ref.{now}
 use lib.ListN.{length, take}
 use lib.Seq.{length-take-le}
-use Rattle.basis.specs.Lists.{overwrite}
+use Rattle.basis.specs.Lists.{overwrite, sum}
 use Rattle.spec.specs.Graph.{sizeOf}
 use Rattle.spec.specs.Lent.{accepted, zeroed}
 use Rattle.spec.specs.Measures.{isNumbering, orderOf}
+use Rattle.spec.specs.Unknowns.{badCounts}
 use Rattle.laws.proofs.Numberings.{numbering-length}
 use Rattle.graph.specs.Facts.{LegalLists}
 use Rattle.graph.proofs.Answers.{legal-lists, refused-lists}
+use Rattle.graph_words.proofs.Unknowns.{unknowns-kept, unknowns-refused}
 use Rattle.graph_envelope.proofs.Lent.{length-orderOf}
-use Rattle.numbering_measures.proofs.Answers.{lists-refused, scratch-short, misnumbered, measured, zeros-back}
+use Rattle.numbering_measures.proofs.Answers.{lists-refused, scratch-short, counts-refused, misnumbered, measured, zeros-back}
 use Rattle.numbering_measures.proofs.measures.Statement.{statement}
 use Rattle.numbering_measures.proofs.measures.Tie as tie
 
 -- where the function starts
 abbrev start-of : tie.After-test-adjacency → tie.Start
-start-of c = c .before .before .before .before .before
+start-of c =
+    let at-shared-slice-known = c .before .before .before .before .before in
+    at-shared-slice-known .before
 
--- the two lists are legal
 abbrev entry : tie.After-enum-told → tie.Start
 entry c =
     let at-test-adjacency = c .before .before in
     start-of at-test-adjacency
 
+-- the two lists are legal
 legal : (c : tie.After-enum-told) → LegalLists (now (entry c .args .starts)) (now (entry c .args .neighbours))
 legal c = legal-lists (now (entry c .args .starts)) (now (entry c .args .neighbours)) (c .before .before .test-adjacency .ensures) (c .enum-told .given .1)
 
--- the scratch is long enough
-room : (c : tie.After-numbered) → sizeOf (now (entry (c .before .before .before) .args .starts)) ≤ length (now (entry (c .before .before .before) .args .scratch))
-room c = c .before .before .if1 .left
+-- the test of the counts, after the one of the scratch
+abbrev told : tie.After-unknowns → tie.After-enum-told
+told c = c .before .before
 
--- a place of `numbered`
-abbrev numbered-enum-told : tie.Then2 → tie.After-enum-told
-numbered-enum-told c =
-    let at-if1 = c .before .before .before .before .before in
-    at-if1 .before
+-- the counts are none that are refused
+fit : (c : tie.Else2) → badCounts (sizeOf (now (entry (told (c .before)) .args .starts))) (now (entry (told (c .before)) .args .counts)) ≡ false
+fit c = unknowns-kept _ _ (λ e. c .if2 .left (c .before .unknowns .ensures ∙ e))
+
+total : (c : tie.Else2) → c .before .unknowns .result ≡ sum (now (entry (told (c .before)) .args .counts))
+total c = c .before .unknowns .ensures ∙ ap (λ (b : Bool). cond b 0 (sum (now (entry (told (c .before)) .args .counts)))) (fit c)
+
+-- the test of the numbering
+abbrev fits : tie.After-numbered → tie.Else2
+fits c = c .before .before
+
+abbrev start : tie.After-numbered → tie.Start
+start c = entry (told (fits c .before))
+
+-- the scratch is long enough
+room : (c : tie.After-numbered) → sizeOf (now (start c .args .starts)) ≤ length (now (start c .args .scratch))
+room c = fits c .before .before .if1 .left
+
+-- the scratch words afterwards
+abbrev lent : tie.After-numbered → List ℕ
+lent c = c .numbered .last .1 .1 .0
 
 -- the numbering is one
-numbered : (c : tie.Then2) → isNumbering (sizeOf (now (entry (numbered-enum-told c) .args .starts))) (now (entry (numbered-enum-told c) .args .numbering)) ≡ true
-numbered c = sym (c .before .before .before .numbered .ensures .0) ∙ c .if2 .taken
+abbrev found : tie.Then3 → tie.After-numbered
+found c = c .before .before .before
+
+numbered : (c : tie.Then3) → isNumbering (sizeOf (now (start (found c) .args .starts))) (now (start (found c) .args .numbering)) ≡ true
+numbered c = sym (found c .numbered .ensures .0) ∙ c .if3 .taken
+
+-- as many words as nodes are lent
+part : (c : tie.Then3) → length (take (sizeOf (now (start (found c) .args .starts))) (lent (found c))) ≡ sizeOf (now (start (found c) .args .starts))
+part c =
+    let d = found c in
+    length-take-le (sizeOf (now (start d .args .starts))) (lent d) (omega (arith, d .numbered .kept .1 .1 .0, room d))
 
 returns : tie.Need-returns
 returns c =
     let at-test-adjacency = c .before .before .before in
-    let start = start-of at-test-adjacency in
-    let a = start .args in
-    lists-refused (now (a .starts)) (now (a .neighbours)) (now (a .numbering)) (now (a .scratch))
+    let a = start-of at-test-adjacency .args in
+    lists-refused (now (a .starts)) (now (a .neighbours)) (now (a .counts)) (now (a .numbering)) (now (a .scratch))
     (refused-lists (now (a .starts)) (now (a .neighbours)) (at-test-adjacency .test-adjacency .ensures) (c .before .tested .given .1))
 
 sub-n : tie.Need-sub-n
@@ -60,57 +89,52 @@ sub-n c = omega (arith, legal c .starts .count)
 returns-2 : tie.Need-returns-2
 returns-2 c =
     let a = entry (c .before) .args in
-    scratch-short (now (a .starts)) (now (a .neighbours)) (now (a .numbering)) (now (a .scratch)) (legal (c .before)) (c .if1 .taken)
-
-numbered-requires : tie.Need-numbered-requires
-numbered-requires c κs = (legal (c .before .before) .starts .few, c .before .if1 .left)
-
--- a place of `part`
-abbrev part-enum-told : tie.After-figures-arg → tie.After-enum-told
-part-enum-told c =
-    let at-if2 = c .before in
-    numbered-enum-told at-if2
-
--- as many words as nodes are lent
-part : (c : tie.After-figures-arg) → length (take (sizeOf (now (entry (part-enum-told c) .args .starts))) (c .before .before .before .before .numbered .last .1 .1 .0)) ≡ sizeOf (now (entry (part-enum-told c) .args .starts))
-part c =
-    let at-enum-told = part-enum-told c in
-    length-take-le (sizeOf (now (entry at-enum-told .args .starts))) (c .before .before .before .before .numbered .last .1 .1 .0)
-    (omega (arith, c .before .before .before .before .numbered .kept .1 .1 .0, room (c .before .before .before .before)))
-
-figures-requires : tie.Need-figures-requires
-figures-requires c κs =
-    let at-enum-told = part-enum-told c in
-    (legal at-enum-told, (numbered (c .before), part c))
+    scratch-short (now (a .starts)) (now (a .neighbours)) (now (a .counts)) (now (a .numbering)) (now (a .scratch)) (legal (c .before)) (c .if1 .taken)
 
 returns-3 : tie.Need-returns-3
 returns-3 c =
-    let at-if2 = c .before .before .before .before in
-    let at-numbered = at-if2 .before .before .before in
-    let at-enum-told = at-numbered .before .before .before in
-    let a = entry at-enum-told .args in
-    let S = now (a .starts) in
-    let X = now (a .numbering) in
-    let ok = numbered at-if2 in
-    let r = measured S (now (a .neighbours)) X (now (a .scratch)) (legal at-enum-told) (room at-numbered) ok in (
-      ap accepted (c .before .before .figures .ensures .0) ∙ r .0,
-      zeros-back (sizeOf S) (orderOf X) (now (a .scratch)) (c .before .before .figures .last .1 .1 .1 .0) (at-numbered .numbered .last .1 .1 .0)
-          (length-orderOf X ∙ numbering-length _ _ ok) (c .before .before .figures .ensures .1)
-          (at-numbered .numbered .ensures .1 ∙ ap (λ (t : Bool). cond t (overwrite (orderOf X) (now (a .scratch))) (zeroed (sizeOf S) (now (a .scratch)))) (at-if2 .if2 .taken))
-          ∙ r .1,
-    )
+    let u = c .before in
+    let t = told u in
+    let a = entry t .args in
+    counts-refused (now (a .starts)) (now (a .neighbours)) (now (a .counts)) (now (a .numbering)) (now (a .scratch)) (legal t) (u .before .if1 .left)
+    (unknowns-refused _ _ (legal t .starts .some) (sym (u .unknowns .ensures) ∙ c .if2 .taken))
+
+numbered-requires : tie.Need-numbered-requires
+numbered-requires c κs = (legal (told (c .before .before)) .starts .few, c .before .before .before .if1 .left)
+
+figures-requires : tie.Need-figures-requires
+figures-requires c κs =
+    let t = c .before in
+    let e = fits (found t) in
+    (legal (told (e .before)), (fit e, (numbered t, (part t, total e))))
 
 returns-4 : tie.Need-returns-4
 returns-4 c =
-    let at-if1 = c .before .before .before .before .before in
-    let at-enum-told = at-if1 .before in
-    let a = entry at-enum-told .args in
+    let f = c .before .before in
+    let t = f .before .before in
+    let d = found t in
+    let a = start d .args in
     let S = now (a .starts) in
     let X = now (a .numbering) in
-    let r = misnumbered S (now (a .neighbours)) X (now (a .scratch)) (legal at-enum-told) (room (c .before .before .before)) (sym (c .before .before .before .numbered .ensures .0) ∙ c .if2 .left) in (
+    let ok = numbered t in
+    let r = measured S (now (a .neighbours)) (now (a .counts)) X (now (a .scratch)) (legal (told (fits d .before))) (room d) (fit (fits d)) ok in (
+      ap accepted (f .figures .ensures .0) ∙ r .0,
+      zeros-back (sizeOf S) (orderOf X) (now (a .scratch)) (f .figures .last .1 .1 .1 .1 .0) (lent d)
+          (length-orderOf X ∙ numbering-length _ _ ok) (f .figures .ensures .1)
+          (d .numbered .ensures .1 ∙ ap (λ (t : Bool). cond t (overwrite (orderOf X) (now (a .scratch))) (zeroed (sizeOf S) (now (a .scratch)))) (t .if3 .taken))
+          ∙ r .1,
+    )
+
+returns-5 : tie.Need-returns-5
+returns-5 c =
+    let d = c .before .before .before in
+    let a = start d .args in
+    let S = now (a .starts) in
+    let X = now (a .numbering) in
+    let r = misnumbered S (now (a .neighbours)) (now (a .counts)) X (now (a .scratch)) (legal (told (fits d .before))) (room d) (fit (fits d)) (sym (d .numbered .ensures .0) ∙ c .if3 .left) in (
       r .0,
-      c .before .before .before .numbered .ensures .1
-          ∙ ap (λ (t : Bool). cond t (overwrite (orderOf X) (now (a .scratch))) (zeroed (sizeOf S) (now (a .scratch)))) (c .if2 .left)
+      d .numbered .ensures .1
+          ∙ ap (λ (t : Bool). cond t (overwrite (orderOf X) (now (a .scratch))) (zeroed (sizeOf S) (now (a .scratch)))) (c .if3 .left)
           ∙ r .1,
     )
 
@@ -124,11 +148,13 @@ measures-spec =
     (λ c. search needs)
     sub-n
     returns-2
+    (λ c κs. legal (c .before) .starts .few)
+    returns-3
     numbered-requires
     (λ c. search needs)
-    (λ c. sym (part c))
+    (λ c. sym (part (c .before)))
     figures-requires
     (λ c. search needs)
-    returns-3
+    returns-4
     (λ c. search needs)
-    returns-4)
+    returns-5)

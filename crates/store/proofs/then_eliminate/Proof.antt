@@ -14,7 +14,7 @@ use Rattle.store.proofs.then_eliminate.Tie as tie
 -- ---- places
 
 abbrev start : tie.After-slice-known2 → tie.Start
-start k = k .before .before .before .before .before
+start k = let l = k .before .before .before .before .before in l .before
 
 -- the numbering call has refused
 abbrev refusing : tie.After-known-told → tie.Start
@@ -52,7 +52,7 @@ slice-aggregate-eliminate-after-2 c =
 returns : tie.Need-returns
 returns c =
     let a = refusing c .args in
-    then-refused (now (a .starts)) (now (a .neighbours)) (now (a .numbers)) (now (a .scratch)) (now (a .bytes)) (ap meaning (c .before .answer .given .1))
+    then-refused (now (a .starts)) (now (a .neighbours)) (now (a .counts)) (now (a .numbers)) (now (a .scratch)) (now (a .bytes)) (ap meaning (c .before .answer .given .1))
 
 returns-2 : tie.Need-returns-2
 returns-2 c =
@@ -60,7 +60,7 @@ returns-2 c =
     let k = e .before .before .before .before in
     let a = accepting k .args in
     let w = e .eliminate-after .ensures in
-    then-accepted (now (a .starts)) (now (a .neighbours)) (now (a .numbers)) (now (a .scratch)) (now (a .bytes)) (ap meaning (k .before .answer2 .given .1)) (w .0) (w .1 .0) (w .1 .1)
+    then-accepted (now (a .starts)) (now (a .neighbours)) (now (a .counts)) (now (a .numbers)) (now (a .scratch)) (now (a .bytes)) (ap meaning (k .before .answer2 .given .1)) (w .0) (w .1 .0) (w .1 .1)
 
 pub then-eliminate-spec : {M : Type 1} → statement M
 then-eliminate-spec =

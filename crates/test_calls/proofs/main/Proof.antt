@@ -4,10 +4,10 @@ use Rattle.test_calls.proofs.main.Statement.{statement}
 use Rattle.test_calls.proofs.main.Tie as tie
 
 abbrev Inv-loop : tie.InvT-loop
-Inv-loop starts₀ neighbours₀ given₀ first₀ second₀ third₀ fourth₀ bytes₀ left₀ starts neighbours given first second third fourth bytes left = Unit {0}
+Inv-loop starts₀ neighbours₀ counts₀ given₀ first₀ second₀ third₀ fourth₀ bytes₀ left₀ starts neighbours counts given first second third fourth bytes left = Unit {0}
 
 abbrev μ-loop : tie.MeasureT-loop
-μ-loop starts₀ neighbours₀ given₀ first₀ second₀ third₀ fourth₀ bytes₀ left₀ starts neighbours given first second third fourth bytes left = left
+μ-loop starts₀ neighbours₀ counts₀ given₀ first₀ second₀ third₀ fourth₀ bytes₀ left₀ starts neighbours counts given first second third fourth bytes left = left
 
 pub main-spec : {M : Type 1} → statement M
 main-spec =

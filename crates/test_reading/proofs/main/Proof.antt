@@ -4,10 +4,10 @@ use Rattle.test_reading.proofs.main.Statement.{statement}
 use Rattle.test_reading.proofs.main.Tie as tie
 
 abbrev Inv-loop : tie.InvT-loop
-Inv-loop file₀ list₀ starts₀ neighbours₀ scratch₀ left₀ file list starts neighbours scratch left = Unit {0}
+Inv-loop file₀ list₀ starts₀ neighbours₀ scratch₀ counts₀ left₀ file list starts neighbours scratch counts left = Unit {0}
 
 abbrev μ-loop : tie.MeasureT-loop
-μ-loop file₀ list₀ starts₀ neighbours₀ scratch₀ left₀ file list starts neighbours scratch left = left
+μ-loop file₀ list₀ starts₀ neighbours₀ scratch₀ counts₀ left₀ file list starts neighbours scratch counts left = left
 
 pub main-spec : {M : Type 1} → statement M
 main-spec =

@@ -12,12 +12,17 @@ whole : (c : tie.Else1) → let d = c .before .before .before in d .next .result
 whole c = let d = c .before .before .before in sym (length-take-le (d .next .result) (d .next .last .0) (omega arith))
 
 slice-aggregate-read : tie.Need-slice-aggregate-read
-slice-aggregate-read c = let at-fill = c .before in whole (at-fill .before .before .before .before .before)
+slice-aggregate-read c =
+    let at-fill = c .before in
+    let lent = at-fill .before .before .before in
+    whole (lent .before .before .before)
 
 read-requires : tie.Need-read-requires
 read-requires c κs =
-    let at-fill = c .before .before .before .before .before in
-    let d = at-fill .before .before .before .before .before in
+    let handed = c .before .before .before in
+    let at-fill = handed .before .before .before in
+    let lent = at-fill .before .before .before in
+    let d = lent .before .before .before in
     omega (arith, whole d, d .before .before .before .next .kept .0)
 
 pub one-spec : {M : Type 1} → statement M

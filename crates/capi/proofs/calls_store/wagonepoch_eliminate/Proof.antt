@@ -1,50 +1,22 @@
--- `capi::calls_store::wagonepoch_eliminate` meets its contract: the call is `store::eliminate`. Assumes nothing.
-use mathlib.Core.Path.{refl, ap, _∙_}
-use Prim.Native.Nat.{ℕ}
+-- `capi::calls_store::wagonepoch_eliminate` meets its contract, which is that of the call it makes. It needs no file; with one a wrong call is
+-- refused at once, and not after many searches. Assumes nothing.
 use borrow.Author.Needs.{needs}
-use borrow.Author.Tests.{lt-ltb, le-ltb}
-use Rattle.spec.specs.Refusal.{_orElse_}
-use Rattle.capi_figures.specs.Figures.{answerC, lentC, figuresC}
 use Rattle.capi.proofs.calls_store.wagonepoch_eliminate.Statement.{statement}
 use Rattle.capi.proofs.calls_store.wagonepoch_eliminate.Tie as tie
 
--- ---- places
-
--- the list of figures is long enough
-abbrev long : tie.After-eliminate → tie.Else1
-long r = r .before .before .before
-
-abbrev left : tie.After-put-elimination → tie.After-slice-known4
-left p = p .before .before .before .before
-
--- the library has answered
-abbrev answered : tie.After-put-elimination → tie.After-eliminate
-answered p = left p .before .before
-
--- ---- the two ends
+-- the three lists have come back
+abbrev left : tie.After-slice-known6 → tie.After-scratch
+left k = k .before .before .before .before .before
 
 returns : tie.Need-returns
-unfolding answerC figuresC lentC
-returns c = rw (lt-ltb _ 2 (c .before .before .if1 .taken)) (c .or-five .ensures ∙ ap (λ (x : ℕ). x orElse 5) (c .before .lists-refusal .ensures), (refl, (refl, refl)))
-
-returns-2 : tie.Need-returns-2
-unfolding answerC figuresC lentC
-returns-2 c =
-    let p = c .before .before in
-    let r = answered p in
-    let e = r .eliminate .ensures in
-    rw (le-ltb _ 2 (long r .if1 .left), ← e .0) (p .put-elimination .ensures .0, (p .put-elimination .ensures .1, e .1))
+returns c = left c .before .eliminate .ensures
 
 pub wagonepoch-eliminate-spec : {M : Type 1} → statement M
 wagonepoch-eliminate-spec =
     tie.close
     (tie.spec
     (λ c κs. search needs)
-    (λ c κs. search needs)
-    returns
-    (λ c κs. search needs)
-    (λ c κs. search needs)
     (λ c. search needs)
     (λ c. search needs)
     (λ c. search needs)
-    returns-2)
+    returns)

@@ -2,7 +2,7 @@
 use mathlib.Core.Path.{ap}
 use denote.Ref.{now}
 use borrow.Author.Needs.{needs}
-use Rattle.store.specs.Answer.{meaning}
+use Rattle.store_elimination.specs.Answer.{meaning}
 use Rattle.capi_figures.specs.Figures.{eliminationList}
 use Rattle.capi_figures.proofs.Told.{told-refused, told-accepted, next, end}
 use Rattle.capi_figures.proofs.legal.put_elimination.Statement.{statement}

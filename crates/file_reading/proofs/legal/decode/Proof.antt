@@ -1,98 +1,51 @@
--- `file_reading::legal::decode` meets its contract: the first i words are copied. Assumes nothing.
-use Prim.Native.Nat.{ℕ, _+_, _-_, _≤_, _<_}
-use mathlib.Core.Path.{_≡_, refl, sym, ap, ap₂, _∙_}
+-- `file_reading::legal::decode` meets its contract: all words behind the counts are copied. Assumes nothing.
+use Prim.Native.Nat.{ℕ, _-_}
+use mathlib.Core.Path.{_≡_, ap, ap₂, _∙_}
 use mathlib.Core.List.{List}
-use native.Mathlib.Nat.{zero-add}
-use native.Mathlib.Numerals.{add-one}
 use native.Mathlib.Omega.{arith}
 use denote.Ref.{now}
-use lib.ListN.{length, getD, set, length-set}
-use lib.Seq.{paste, paste-zero, paste-suc}
-use Rattle.spec.specs.File.{body}
-use Rattle.file_reading.proofs.Bytes.{body-length, body-at, pasted}
+use borrow.Author.Needs.{needs}
+use lib.ListN.{length, take, drop, length-drop}
+use Rattle.basis.specs.Lists.{overwrite}
+use Rattle.spec.specs.File.{bodyWords, countWords, body}
+use Rattle.mesh_elements.proofs.Remains.{tail-part}
+use Rattle.file_reading.proofs.FileCounts.{counts-whole, counts-fit}
+use Rattle.file_reading.proofs.Files.{header-good}
 use Rattle.file_reading.proofs.legal.decode.Statement.{statement}
 use Rattle.file_reading.proofs.legal.decode.Tie as tie
 
--- the first i words are copied
-record Copied (file list₀ : List ℕ) (count : ℕ) (list : List ℕ) (i : ℕ) : Type 0 where
-  inside : i ≤ count
-  all : count ≡ length (body file)
-  same-length : length list ≡ length list₀
-  copied : list ≡ paste list₀ 0 (body file) i
+size-requires : tie.Need-size-requires
+size-requires c κs = let s = c .before .before .before in header-good (now (s .args .file)) (s .pre .0) .0
 
-abbrev Inv-loop : tie.InvT-loop
-Inv-loop file list₀ count i₀ list i = Copied file list₀ count list i
+abbrev start : tie.After-size → tie.Start
+start z = z .before .before .before .before
 
-abbrev μ-loop : tie.MeasureT-loop
-μ-loop file list₀ count i₀ list i = count - i
+abbrev file : tie.After-size → List ℕ
+file z = now (start z .args .file)
 
-loop-holds : tie.Need-loop-holds Inv-loop μ-loop
-loop-holds c =
-    let a = c .before .before .args in
-    record {
-      inside = omega arith;
-      all = sym (body-length (now (a .file)));
-      same-length = refl;
-      copied = paste-zero (now (a .list)) 0 (body (now (a .file)));
-    }
+sub-count : tie.Need-sub-count
+sub-count c = let W = file c in omega (arith, c .size .ensures, c .before .count-words .ensures, counts-fit W (counts-whole W (start c .pre .1)))
 
-mul-word-at : tie.Need-mul-word-at Inv-loop μ-loop
-mul-word-at c = omega arith
+-- as many words as the elements have
+all : (z : tie.After-size) → z .size .result - z .before .count-words .result ≡ length (body (file z))
+unfolding body
+all z = omega (arith, z .size .ensures, z .before .count-words .ensures, length-drop (countWords (file z)) (bodyWords (file z)))
 
-add-word-at : tie.Need-add-word-at Inv-loop μ-loop
-add-word-at c = omega arith
+copy-requires : tie.Need-copy-requires
+copy-requires c κs = let z = c .before in (omega (arith, sub-count z, z .size .ensures), omega (arith, all z, start z .pre .2))
 
-word-at-requires : tie.Need-word-at-requires Inv-loop μ-loop
-word-at-requires c κs = omega arith
-
-mul-list : tie.Need-mul-list Inv-loop μ-loop
-mul-list c = omega arith
-
-slice-write-list : tie.Need-slice-write-list Inv-loop μ-loop
-slice-write-list c = let l = c .before .before in omega (arith, l .before .before .before .pre .1, l .loop .inv .same-length)
-
-loop-again : tie.Need-loop-again Inv-loop μ-loop
-loop-again c =
-    let l = c .before .before in
-    let s = l .before .before .before in
-    let W = now (s .args .file) in
-    let D = now (s .args .list) in
-    let i = l .loop .i in
-    let h : i < length (body W) = omega (arith, body-length W) in
-    let e : 0 + i ≡ i = zero-add i in
-    record {
-      inside = omega arith;
-      all = sym (body-length W);
-      same-length = length-set (l .loop .list) i (c .word-at .result) ∙ l .loop .inv .same-length;
-      copied = ap₂ (λ (d : List ℕ) (v : ℕ). set d i v) (l .loop .inv .copied) (c .word-at .ensures ∙ sym (body-at W i h))
-          ∙ ap (λ (j : ℕ). set (paste D 0 (body W) i) j (getD (body W) i 0)) (sym e)
-          ∙ paste-suc D 0 (body W) i 0 (omega (arith, s .pre .1)) h
-          ∙ ap (paste D 0 (body W)) (sym (add-one i));
-    }
-
-returns : tie.Need-returns Inv-loop μ-loop
+returns : tie.Need-returns
+unfolding body
 returns c =
-    let l = c .before in
-    let a = l .before .before .before .args in
-    let W = now (a .file) in
-    let e : l .loop .i ≡ length (body W) = omega (arith, body-length W) in
-    (sym (body-length W), l .loop .inv .copied ∙ pasted (now (a .list)) (body W) (l .loop .i) e)
+    let p = c .before .before in
+    let z = p .before .before in
+    let ws = bodyWords (file z) in
+    let old = now (start z .args .list) in (
+      all z,
+      p .copy .ensures
+          ∙ ap₂ (λ (m k : ℕ). overwrite (take (m - k) (drop k ws)) old) (z .size .ensures) (z .before .count-words .ensures)
+          ∙ ap (λ (l : List ℕ). overwrite l old) (tail-part ws (countWords (file z))),
+    )
 
 pub decode-spec : {M : Type 1} → statement M
-decode-spec =
-    tie.close
-    (tie.spec
-    Inv-loop
-    μ-loop
-    (λ c. omega arith)
-    loop-holds
-    mul-word-at
-    add-word-at
-    word-at-requires
-    mul-list
-    slice-write-list
-    (λ c. omega arith)
-    (λ c. omega arith)
-    loop-again
-    (λ c. c .before .loop .inv .same-length)
-    returns)
+decode-spec = tie.close (tie.spec (λ c κs. search needs) size-requires sub-count copy-requires (λ c. search needs) returns)

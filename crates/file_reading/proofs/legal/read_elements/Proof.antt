@@ -9,7 +9,7 @@ use lib.Seq.{length-take-le, take-at}
 use Rattle.spec.specs.Lent.{accepted, outcome}
 use Rattle.spec.specs.File.{fileNodes, fileElements, body, countedRefusal, wordsTaken}
 use Rattle.file_reading.specs.Answer.{tested}
-use Rattle.file_reading.proofs.Bytes.{elements-is, body-length}
+use Rattle.file_reading.proofs.Bytes.{elements-is}
 use Rattle.file_reading.proofs.Files.{header-good, by-element, taken-small, by-left, by-none}
 use Rattle.file_reading.proofs.legal.read_elements.Statement.{statement}
 use Rattle.file_reading.proofs.legal.read_elements.Tie as tie
@@ -32,14 +32,14 @@ decode-requires : tie.Need-decode-requires
 decode-requires c κs =
     let at-wide = c .before in
     let start = start-of at-wide in
-    (whole start, start .pre .1)
+    start .pre
 
 -- as many words as the body are in the list
 room : (c : tie.After-decode) → c .decode .result ≤ length (c .decode .last .1 .0)
 room c =
     let at-wide = c .before .before in
     let start = start-of at-wide in
-    omega (arith, c .decode .ensures .0, c .decode .kept .1 .0, start .pre .1)
+    omega (arith, c .decode .ensures .0, c .decode .kept .1 .0, start .pre .2)
 
 slice-reshare-prefix-test-elements : tie.Need-slice-reshare-prefix-test-elements
 slice-reshare-prefix-test-elements c = room (c .before .before)
@@ -90,24 +90,10 @@ took : (c : tie.After-known-told2)
     accepted (c .before .answer2 .given .0 .0) ≡ outcome (countedRefusal (fileElements W) (fileNodes W) (body W)) (wordsTaken (fileElements W) (body W))
 took c = sym (ap tested (c .before .answer2 .given .1)) ∙ told (c .before .before .before)
 
-small : (c : tie.After-known-told2)
-    → c .before .answer2 .given .0 .0 ≤ length (body (now (took-start c .args .file)))
-small c =
+left-over-requires : tie.Need-left-over-requires
+left-over-requires c κs =
     let start = took-start c in
-    let W = now (start .args .file) in
-    taken-small W (c .before .answer2 .given .0 .0) (took c)
-
-mul-if1 : tie.Need-mul-if1
-mul-if1 c =
-    let start = took-start c in
-    let W = now (start .args .file) in
-    omega (arith, small c, body-length W)
-
-add-if1 : tie.Need-add-if1
-add-if1 c =
-    let start = took-start c in
-    let W = now (start .args .file) in
-    omega (arith, small c, body-length W)
+    (start .pre .0, taken-small (now (start .args .file)) (c .before .answer2 .given .0 .0) (took c))
 
 returns : tie.Need-returns
 returns c =
@@ -118,23 +104,27 @@ returns c =
     let W = now (start .args .file) in
     (by-element W (c .before .answer .given .0 .0) (sym (ap tested (c .before .answer .given .1)) ∙ told at-test-elements), at-decode .decode .ensures .1)
 
+-- a place of `returns-2` and `returns-3`
+abbrev decoded : tie.After-left-over → tie.After-decode
+decoded c =
+    let at-test-elements = c .before .before .before .before in
+    at-test-elements .before .before .before .before
+
 returns-2 : tie.Need-returns-2
 returns-2 c =
-    let at-test-elements = c .before .before .before .before in
-    let at-decode = at-test-elements .before .before .before .before in
-    let at-wide = at-decode .before .before in
-    let start = start-of at-wide in
-    let W = now (start .args .file) in
-    (by-left W (c .before .before .answer2 .given .0 .0) (took (c .before)) (c .if1 .taken), at-decode .decode .ensures .1)
+    let o = c .before in
+    let k = o .before in
+    let W = now (took-start k .args .file) in
+    (by-left W (k .before .answer2 .given .0 .0) (took k) (sym (o .left-over .ensures) ∙ c .if1 .taken), decoded o .decode .ensures .1)
 
 returns-3 : tie.Need-returns-3
 returns-3 c =
-    let at-test-elements = c .before .before .before .before in
-    let at-decode = at-test-elements .before .before .before .before in
-    let at-wide = at-decode .before .before in
-    let start = start-of at-wide in
-    let W = now (start .args .file) in
-    (ap accepted (at-decode .decode .ensures .0) ∙ by-none W (c .before .before .answer2 .given .0 .0) (took (c .before)) (c .if1 .left), at-decode .decode .ensures .1)
+    let o = c .before in
+    let k = o .before in
+    let W = now (took-start k .args .file) in (
+      ap accepted (decoded o .decode .ensures .0) ∙ by-none W (k .before .answer2 .given .0 .0) (took k) (sym (o .left-over .ensures) ∙ c .if1 .left),
+      decoded o .decode .ensures .1,
+    )
 
 pub read-elements-spec : {M : Type 1} → statement M
 read-elements-spec =
@@ -149,8 +139,7 @@ read-elements-spec =
     (λ c κs. search needs)
     enum-known-answer
     enum-known-answer-2
-    mul-if1
-    add-if1
+    left-over-requires
     (λ c. search needs)
     returns
     (λ c. search needs)

@@ -70,7 +70,7 @@ room k =
       arith,
       words-all (bytes (read k)) (size k) (told k),
       read k .read-elements .kept .1 .0,
-      start (read k) .pre .0 .1,
+      start (read k) .pre .0 .2,
     )
 
 slice-reshare-prefix-adjacency : tie.Need-slice-reshare-prefix-adjacency

@@ -1,18 +1,15 @@
 -- `numbering_cuthill::legal::cuthill_part` meets its contract: its calls in their order. Assumes nothing.
-use mathlib.Core.Path.{ap}
-use Prim.Native.Nat.{_*_, _≤_}
+use Prim.Native.Nat.{_≤_}
 use native.Mathlib.Omega.{arith}
-use lib.Seq.{slice}
 use borrow.Author.Needs.{needs}
 use denote.Ref.{now}
 use Rattle.spec.specs.Graph.{graphOf, sizeOf}
 use Rattle.laws.specs.Legal.{LegalGraph}
 use Rattle.laws.proofs.Refused.{passed, starts-of, not-refused}
-use Rattle.levels_laws.specs.Areas.{wordsOf}
+use Rattle.levels_laws.specs.Areas.{wordsOf, tallyOf}
 use Rattle.levels.specs.Part.{PartGiven}
 use Rattle.numbering_part.proofs.Handover.{number-ok, numbers-done, give-ok, scratch-done, levels-done}
-use Rattle.numbering_cuthill.specs.declared.shape.PartRoot.{PartRoot}
-use Rattle.numbering_cuthill.proofs.Steps.{result, order-ok, order-there}
+use Rattle.numbering_cuthill.proofs.Steps.{result}
 use Rattle.numbering_cuthill.proofs.legal.cuthill_part.Statement.{statement}
 use Rattle.numbering_cuthill.proofs.legal.cuthill_part.Tie as tie
 
@@ -23,73 +20,44 @@ few : (s : tie.Start) → sizeOf (now (s .args .starts)) ≤ 4096
 few s = starts-of (passed (now (s .args .starts)) (now (s .args .neighbours)) (s .pre .0)) .few
 
 given : (s : tie.Start) → let n = sizeOf (now (s .args .starts)) in
-    PartGiven (graphOf (now (s .args .starts)) (now (s .args .neighbours))) (s .args .from) (s .args .to) (wordsOf n (now (s .args .scratch))) (slice (5 * n) (6 * n) (now (s .args .scratch)))
-given s = s .pre .1 .0
+    PartGiven (graphOf (now (s .args .starts)) (now (s .args .neighbours))) (s .args .from) (s .args .to) (wordsOf n (now (s .args .scratch))) (tallyOf n (now (s .args .scratch)))
+given s = s .pre .1 .1 .0
 
--- the places: the levels are there, and before that the start; the order is had; the numbers are given
+-- the places: the start; the part is found; the numbers are given
 abbrev lent : tie.After-slice-known → tie.Start
-lent c = c .before .before .before
+lent c = c .before .before .before .before
 
-abbrev start : tie.After-root-part → tie.Start
+abbrev start : tie.After-find-rooted → tie.Start
 start c = lent (c .before .before .before .before)
 
-abbrev levelled : tie.After-order-part → tie.After-root-part
-levelled c = c .before .before .before .before
+abbrev found : tie.After-give-numbers → tie.After-find-rooted
+found c = c .before .before .before .before .before
 
-abbrev ordered : tie.After-give-numbers → tie.After-order-part
-ordered c = c .before .before .before .before .before
-
-abbrev numbered : tie.After-slice-known7 → tie.After-give-numbers
+abbrev numbered : tie.After-slice-known6 → tie.After-give-numbers
 numbered c = c .before .before .before .before
 
 sub-n : tie.Need-sub-n
 sub-n c = search needs
 
-sub-m : tie.Need-sub-m
-sub-m c = search needs
+find-rooted-requires : tie.Need-find-rooted-requires
+find-rooted-requires c κs = let s = lent (c .before .before .before) in (s .pre .0, (s .pre .1 .0, given s))
 
-root-part-requires : tie.Need-root-part-requires
-root-part-requires c κs = let s = lent (c .before .before .before) in (s .pre .0, given s)
-
-mul-order-part : tie.Need-mul-order-part
-mul-order-part c = omega (arith, few (start (c .before .before .before)))
-
-mul-order-part-2 : tie.Need-mul-order-part-2
-mul-order-part-2 c = omega (arith, few (start (c .before .before .before)))
-
-add-order-part : tie.Need-add-order-part
-add-order-part c = let s = start (c .before .before .before) in omega (arith, few s, given s .most, given s .order)
-
-order-part-requires : tie.Need-order-part-requires
-order-part-requires c κs =
-    let f = c .before .before .before in
-    let s = start f in
-    let r = f .root-part .ensures in
-    (s .pre .0, order-ok (graph s) (few s) (now (s .args .scratch)) (given s) (r .1) (ap (λ r. r .k) (r .0)) (ap (λ r. r .v) (r .0)))
+sub-give-numbers : tie.Need-sub-give-numbers
+sub-give-numbers c = let s = start (c .before .before .before .before) in omega (arith, given s .order)
 
 give-numbers-requires : tie.Need-give-numbers-requires
 give-numbers-requires c κs =
-    let o = c .before .before .before .before in
-    let f = levelled o in
+    let f = c .before .before .before .before in
     let s = start f in
-    let X = now (s .args .scratch) in
-    let w₁ = f .root-part .ensures .1 in
-    let R = result (graph s) (few s) X (given s) w₁ in
-    let w = order-there (graph s) (few s) X (given s) w₁ (o .order-part .ensures) in
-    number-ok (graph s) (few s) X (given s) R w (s .pre .1 .1 .0)
+    number-ok (graph s) (few s) (now (s .args .scratch)) (given s) (result (graph s) (few s) (now (s .args .scratch)) (given s) (now (s .args .counts))) (f .find-rooted .ensures .1) (s .pre .1 .1 .1 .0)
 
 give-levels-requires : tie.Need-give-levels-requires
 give-levels-requires c κs =
     let p = numbered (c .before .before) in
-    let o = ordered p in
-    let f = levelled o in
+    let f = found p in
     let s = start f in
-    let X = now (s .args .scratch) in
-    let w₁ = f .root-part .ensures .1 in
-    let R = result (graph s) (few s) X (given s) w₁ in
-    let w = order-there (graph s) (few s) X (given s) w₁ (o .order-part .ensures) in
-    let k = give-ok (graph s) (few s) X (given s) R w (p .give-numbers .ensures .0) in
-    (k .0, (k .1, s .pre .1 .1 .1))
+    let k = give-ok (graph s) (few s) (now (s .args .scratch)) (given s) (result (graph s) (few s) (now (s .args .scratch)) (given s) (now (s .args .counts))) (f .find-rooted .ensures .1) (p .give-numbers .ensures .0) in
+    (k .0, (k .1, s .pre .1 .1 .1 .1))
 
 same-length : tie.Need-same-length
 same-length c = search needs
@@ -104,21 +72,19 @@ returns : tie.Need-returns
 returns c =
     let q = c .before .before .before .before in
     let p = numbered (q .before .before .before) in
-    let o = ordered p in
-    let f = levelled o in
+    let f = found p in
     let s = start f in
     let X = now (s .args .scratch) in
-    let w₁ = f .root-part .ensures .1 in
-    let R = result (graph s) (few s) X (given s) w₁ in
-    let w = order-there (graph s) (few s) X (given s) w₁ (o .order-part .ensures) in
+    let w = f .find-rooted .ensures .1 in
+    let R = result (graph s) (few s) X (given s) (now (s .args .counts)) in
     let a = p .give-numbers .ensures in
     let b = q .give-levels .ensures in (
-      ap (λ (r : PartRoot). record { k = r .k; width = r .width; passes = r .passes }) (f .root-part .ensures .0),
+      f .find-rooted .ensures .0,
       (
         scratch-done (graph s) (few s) X (given s) R w (a .0) (b .0),
         (
-          numbers-done (graph s) (few s) X (given s) R w (now (s .args .numbers)) (s .pre .1 .1 .0) (a .1),
-          levels-done (graph s) (few s) X (given s) R w (a .0) (now (s .args .levels)) (s .pre .1 .1 .1) (b .1),
+          numbers-done (graph s) (few s) X (given s) R w (now (s .args .numbers)) (s .pre .1 .1 .1 .0) (a .1),
+          levels-done (graph s) (few s) X (given s) R w (a .0) (now (s .args .levels)) (s .pre .1 .1 .1 .1) (b .1),
         ),
       ),
     )
@@ -128,12 +94,8 @@ cuthill-part-spec =
     tie.close
     (tie.spec
     sub-n
-    sub-m
-    root-part-requires
-    mul-order-part
-    mul-order-part-2
-    add-order-part
-    order-part-requires
+    find-rooted-requires
+    sub-give-numbers
     give-numbers-requires
     give-levels-requires
     same-length

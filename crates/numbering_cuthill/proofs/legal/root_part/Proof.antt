@@ -6,7 +6,7 @@ use lib.ListN.{length}
 use Rattle.spec.specs.Graph.{sizeOf}
 use Rattle.laws.proofs.Refused.{passed, starts-of}
 use Rattle.levels.proofs.OnePart.{room, first-ask, ends-ask}
-use Rattle.numbering_cuthill.proofs.Rooting.{width-asked, copy-asked, wipe-asked, rooted-words, rooted-figures}
+use Rattle.numbering_cuthill.proofs.Rooting.{copy-asked, wipe-asked, rooted-words, rooted-figures}
 use Rattle.numbering_cuthill.proofs.legal.root_part.Statement.{statement}
 use Rattle.numbering_cuthill.proofs.legal.root_part.Tie as tie
 
@@ -16,7 +16,7 @@ few s = starts-of (passed (s .args .starts .now) (s .args .neighbours .now) (s .
 words : (s : tie.Start) → 6 * sizeOf (s .args .starts .now) ≤ length (s .args .scratch .now)
 words s = room (s .args .starts .now) (s .args .neighbours .now) (s .pre .0) (s .args .scratch .now) (s .pre .1)
 
--- the places: the first node is found, and before it the start; the ends are found; the width is counted; the levels are copied
+-- the places: the first node is found, and before it the start; the ends are found; the levels are copied
 abbrev lent : tie.After-first-in-e → tie.After-slice-known
 lent c = c .before .before .before
 
@@ -26,14 +26,8 @@ start c = lent c .before .before .before
 abbrev first : tie.After-ends-from → tie.After-first-in-e
 first c = c .before .before
 
-abbrev ended : tie.After-wide → tie.After-ends-from
-ended c = c .before .before .before
-
-abbrev counted : tie.After-width-of → tie.After-wide
-counted c = c .before .before .before
-
-abbrev measured : tie.After-copy-levels → tie.After-width-of
-measured c = c .before .before .before .before
+abbrev ended : tie.After-copy-levels → tie.After-ends-from
+ended c = c .before .before .before .before
 
 sub-n : tie.Need-sub-n
 sub-n c = search needs
@@ -84,33 +78,12 @@ ends-from-requires c κs =
     let s = start (c .before) in
     ends-ask (s .args .starts .now) (s .args .neighbours .now) (s .pre .0) (s .args .scratch .now) (s .pre .1) (c .before .first-in-e .ensures)
 
-wide-requires : tie.Need-wide-requires
-wide-requires c κs = search needs
-
-wide-requires-2 : tie.Need-wide-requires-2
-wide-requires-2 c κs = search needs
-
-width-of-requires : tie.Need-width-of-requires
-width-of-requires c κs =
-    let n = c .before .before in
-    let at = ended n in
-    let s = start (first at) in
-    let S = s .args .starts .now in
-    let N = s .args .neighbours .now in
-    let X = s .args .scratch .now in
-    let w = at .ends-from .ensures in
-    width-asked S N (s .pre .0) X (s .pre .1) (first at .first-in-e .ensures) (w .0) (w .1) (n .wide .ensures) (c .wide2 .ensures)
-
 copy-levels-requires : tie.Need-copy-levels-requires
 copy-levels-requires c κs =
-    let x = c .before .before .before in
-    let at = ended (counted x) in
+    let at = c .before .before .before in
     let s = start (first at) in
-    let S = s .args .starts .now in
-    let N = s .args .neighbours .now in
-    let X = s .args .scratch .now in
     let w = at .ends-from .ensures in
-    let k = copy-asked S N (s .pre .0) X (s .pre .1) (first at .first-in-e .ensures) (w .0) (w .1) (x .width-of .ensures .1) in
+    let k = copy-asked (s .args .starts .now) (s .args .neighbours .now) (s .pre .0) (s .args .scratch .now) (s .pre .1) (first at .first-in-e .ensures) (w .0) (w .1) in
     (k .0, (omega arith, k .1))
 
 mul-wipe-both : tie.Need-mul-wipe-both
@@ -125,26 +98,25 @@ part-wipe-both-start c = search needs
 part-wipe-both-end : tie.Need-part-wipe-both-end
 part-wipe-both-end c =
     let y = c .before .before in
-    let x = measured y in
-    let at = ended (counted x) in
+    let at = ended y in
     let s = start (first at) in
-    let S = s .args .starts .now in
-    let N = s .args .neighbours .now in
-    let X = s .args .scratch .now in
     let w = at .ends-from .ensures in
-    omega (arith, copy-asked S N (s .pre .0) X (s .pre .1) (first at .first-in-e .ensures) (w .0) (w .1) (x .width-of .ensures .1) .0, y .copy-levels .kept .0)
+    omega (
+      arith,
+      copy-asked (s .args .starts .now) (s .args .neighbours .now) (s .pre .0) (s .args .scratch .now) (s .pre .1) (first at .first-in-e .ensures) (w .0) (w .1) .0,
+      y .copy-levels .kept .0,
+    )
+
+wide-requires : tie.Need-wide-requires
+wide-requires c κs = search needs
 
 wipe-both-requires : tie.Need-wipe-both-requires
 wipe-both-requires c κs =
-    let y = c .before .before .before in
-    let x = measured y in
-    let at = ended (counted x) in
+    let y = c .before .before .before .before in
+    let at = ended y in
     let s = start (first at) in
-    let S = s .args .starts .now in
-    let N = s .args .neighbours .now in
-    let X = s .args .scratch .now in
     let w = at .ends-from .ensures in
-    wipe-asked S N (s .pre .0) X (s .pre .1) (first at .first-in-e .ensures) (w .0) (w .1) (x .width-of .ensures .1) (y .copy-levels .ensures) (counted x .wide .ensures)
+    wipe-asked (s .args .starts .now) (s .args .neighbours .now) (s .pre .0) (s .args .scratch .now) (s .pre .1) (first at .first-in-e .ensures) (w .0) (w .1) (y .copy-levels .ensures) (c .wide .ensures)
 
 same-length : tie.Need-same-length
 same-length c = search needs
@@ -152,17 +124,15 @@ same-length c = search needs
 returns : tie.Need-returns
 returns c =
     let b = c .before .before in
-    let y = b .before .before .before .before in
-    let x = measured y in
-    let at = ended (counted x) in
+    let y = b .before .before .before .before .before in
+    let at = ended y in
     let s = start (first at) in
     let S = s .args .starts .now in
     let N = s .args .neighbours .now in
     let X = s .args .scratch .now in
-    let w = at .ends-from .ensures in
-    let k = x .width-of .ensures in (
-      rooted-figures S N (s .pre .0) X (s .pre .1) (first at .first-in-e .ensures) (w .0) (w .1) (x .before .wide2 .ensures) (k .0),
-      rooted-words S N (s .pre .0) X (s .pre .1) (first at .first-in-e .ensures) (w .0) (w .1) (k .1) (y .copy-levels .ensures) (b .wipe-both .ensures),
+    let w = at .ends-from .ensures in (
+      rooted-figures S N (s .pre .0) X (s .pre .1) (first at .first-in-e .ensures) (w .0) (w .1),
+      rooted-words S N (s .pre .0) X (s .pre .1) (first at .first-in-e .ensures) (w .0) (w .1) (y .copy-levels .ensures) (b .wipe-both .ensures),
     )
 
 pub root-part-spec : {M : Type 1} → statement M
@@ -184,14 +154,12 @@ root-part-spec =
     part-ends-from-start
     part-ends-from-end
     ends-from-requires
-    wide-requires
-    wide-requires-2
-    width-of-requires
     copy-levels-requires
     mul-wipe-both
     sub-wipe-both
     part-wipe-both-start
     part-wipe-both-end
+    wide-requires
     wipe-both-requires
     same-length
     returns)

@@ -1,5 +1,5 @@
 -- `numbering_measures::fronts::sweep` meets its contract: the words passed are summed, and are 0. Assumes nothing.
-use Prim.Native.Nat.{ℕ, _+_, _-_, _≤_, max}
+use Prim.Native.Nat.{ℕ, _+_, _-_, _*_, _≤_}
 use mathlib.Core.Path.{_≡_, refl, sym, ap, ap₂, _∙_}
 use mathlib.Core.List.{List, _++_, map}
 use native.Mathlib.Omega.{arith}
@@ -8,37 +8,41 @@ use borrow.Author.Fill.{fill-more}
 use denote.Ref.{now}
 use lib.ListN.{length, set, take, drop, replicate, length-set}
 use Rattle.basis.specs.Lists.{greatest, sum, upFrom}
-use Rattle.numbering_measures.proofs.Swept.{take-more, word-ahead, words-passed, sweep-more}
+use Rattle.graph_envelope.proofs.Folds.{greatest-more}
+use Rattle.numbering_ones.proofs.Passed.{take-more, word-ahead, words-passed}
 use Rattle.numbering_measures.proofs.fronts.sweep.Statement.{statement}
 use Rattle.numbering_measures.proofs.fronts.sweep.Tie as tie
 
--- after i words of C: they are 0, their sum, and the greatest front so far
-record Swept (C counts : List ℕ) (live most i : ℕ) : Type 0 where
-  inside : i ≤ length C
-  same-length : length counts ≡ length C
-  cleared : counts ≡ replicate i 0 ++ drop i C
-  live-is : live ≡ sum (take i C)
-  most-is : most ≡ greatest (map (λ i. sum (take i C) - (i - 1)) (upFrom 1 i))
+-- what stands in the front at i: opened up to i, and not passed before
+abbrev standing : List ℕ → ℕ → ℕ
+standing W i = sum (take i W) - 6 * i
+
+-- after i words of W: they are 0, their sum, and the greatest front so far
+record Swept (W words : List ℕ) (live most i : ℕ) : Type 0 where
+  inside : i ≤ length W
+  same-length : length words ≡ length W
+  cleared : words ≡ replicate i 0 ++ drop i W
+  live-is : live ≡ sum (take i W)
+  most-is : most ≡ greatest (map (standing W) (upFrom 1 i))
 
 abbrev Inv-loop : tie.InvT-loop
-Inv-loop counts₀ n live₀ most₀ i₀ counts live most i = Swept counts₀ counts live most i
+Inv-loop words₀ n live₀ most₀ i₀ words live most i = Swept words₀ words live most i
 
 abbrev μ-loop : tie.MeasureT-loop
-μ-loop counts₀ n live₀ most₀ i₀ counts live most i = length counts₀ - i
+μ-loop words₀ n live₀ most₀ i₀ words live most i = length words₀ - i
 
 -- what is opened up to here
-up : (c : tie.After-wide Inv-loop μ-loop) → c .before .before .before .loop .live + c .wide .result ≡ sum (take (c .before .before .before .loop .i + 1) (now (c .before .before .before .before .before .args .counts)))
+up : (c : tie.After-wide Inv-loop μ-loop) → c .before .before .before .loop .live + c .wide .result ≡ sum (take (c .before .before .before .loop .i + 1) (now (c .before .before .before .before .before .args .words)))
 up c =
     let l = c .before .before .before in
-    let C = now (l .before .before .args .counts) in
-    ap₂ _+_ (l .loop .inv .live-is) (c .wide .ensures ∙ word-ahead C (l .loop .counts) (l .loop .i) (l .loop .inv .cleared))
+    let C = now (l .before .before .args .words) in
+    ap₂ _+_ (l .loop .inv .live-is) (c .wide .ensures ∙ word-ahead C (l .loop .words) (l .loop .i) (l .loop .inv .cleared))
     ∙ sym (take-more C (l .loop .i) (omega arith))
 
 add-live : tie.Need-add-live Inv-loop μ-loop
 add-live c =
     let l = c .before .before .before in
-    let s = l .before .before in
-    omega (arith, up c, s .pre .few, s .pre .most (l .loop .i + 1) (omega arith))
+    omega (arith, up c, l .before .before .pre .most (l .loop .i + 1) (omega arith))
 
 sub-larger : tie.Need-sub-larger Inv-loop μ-loop
 sub-larger c =
@@ -48,23 +52,21 @@ sub-larger c =
 loop-again : tie.Need-loop-again Inv-loop μ-loop
 loop-again c =
     let l = c .before .before .before .before in
-    let C = now (l .before .before .args .counts) in
+    let C = now (l .before .before .args .words) in
     record {
       inside = omega arith;
-      same-length = length-set (l .loop .counts) _ _ ∙ l .loop .inv .same-length;
+      same-length = length-set (l .loop .words) _ _ ∙ l .loop .inv .same-length;
       cleared = ap (λ (w : List ℕ). set w (l .loop .i) 0) (l .loop .inv .cleared) ∙ fill-more (l .loop .i) 0 C (omega arith);
       live-is = up (c .before);
-      most-is = c .larger .ensures
-          ∙ ap₂ max (l .loop .inv .most-is) (ap (λ (k : ℕ). k - l .loop .i) (up (c .before)))
-          ∙ sym (sweep-more C (l .loop .i));
+      most-is = greatest-more (standing C) (l .loop .i) (l .loop .inv .most-is) (ap (λ (k : ℕ). k - 6 * (l .loop .i + 1)) (up (c .before))) (c .larger .ensures);
     }
 
 returns : tie.Need-returns Inv-loop μ-loop
 returns c =
     let l = c .before in
-    let C = now (l .before .before .args .counts) in
+    let C = now (l .before .before .args .words) in
     let e : l .loop .i ≡ length C = omega arith in
-    (l .loop .inv .most-is ∙ ap (λ (k : ℕ). greatest (map (λ i. sum (take i C) - (i - 1)) (upFrom 1 k))) e, words-passed C (l .loop .counts) (l .loop .i) e (l .loop .inv .cleared))
+    (l .loop .inv .most-is ∙ ap (λ (k : ℕ). greatest (map (standing C) (upFrom 1 k))) e, words-passed C (l .loop .words) (l .loop .i) e (l .loop .inv .cleared))
 
 pub sweep-spec : {M : Type 1} → statement M
 sweep-spec =
@@ -77,11 +79,12 @@ sweep-spec =
     (λ c. omega arith)
     (λ c κs. search needs)
     add-live
+    (λ c. omega arith)
+    (λ c. omega arith)
+    (λ c. omega arith)
+    (λ c. omega (arith, c .before .before .before .before .before .pre .few))
     sub-larger
     (λ c κs. search needs)
-    (λ c. omega arith)
-    (λ c. omega arith)
-    (λ c. omega arith)
     (λ c. omega arith)
     loop-again
     (λ c. omega arith)

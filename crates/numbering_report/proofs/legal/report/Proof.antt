@@ -5,7 +5,7 @@ use Rattle.numbering_report.proofs.legal.report.Statement.{statement}
 use Rattle.numbering_report.proofs.legal.report.Tie as tie
 
 returns : tie.Need-returns
-returns c = let a = c .before .args in reported-by (a .s) (a .k) (a .width) (a .passes) (c .direction .ensures)
+returns c = reported-by (c .before .args .f) (c .direction .ensures)
 
 pub report-spec : {M : Type 1} → statement M
 report-spec = tie.close (tie.spec (λ c κs. search needs) returns)

@@ -1,10 +1,23 @@
 -- `numbering_report::part::find_report` meets its contract: its calls in their order. Assumes nothing.
 use native.Mathlib.Omega.{arith}
 use borrow.Author.Needs.{needs}
-use Rattle.levels.proofs.Alone.{gather-ask, part-ask}
-use Rattle.numbering_report.proofs.Found.{sequence-ask, report-found, room-still, words-found, size-found}
+use Rattle.levels.proofs.Alone.{gather-ask}
+use Rattle.numbering_report.proofs.Found.{find-ask, report-found, room-still, words-found, size-found}
 use Rattle.numbering_report.proofs.part.find_report.Statement.{statement}
 use Rattle.numbering_report.proofs.part.find_report.Tie as tie
+
+-- the places: the start; the scratch is cleared; the members are gathered; the part is found; the scratch is cleared again
+abbrev start-of : tie.After-clear → tie.Start
+start-of c = let lent = c .before .before in lent .before .before .before .before
+
+abbrev cleared : tie.After-gather-part → tie.After-clear
+cleared c = c .before .before .before .before
+
+abbrev gathered : tie.After-find-part → tie.After-gather-part
+gathered c = c .before .before .before .before
+
+abbrev found : tie.After-clear2 → tie.After-find-part
+found c = c .before .before .before .before
 
 sub-n : tie.Need-sub-n
 sub-n c = search needs
@@ -15,91 +28,61 @@ mul-clear c = search needs
 clear-requires : tie.Need-clear-requires
 clear-requires c κs = search needs
 
--- where the function starts
-abbrev start-of : tie.After-clear → tie.Start
-start-of c = c .before .before .before .before .before
-
 gather-part-requires : tie.Need-gather-part-requires
 gather-part-requires c κs =
-    let at-clear = c .before .before .before in
-    let start = start-of at-clear in
-    gather-ask (start .args .starts .now) (start .args .neighbours .now) (start .args .node) (start .args .scratch .now) (start .pre .0) (start .pre .1 .0) (start .pre .1 .1) (at-clear .clear .ensures)
+    let d = c .before .before .before in
+    let s = start-of d in
+    gather-ask (s .args .starts .now) (s .args .neighbours .now) (s .args .node) (s .args .scratch .now) (s .pre .0) (s .pre .1 .1 .0) (s .pre .1 .1 .1) (d .clear .ensures)
 
-combine-part-requires : tie.Need-combine-part-requires
-combine-part-requires c κs =
-    let at-gather-part = c .before .before .before in
-    let at-clear = at-gather-part .before .before .before .before in
-    let start = start-of at-clear in
-    let w = at-gather-part .gather-part .ensures in
-    part-ask (start .args .starts .now) (start .args .neighbours .now) (start .args .node) (start .args .scratch .now) (start .pre .0) (start .pre .1 .0) (start .pre .1 .1) (at-clear .clear .ensures) (w .0) (w .1)
-
-mul-sequence : tie.Need-mul-sequence
-mul-sequence c = search needs
-
-mul-sequence-2 : tie.Need-mul-sequence-2
-mul-sequence-2 c = search needs
-
-sequence-requires : tie.Need-sequence-requires
-sequence-requires c κs =
-    let at-combine-part = c .before .before .before in
-    let at-gather-part = at-combine-part .before .before .before .before in
-    let at-clear = at-gather-part .before .before .before .before in
-    let start = start-of at-clear in
-    let w = at-gather-part .gather-part .ensures in
-    let y = at-combine-part .combine-part .ensures in
-    sequence-ask (start .args .starts .now) (start .args .neighbours .now) (start .args .node) (start .args .scratch .now) (start .pre .0) (start .pre .1 .0) (start .pre .1 .1) (at-clear .clear .ensures) (w .0) (w .1) (y .0) (y .1)
+find-part-requires : tie.Need-find-part-requires
+find-part-requires c κs =
+    let e = c .before .before .before in
+    let d = cleared e in
+    let s = start-of d in
+    let w = e .gather-part .ensures in
+    find-ask (s .args .starts .now) (s .args .neighbours .now) (s .args .counts .now) (s .args .node) (s .args .scratch .now) (s .pre .0) (s .pre .1 .1 .0) (s .pre .1 .1 .1) (d .clear .ensures) (w .0) (w .1) (s .pre .1 .0)
 
 mul-clear-2 : tie.Need-mul-clear-2
 mul-clear-2 c =
-    let at-sequence = c .before .before .before in
-    let at-combine-part = at-sequence .before .before .before .before in
-    let at-gather-part = at-combine-part .before .before .before .before in
-    let at-clear = at-gather-part .before .before .before .before in
-    let start = start-of at-clear in
-    omega (arith, start .pre .1 .1)
+    let s = start-of (cleared (gathered (c .before .before .before))) in
+    omega (arith, s .pre .1 .1 .1)
 
 clear-requires-2 : tie.Need-clear-requires-2
 clear-requires-2 c κs =
-    let at-sequence = c .before .before .before in
-    let at-combine-part = at-sequence .before .before .before .before in
-    let at-gather-part = at-combine-part .before .before .before .before in
-    let at-clear = at-gather-part .before .before .before .before in
-    let start = start-of at-clear in
-    let w = at-gather-part .gather-part .ensures in
-    let y = at-combine-part .combine-part .ensures in
-    room-still (start .args .starts .now) (start .args .neighbours .now) (start .args .node) (start .args .scratch .now) (start .pre .0) (start .pre .1 .0) (start .pre .1 .1) (at-clear .clear .ensures) (w .0) (w .1) (y .0) (y .1) (at-sequence .sequence .ensures .1)
+    let f = c .before .before .before in
+    let e = gathered f in
+    let d = cleared e in
+    let s = start-of d in
+    let w = e .gather-part .ensures in
+    room-still (s .args .starts .now) (s .args .neighbours .now) (s .args .counts .now) (s .args .node) (s .args .scratch .now) (s .pre .0) (s .pre .1 .1 .0) (s .pre .1 .1 .1) (d .clear .ensures) (w .0) (w .1) (f .find-part .ensures .1)
 
 report-requires : tie.Need-report-requires
 report-requires c κs = search needs
 
 same-length : tie.Need-same-length
 same-length c =
-    let at-clear2 = c .before .before .before in
-    let at-sequence = at-clear2 .before .before .before .before in
-    let at-combine-part = at-sequence .before .before .before .before in
-    let at-gather-part = at-combine-part .before .before .before .before in
-    let at-clear = at-gather-part .before .before .before .before in
-    let start = start-of at-clear in
-    let z = at-clear .clear .ensures in
-    let w = at-gather-part .gather-part .ensures in
-    let y = at-combine-part .combine-part .ensures in
-    let x = at-sequence .sequence .ensures in
-    size-found (start .args .starts .now) (start .args .neighbours .now) (start .args .node) (start .args .scratch .now) (start .pre .0) (start .pre .1 .0) (start .pre .1 .1) z (w .0) (w .1) (y .0) (y .1) (x .1) (at-clear2 .clear2 .ensures)
+    let b = c .before .before .before in
+    let f = found b in
+    let e = gathered f in
+    let d = cleared e in
+    let s = start-of d in
+    let w = e .gather-part .ensures in
+    size-found (s .args .starts .now) (s .args .neighbours .now) (s .args .counts .now) (s .args .node) (s .args .scratch .now) (s .pre .0) (s .pre .1 .1 .0) (s .pre .1 .1 .1) (d .clear .ensures) (w .0) (w .1) (f .find-part .ensures .1) (b .clear2 .ensures)
 
 returns : tie.Need-returns
 returns c =
-    let at-clear2 = c .before .before .before in
-    let at-sequence = at-clear2 .before .before .before .before in
-    let at-combine-part = at-sequence .before .before .before .before in
-    let at-gather-part = at-combine-part .before .before .before .before in
-    let at-clear = at-gather-part .before .before .before .before in
-    let start = start-of at-clear in
-    let z = at-clear .clear .ensures in
-    let w = at-gather-part .gather-part .ensures in
-    let y = at-combine-part .combine-part .ensures in
-    let x = at-sequence .sequence .ensures in (
-      report-found (start .args .starts .now) (start .args .neighbours .now) (start .args .node) (start .args .scratch .now) (start .pre .0) (start .pre .1 .0) (start .pre .1 .1) z (w .0) (w .1) (y .0) (y .1) (x .0) (c .report .ensures),
-      words-found (start .args .starts .now) (start .args .neighbours .now) (start .args .node) (start .args .scratch .now) (start .pre .0) (start .pre .1 .0) (start .pre .1 .1) z (w .0) (w .1) (y .0) (y .1) (x .1) (at-clear2 .clear2 .ensures),
+    let b = c .before .before .before in
+    let f = found b in
+    let e = gathered f in
+    let d = cleared e in
+    let s = start-of d in
+    let S = s .args .starts .now in
+    let N = s .args .neighbours .now in
+    let K = s .args .counts .now in
+    let W = s .args .scratch .now in
+    let w = e .gather-part .ensures in (
+      report-found S N K (s .args .node) W (s .pre .0) (s .pre .1 .1 .0) (s .pre .1 .1 .1) (d .clear .ensures) (w .0) (w .1) (f .find-part .ensures .0) (c .report .ensures),
+      words-found S N K (s .args .node) W (s .pre .0) (s .pre .1 .1 .0) (s .pre .1 .1 .1) (d .clear .ensures) (w .0) (w .1) (f .find-part .ensures .1) (b .clear2 .ensures),
     )
 
 pub find-report-spec : {M : Type 1} → statement M
@@ -110,10 +93,7 @@ find-report-spec =
     mul-clear
     clear-requires
     gather-part-requires
-    combine-part-requires
-    mul-sequence
-    mul-sequence-2
-    sequence-requires
+    find-part-requires
     mul-clear-2
     clear-requires-2
     report-requires

@@ -1,104 +1,124 @@
--- `numbering_reverse::legal::span` meets its contract. Assumes nothing.
-use Prim.Native.Nat.{ℕ, suc, _+_, _-_, _≤_, _<_, max}
-use mathlib.Core.Path.{_≡_, refl, sym, ap, _∙_, subst}
-use mathlib.Core.List.{List, map, reverse}
+-- `numbering_reverse::legal::span` meets its contract: the words of the row give both shares. Assumes nothing.
+use Prim.Native.Nat.{ℕ, _+_, _-_, _≤_}
+use mathlib.Core.Path.{_≡_, refl, sym, ap, _∙_}
+use mathlib.Core.List.{List, reverse}
 use native.Mathlib.Omega.{arith}
 use borrow.Author.Needs.{needs}
 use denote.Ref.{now}
-use lib.ListN.{length, take, getD}
+use lib.ListN.{length, take}
 use lib.Seq.{length-take-le}
-use Rattle.basis.specs.Lists.{greatest, least}
-use Rattle.basis.proofs.Index.{least-le}
-use Rattle.spec.specs.Graph.{Graph, graphOf, ofNode}
-use Rattle.spec.specs.Measures.{inOrder, rowSpan}
-use Rattle.graph_envelope.specs.Numbers.{Words}
-use Rattle.graph_envelope.proofs.Envelope.{row-words}
+use Rattle.spec.specs.Graph.{Graph, graphOf}
+use Rattle.spec.specs.Measures.{inOrder}
+use Rattle.spec.specs.Unknowns.{countsIn}
+use Rattle.laws.specs.Unknowns.{nodeSpan}
 use Rattle.numbering_reverse.specs.Places.{segment}
 use Rattle.numbering_reverse.proofs.Placing.{segment-length, segment-at}
-use Rattle.numbering_reverse.proofs.Spans.{span-most, part-small, part-node, span-forward, span-backward}
+use Rattle.numbering_reverse.proofs.Shares.{Standing, Reach, share-most, standing-node, standing-counted, standing-count, standing-few, row-ready, reach}
 use Rattle.numbering_reverse.proofs.legal.span.Statement.{statement}
 use Rattle.numbering_reverse.proofs.legal.span.Tie as tie
 
--- the order
+-- where the function starts
+abbrev start : tie.After-wide → tie.Start
+start c =
+    let at-shared-slice-known = c .before .before .before .before .before in
+    at-shared-slice-known .before
+
 abbrev order : tie.Start → List ℕ
 order s = segment (s .args .n) (s .args .m) (now (s .args .work))
 
-placed : (s : tie.Start) → s .args .a < length (order s)
-placed s = omega (arith, segment-length (s .args .n) (s .args .m) (now (s .args .work)) (s .pre .0 .1))
+abbrev graph : tie.Start → Graph
+graph s = graphOf (now (s .args .starts)) (now (s .args .neighbours))
+
+long : (s : tie.Start) → length (order s) ≡ s .args .m
+long s = segment-length (s .args .n) (s .args .m) (now (s .args .work)) (s .pre .0 .1)
 
 -- the node at place a + 1
-node : (c : tie.After-wide) → c .wide .result ≡ getD (order (c .before .before .before .before .before)) (c .before .before .before .before .before .args .a) 0
-node c =
-    let s = c .before .before .before .before .before in
-    c .wide .ensures ∙ segment-at (s .args .n) (s .args .m) (now (s .args .work)) (s .pre .0 .1) (now (s .args .work)) (s .args .a) refl (s .pre .0 .2)
+abbrev Stands : tie.After-wide → Type 0
+Stands c =
+    let s = start c in
+    Standing (now (s .args .starts)) (now (s .args .neighbours)) (now (s .args .counts)) (order s) (s .args .n) (now (s .args .work)) (s .args .a) (c .wide .result)
 
-row-requires : tie.Need-row-requires
-row-requires c κs =
-    let s = c .before .before .before .before .before in
-    (s .pre .1 .0 .starts, part-node (s .pre .1 .0) (s .args .a) (c .wide .result) (placed s) (node c))
+stands : (c : tie.After-wide) → Stands c
+stands c =
+    let s = start c in
+    let W = now (s .args .work) in
+    record {
+      part = s .pre .1 .0;
+      counted = s .pre .1 .1 .0;
+      size = s .pre .0 .0;
+      placed = s .pre .1 .1 .1;
+      inside = omega (arith, long s);
+      its = c .wide .ensures ∙ segment-at (s .args .n) (s .args .m) W (s .pre .0 .1) W (s .args .a) refl (s .pre .0 .2);
+    }
+
+-- its word is one of the n
+word : (c : tie.After-wide) → (1 ≤ c .wide .result) × (c .wide .result ≤ start c .args .n) × (start c .args .n ≤ 4096)
+word c =
+    let s = start c in
+    let N = standing-node (stands c) in
+    (N .low, omega (arith, N .high), omega (arith, s .pre .1 .0 .starts .few))
+
+-- where its row is lent
+abbrev node : tie.After-wide2 → tie.After-wide
+node c = c .before .before .before
+
+few : tie.Need-add-ends
+few c = omega (arith, standing-few (stands (node (c .before .before))))
 
 -- the n words by old number
 part : (s : tie.Start) → length (take (s .args .n) (now (s .args .work))) ≡ s .args .n
 part s = length-take-le (s .args .n) (now (s .args .work)) (omega arith)
 
--- where the function starts
-abbrev start-of : tie.After-row → tie.Start
-start-of c =
-    let at-wide = c .before in
-    at-wide .before .before .before .before .before
-
 ends-requires : tie.Need-ends-requires
 ends-requires c κs =
-    let at-row = c .before in
-    let start = start-of at-row in
-    let W = take (start .args .n) (now (start .args .work)) in
-    subst (λ (r : List ℕ). Words (length W) r) (sym (at-row .row .ensures))
-    (row-words (start .pre .1 .0 .graph) (c .before .before .wide .result) (length W) (sym (part start ∙ start .pre .0 .0)))
+    let r = c .before in
+    let w = node (r .before) in
+    row-ready (stands w) (now (r .row .result)) (length (take (start w .args .n) (now (start w .args .work)))) (r .row .ensures) (part (start w))
 
-abbrev entry : tie.After-ends → tie.Start
-entry c =
-    let at-row = c .before .before in
-    start-of at-row
+-- the ends of its row
+abbrev here : tie.After-ends → tie.After-wide
+here c = node (c .before .before .before)
 
--- the order reversed
-abbrev reversed : tie.Start → Graph
-reversed s = inOrder (graphOf (now (s .args .starts)) (now (s .args .neighbours))) (reverse (order s))
+reaches : (c : tie.After-ends) → Reach (graph (start (here c))) (now (start (here c) .args .counts)) (order (start (here c))) (start (here c) .args .a) (c .before .before .before .before .before .number .result) (c .before .before .before .wide2 .result) (c .ends .result .first) (c .ends .result .last)
+reaches c =
+    let r = c .before .before in
+    let w2 = r .before in
+    reach (stands (node w2)) (now (r .row .result)) (r .row .ensures) (w2 .before .before .number .ensures) (w2 .wide2 .ensures) (c .ends .ensures .0) (c .ends .ensures .1)
 
-forward : (c : tie.After-ends) → (entry c .args .a + 1) - c .ends .result .first ≡ rowSpan (inOrder (graphOf (now (entry c .args .starts)) (now (entry c .args .neighbours))) (order (entry c))) (suc (entry c .args .a))
-forward c =
-    let s = entry c in
-    let W = now (s .args .work) in
-    span-forward (s .pre .1 .0) (s .args .n) W (s .pre .0 .0) (s .pre .1 .1) (s .args .a) (c .before .before .before .wide .result) (placed s) (node (c .before .before .before)) (c .ends .result .first)
-    (c .ends .ensures .0 ∙ ap (λ (r : List ℕ). least (s .args .a + 1) (map (ofNode (take (s .args .n) W)) r)) (c .before .before .row .ensures))
+-- so both widths and both shares are small
+count : (c : tie.After-ends) → (1 ≤ c .before .before .before .before .before .number .result) × (c .before .before .before .before .before .number .result ≤ 6)
+count c = omega (arith, c .before .before .before .before .before .number .ensures, standing-count (stands (here c)))
 
-backward : (c : tie.After-ends) → c .ends .result .last - (entry c .args .a + 1) ≡ rowSpan (reversed (entry c)) (entry c .args .m - entry c .args .a)
-backward c =
-    let s = entry c in
-    let W = now (s .args .work) in
-    span-backward (s .pre .1 .0) (s .args .n) W (s .pre .0 .0) (s .pre .1 .1) (s .args .a) (c .before .before .before .wide .result) (placed s) (node (c .before .before .before)) (c .ends .result .last) (s .args .m)
-    (c .ends .ensures .1 ∙ ap (λ (r : List ℕ). max (s .args .a + 1) (greatest (map (ofNode (take (s .args .n) W)) r))) (c .before .before .row .ensures))
-    (segment-length (s .args .n) (s .args .m) W (s .pre .0 .1))
+share-requires : tie.Need-share-requires
+share-requires c κs =
+    let e = c .before .before in
+    let k = count e in
+    (k .0, k .1, omega (arith, reaches e))
 
--- the own place is between
-low : (c : tie.After-ends) → c .ends .result .first ≤ entry c .args .a + 1
-low c = omega (arith, c .ends .ensures .0, least-le (entry c .args .a + 1) (map (ofNode (take (entry c .args .n) (now (entry c .args .work)))) (now (c .before .before .row .result))))
+share-requires-2 : tie.Need-share-requires-2
+share-requires-2 c κs =
+    let e = c .before .before .before in
+    let k = count e in
+    (k .0, k .1, omega (arith, reaches e))
 
-high : (c : tie.After-ends) → entry c .args .a + 1 ≤ c .ends .result .last
-high c = omega (arith, c .ends .ensures .1)
-
--- no more places than nodes
-small : (s : tie.Start) → s .args .m ≤ 4096
-small s = omega (arith, part-small (s .pre .1 .0), segment-length (s .args .n) (s .args .m) (now (s .args .work)) (s .pre .0 .1), s .pre .1 .0 .starts .few)
-
-above : (c : tie.After-ends) → c .ends .result .last - (entry c .args .a + 1) ≤ 4096
-above c =
-    let s = entry c in
-    omega (arith, backward c, span-most (reversed s) (s .args .m - s .args .a), small s)
-
-places-length : tie.Need-slice-aggregate-ends
-places-length c =
-    let at-wide = c .before .before in
-    sym (part (at-wide .before .before .before .before .before))
+returns : tie.Need-returns
+returns c =
+    let e = c .before .before .before .before in
+    let s = start (here e) in
+    let w2 = e .before .before .before in
+    let x = w2 .before .before .number .result in
+    let own = w2 .wide2 .result in
+    let R = reaches e in
+    let k = count e .1 in (
+      c .before .share .ensures ∙ R .forward,
+      (
+        c .share2 .ensures ∙ R .backward ∙ ap (λ (l : ℕ). nodeSpan (inOrder (graph s) (reverse (order s))) (countsIn (now (s .args .counts)) (reverse (order s))) (l - s .args .a)) (long s),
+        (
+          omega (arith, c .before .share .ensures, share-most x (own - e .ends .result .first) k (omega (arith, R))),
+          omega (arith, c .share2 .ensures, share-most x (e .ends .result .last - (own + x)) k (omega (arith, R))),
+        ),
+      ),
+    )
 
 pub span-spec : {M : Type 1} → statement M
 span-spec =
@@ -108,12 +128,18 @@ span-spec =
     (λ c. search needs)
     (λ c. search needs)
     (λ c κs. search needs)
-    row-requires
-    (λ c. search needs)
-    places-length
+    (λ c κs. standing-counted (stands c))
+    (λ c. standing-node (stands (c .before)) .low)
+    (λ c. omega (arith, word (c .before)))
+    (λ c. omega (arith, word (c .before .before)))
+    (λ c κs. search needs)
+    (λ c κs. (start (node c) .pre .1 .0 .starts, standing-node (stands (node c))))
+    (λ c. sym (part (start (node (c .before .before)))))
+    few
     ends-requires
-    (λ c. low (c .before))
-    (λ c. high (c .before .before))
-    (λ c. omega (arith, small (entry (c .before .before))))
-    (λ c. omega (arith, above (c .before .before)))
-    (λ c. (forward (c .before .before), backward (c .before .before))))
+    (λ c. reaches (c .before) .low)
+    (λ c. search needs)
+    (λ c. reaches (c .before .before) .high)
+    share-requires
+    share-requires-2
+    returns)

@@ -7,8 +7,9 @@ use denote.Ref.{now}
 use lib.ListN.{drop}
 use Rattle.spec.specs.Graph.{sizeOf}
 use Rattle.laws.proofs.Lent.{zeroed-all}
+use Rattle.numbering_next.proofs.NextPart.{starts}
 use Rattle.numbering_whole.proofs.Figures.{members-room, members-blank, filled-room, levels-blank, behind-same}
-use Rattle.numbering_whole.proofs.Ran.{starts, ran-begin}
+use Rattle.numbering_whole.proofs.Ran.{ran-begin}
 use Rattle.numbering_whole.proofs.legal.begin.Statement.{statement}
 use Rattle.numbering_whole.proofs.legal.begin.Tie as tie
 
@@ -71,7 +72,7 @@ returns c =
     let w = scratch .clear .ensures in (
       m .0,
       (
-        λ order. ran-begin (drop (5 * sizeOf S) (scratch .clear .last .0)) (s .pre .0) (m .1 .1)
+        λ order K counted. ran-begin (drop (5 * sizeOf S) (scratch .clear .last .0)) (s .pre .0) counted (m .1 .1)
             (levels .clear2 .ensures ∙ zeroed-all (sizeOf S) (now (s .args .levels)) (s .pre .1 .0 .1))
             (passes .clear3 .ensures ∙ zeroed-all (sizeOf S) (now (s .args .passes)) (s .pre .1 .0 .2))
             (m .1 .0)

@@ -3,26 +3,27 @@ use mathlib.Core.Path.{_≡_, refl, sym, _∙_}
 use Prim.Native.Nat.{_-_}
 use native.Mathlib.Omega.{arith}
 use borrow.Author.Needs.{needs}
-use Rattle.numbering_whole.specs.Ran.{Ran}
-use Rattle.numbering_whole.proofs.Ran.{ran-words, levels-size, passes-words, passed-all, all-numbers, all-levels, all-passes, summed}
+use Rattle.numbering_next.specs.Ran.{Ran}
+use Rattle.numbering_next.proofs.NextPart.{ran-words, levels-size, passes-words}
+use Rattle.numbering_whole.proofs.Ran.{passed-all, all-numbers, all-levels, all-passes, summed}
 use Rattle.numbering_whole.proofs.legal.number_parts.Statement.{statement}
 use Rattle.numbering_whole.proofs.legal.number_parts.Tie as tie
 
 abbrev Inv-loop : tie.InvT-loop
-Inv-loop order starts neighbours numbers₀ levels₀ passes₀ scratch₀ count t₀ numbers levels passes scratch t = (scratch ≡ scratch₀) × Ran order starts neighbours (t .parts) (t .nodes) (t .levels) (t .width) numbers levels passes scratch₀
+Inv-loop order starts neighbours counts numbers₀ levels₀ passes₀ scratch₀ count t₀ numbers levels passes scratch t = (scratch ≡ scratch₀) × Ran order starts neighbours counts (t .parts) (t .nodes) (t .levels) (t .width) numbers levels passes scratch₀
 
 abbrev μ-loop : tie.MeasureT-loop
-μ-loop order starts neighbours numbers₀ levels₀ passes₀ scratch₀ count t₀ numbers levels passes scratch t = count - t .parts
+μ-loop order starts neighbours counts numbers₀ levels₀ passes₀ scratch₀ count t₀ numbers levels passes scratch t = count - t .parts
 
 loop-holds : tie.Need-loop-holds Inv-loop μ-loop
-loop-holds c = let at = c .before .before .before in (refl, at .before .before .before .pre .1)
+loop-holds c = let at = c .before .before .before in (refl, at .before .before .before .before .pre .1)
 
 next-part-requires : tie.Need-next-part-requires Inv-loop μ-loop
 next-part-requires c κs =
     let test = c .before .before .before .before in
     let loop = test .before .before in
     let start = loop .before .before .before .before in
-    (omega (arith, start .before .before .before .pre .0, test .if1 .taken), ran-words (loop .loop .inv .0) (loop .loop .inv .1))
+    (omega (arith, start .before .before .before .before .pre .0, test .if1 .taken), ran-words (loop .loop .inv .0) (loop .loop .inv .1))
 
 loop-less : tie.Need-loop-less Inv-loop μ-loop
 loop-less c =
@@ -46,13 +47,13 @@ same-length-2 : tie.Need-same-length-2 Inv-loop μ-loop
 same-length-2 c =
     let loop = c .before .before in
     let start = loop .before .before .before .before in
-    omega (arith, levels-size (loop .loop .inv .1), levels-size (start .before .before .before .pre .1))
+    omega (arith, levels-size (loop .loop .inv .1), levels-size (start .before .before .before .before .pre .1))
 
 same-length-3 : tie.Need-same-length-3 Inv-loop μ-loop
 same-length-3 c =
     let loop = c .before .before in
     let start = loop .before .before .before .before in
-    omega (arith, passes-words (loop .loop .inv .1), passes-words (start .before .before .before .pre .1))
+    omega (arith, passes-words (loop .loop .inv .1), passes-words (start .before .before .before .before .pre .1))
 
 same-length-4 : tie.Need-same-length-4 Inv-loop μ-loop
 same-length-4 c = search needs
@@ -62,7 +63,7 @@ returns c =
     let loop = c .before .before in
     let start = loop .before .before .before .before in
     let I = loop .loop .inv in
-    let e = passed-all (start .before .before .before .pre .0) (c .if1 .left) in
+    let e = passed-all (start .before .before .before .before .pre .0) (c .if1 .left) in
     (summed (I .1) e, (all-numbers (I .1) e, (all-levels (I .1) e, (all-passes (I .1) e, I .0))))
 
 pub number-parts-spec : {M : Type 1} → statement M

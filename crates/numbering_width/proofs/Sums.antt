@@ -1,0 +1,58 @@
+-- Sums over a list of nodes, and a word raised by a number. Assumes nothing.
+use mathlib.Core.Path.{_≡_, refl, sym, ap, _∙_}
+use mathlib.Core.Bool.{Bool, true, false, cond}
+use mathlib.Core.List.{List, [], _∷_, map}
+use Prim.Native.Nat.{ℕ, _+_, _*_, _≤_, _<_, max}
+use native.Mathlib.Nat.{add-zero}
+use native.Mathlib.Omega.{arith}
+use lib.ListN.{length, getD, set}
+use lib.Seq.{getD-set-same, getD-set-other}
+use lib.Dec.{eqb}
+use borrow.Author.Tests.{eqb-true, eqb-false}
+use Rattle.basis.specs.Lists.{filterb, memb, sum, greatest}
+use Rattle.basis.proofs.Index.{greatest-memb, greatest-le}
+use Rattle.basis.proofs.Lists.{memb-here}
+use Rattle.basis.proofs.Logic.{by-test, or-right, eqb-self}
+
+-- ---- sums
+
+-- what fails the test adds nothing
+pub sum-filter : (f : ℕ → ℕ) (t : ℕ → Bool) (l : List ℕ) → ((x : ℕ) → memb x l ≡ true → t x ≡ false → f x ≡ 0) → sum (map f (filterb t l)) ≡ sum (map f l)
+sum-filter f t [] h = refl
+sum-filter f t (x ∷ l) h =
+    let ih : sum (map f (filterb t l)) ≡ sum (map f l) = sum-filter f t l (λ y m e. h y (or-right (eqb y x) m) e) in
+    by-test (t x)
+    (λ e. rw e (ap (λ (n : ℕ). f x + n) ih))
+    (λ e. rw e (omega (arith, ih, h x (memb-here x l) e)))
+
+-- each adds at most 6
+pub sum-six : (f : ℕ → ℕ) (l : List ℕ) → ((x : ℕ) → memb x l ≡ true → f x ≤ 6) → sum (map f l) ≤ 6 * length l
+sum-six f [] h = omega arith
+sum-six f (x ∷ l) h = omega (arith, h x (memb-here x l), sum-six f l (λ y m. h y (or-right (eqb y x) m)))
+
+-- ---- one word is raised by c
+
+-- the words with c more in word i
+abbrev pub raised : List ℕ → ℕ → ℕ → List ℕ
+raised W i c = set W i (getD W i 0 + c)
+
+pub raised-at : (W : List ℕ) (i c j : ℕ) → i < length W → getD (raised W i c) j 0 ≡ getD W j 0 + cond (eqb j i) c 0
+raised-at W i c j h = by-test (eqb j i)
+    (λ e. rw (eqb-true j i e) (getD-set-same W i (getD W i 0 + c) 0 h ∙ ap (λ (b : Bool). getD W i 0 + cond b c 0) (sym (eqb-self i))))
+    (λ e. rw e (getD-set-other W i j (getD W i 0 + c) 0 (eqb-false j i e) ∙ sym (add-zero (getD W j 0))))
+
+-- the greatest word is then it, or the greatest before
+pub greatest-raised : (W : List ℕ) (i c : ℕ) (l : List ℕ) → i < length W → memb i l ≡ true
+    → greatest (map (λ j. getD (raised W i c) j 0) l) ≡ max (greatest (map (λ j. getD W j 0) l)) (getD W i 0 + c)
+greatest-raised W i c l h m =
+    let old : ℕ → ℕ = λ j. getD W j 0 in
+    let new : ℕ → ℕ = λ j. getD (raised W i c) j 0 in
+    let top : new i ≡ old i + c = getD-set-same W i (old i + c) 0 h in
+    let most : greatest (map new l) ≤ max (greatest (map old l)) (old i + c) =
+    greatest-le new l (max (greatest (map old l)) (old i + c))
+    (λ j t.
+    by-test (eqb j i) (λ e. omega (arith, ap new (eqb-true j i e), top))
+    (λ e. omega (arith, getD-set-other W i j (getD W i 0 + c) 0 (eqb-false j i e), greatest-memb old l j t))) in
+    let grown : greatest (map old l) ≤ greatest (map new l) =
+    greatest-le old l (greatest (map new l)) (λ j t. omega (arith, raised-at W i c j h, greatest-memb new l j t)) in
+    omega (arith, most, grown, top, greatest-memb new l i m)

@@ -1,0 +1,5 @@
+pub mod Degrees
+pub mod Counts
+pub mod OneEach
+pub mod Lent
+pub mod Answers

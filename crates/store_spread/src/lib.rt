@@ -1,0 +1,3 @@
+// The marks of the nodes' store spread in place to those of the store in unknowns.
+
+pub mod legal;
