@@ -1,8 +1,8 @@
 #!/usr/bin/env python3
-"""The examples in C, Fortran and Rust: built over the static library, run on two meshes and on broken files, held to the independent program.
+"""The examples in C, Fortran and Rust: built over the static library, run on three meshes and on broken files, held to the independent program.
 
-`renumber` must print what the program prints for every file, so it is run on many, and `orders` on a tenth of them. One without its compiler
-here is skipped, as 'skipped: no gfortran'. The library is built first where it is older than the crates.
+`renumber` must print what the program prints for every file, so it is run on many, and `orders` on a tenth of them; `hinge` has a mesh of its own.
+One without its compiler here is skipped, as 'skipped: no gfortran'. The library is built first where it is older than the crates.
 """
 
 import os
@@ -17,10 +17,10 @@ sys.path[:0] = [os.path.join(TOP, 'tests', part) for part in ('reference', 'vect
 
 import calls
 from files import all_files
-from listing import nodes_of_file, words_after_header
+from listing import counts_of_file, nodes_of_file, words_of_elements
 from program import text_for
 
-MESHES = ('bracket', 'two_parts')
+MESHES = ('bracket', 'two_parts', 'hinged_plates')
 
 # `renumber` is run on every so many-th of the files that test_reading is run on.
 STEP = 3
@@ -31,6 +31,7 @@ EXAMPLES = {
     'C': ('cc', C_WORDS.format('bracket', 'C')),
     'renumber': ('cc', C_WORDS.format('renumber', 'renumber')),
     'orders': ('cc', C_WORDS.format('orders', 'orders')),
+    'hinge': ('cc', C_WORDS.format('hinge', 'hinge')),
     'Fortran': ('gfortran', '-std=f2008 -Wall -Werror -fcheck=all -O2 -J {out} examples/fortran/wagonepoch.f90 examples/fortran/bracket.f90 '
                 + LIBRARY + ' -o {out}/Fortran'),
     'Rust': ('rustc', '--edition 2021 -D warnings -O -L target/staticlib -l static=capi examples/rust/bracket.rs -o {out}/Rust'),
@@ -44,18 +45,21 @@ def value(answer):
 
 
 def lists_of(file):
-    """The two lists of the mesh in these bytes."""
-    n = nodes_of_file(file)
+    """The two lists of the mesh in these bytes, and the counts."""
+    return graph_of(nodes_of_file(file), words_of_elements(file)) + (counts_of_file(file),)
+
+
+def graph_of(n, words):
     starts, neighbours = [0] * (n + 1), [0] * 32768
-    entries, = value(calls.mesh(n, words_after_header(file), starts, neighbours, [0] * n))
+    entries, = value(calls.mesh(n, words, starts, neighbours, [0] * n))
     return starts, neighbours[:entries]
 
 
-def order(call, starts, neighbours):
+def order(call, starts, neighbours, counts):
     """Its numbers, the passes of each part, and its figures."""
     n = len(starts) - 1
     numbers, passes = [0] * n, [0] * n
-    figures = value(call(starts, neighbours, numbers, [0] * n, passes, [0] * calls.scratch_words(n)))
+    figures = value(call(starts, neighbours, counts, numbers, [0] * n, passes, [0] * calls.scratch_words(n)))
     return numbers, passes[:figures[1]], figures
 
 
@@ -73,39 +77,72 @@ def both_orders(file):
 
 def expected(file):
     """What the brackets print for the mesh in these bytes."""
-    starts, neighbours = lists_of(file)
+    starts, neighbours, counts = lists = lists_of(file)
     n, entries = len(starts) - 1, len(neighbours)
     scratch, levels, sizes = [0] * n, [0] * n, [0] * n
-    before = value(calls.measures(starts, neighbours, list(range(1, n + 1)), scratch))
-    numbers, passes, _ = order(calls.whole_run, starts, neighbours)
-    after = value(calls.measures(starts, neighbours, numbers, scratch))
-    reverse = order(calls.reverse_cuthill_mckee, starts, neighbours)[2][2:5]
+    before = value(calls.measures(*lists, list(range(1, n + 1)), scratch))
+    numbers, passes, _ = order(calls.whole_run, *lists)
+    after = value(calls.measures(*lists, numbers, scratch))
+    reverse = order(calls.reverse_cuthill_mckee, *lists)[2][2:5]
     root = numbers.index(1) + 1
     depth, width, _ = value(calls.rooted_levels(starts, neighbours, root, levels, sizes))
     profile = after[1]
-    marks, new = value(calls.elimination(starts, neighbours, numbers, scratch, [0] * ((profile + 7) // 8)))
+    marks, new = value(calls.elimination(*lists, numbers, scratch, [0] * ((profile + 7) // 8)))
+    edges = sum(len(row) for row in calls.adjoining_of(*lists, numbers).values()) // 2
     return '\n'.join([
-        'mesh: nodes {} entries {}'.format(n, entries),
+        'mesh: nodes {} unknowns {} entries {}'.format(n, sum(counts), entries),
         MEASURES.format('before', *before),
         MEASURES.format('after', *after),
         MEASURES.format('reverse Cuthill-McKee', *reverse),
         ' '.join(['passes:'] + [str(count) for count in passes]),
         'levels: root {} depth {} thickest {} nodes {}'.format(root, depth, sizes.index(width) + 1, width),
         'elimination: marked {} new {}'.format(marks, new),
-        'store: places {} marked {} edges {}'.format(profile, marks, entries // 2),
+        'store: places {} marked {} edges {}'.format(profile, marks, edges),
+    ]) + '\n'
+
+
+def expected_hinge():
+    """What `hinge` prints: of two plates of 6 by 4 squares, each without one of them, that are numbered along their length."""
+    def node(x, y):
+        return 13 * y + x + 1
+    squares = [(x, y) for y in range(4) for x in range(12) if (x, y) not in ((2, 0), (9, 3))]
+    words = [word for x, y in squares for word in (3, node(x, y), node(x + 1, y), node(x + 1, y + 1), node(x, y + 1))]
+    lists = graph_of(65, words) + ([3 if x == 6 else 6 for _ in range(5) for x in range(13)],)
+    numbers, _, figures = order(calls.whole_run, *lists)
+    report = value(calls.part_report(*lists, 1, [0] * calls.scratch_words(65)))
+    marks, _ = value(calls.elimination(*lists, numbers, [0] * 65, [0] * figures[3]))
+    return '\n'.join([
+        'mesh: nodes 65 unknowns {} hinges 5'.format(sum(lists[2])),
+        MEASURES.format('before', *value(calls.measures(*lists, list(range(1, 66)), [0] * 65))),
+        MEASURES.format('after', *figures[2:5]),
+        'part: levels {} width {} {}'.format(report[2], report[3], report[5].lower()),
+        'store: places {} marked {}'.format(figures[3], marks),
+        'factor: every pivot positive, places filled without a mark 0',
+        'solution: as the dense solve has it',
     ]) + '\n'
 
 
 def broken(mesh):
     """The mesh with its end, its header or an element damaged."""
-    return {'empty': b'', 'short header': mesh[:8], 'mark': b'grd' + mesh[3:], 'version': mesh[:3] + b'\2' + mesh[4:], 'cut': mesh[:-1],
+    return {'empty': b'', 'short header': mesh[:8], 'mark': b'grd' + mesh[3:], 'version': mesh[:3] + b'\3' + mesh[4:], 'cut': mesh[:-1],
             'word cut': mesh[:-2], 'byte more': mesh + b'\0', 'element more': mesh + b'\1\0\1\0\2\0', 'count less': mesh[:7] + b'\1\0' + mesh[9:],
             'count more': mesh[:7] + b'\xff\xff' + mesh[9:], 'no nodes': mesh[:5] + b'\0\0' + mesh[7:], 'kind': mesh[:9] + b'\13' + mesh[10:],
             'node': mesh[:11] + b'\0\0' + mesh[13:], 'too long': mesh + bytes(65536), 'too long, no nodes': b'GRD\1' + bytes(65532)}
 
 
+def broken_counts(mesh):
+    """The mesh, which has counts, with one of them wrong, or cut, or without them."""
+    return {'no counts': mesh[:3] + b'\1' + mesh[4:], 'count 0': mesh[:9] + b'\0' + mesh[10:], 'count 7': mesh[:11] + b'\7' + mesh[12:],
+            'count 257': mesh[:10] + b'\1' + mesh[11:], 'counts cut': mesh[:14], 'counts cut, one wrong': mesh[:9] + b'\0' + mesh[10:15],
+            'no nodes, counted': mesh[:5] + b'\0\0' + mesh[7:], 'too many nodes, counted': mesh[:5] + b'\1\x10' + mesh[7:],
+            'elements cut': mesh[:-2], 'byte more, counted': mesh + b'\0'}
+
+
 def wrong(example, file, run):
     """What is wrong with a run of an example on these bytes, or ''."""
+    if example == 'hinge':
+        text = expected_hinge()
+        return '' if run.stdout == text and run.returncode == 0 else 'printed\n%swith status %d, wanted\n%s' % (run.stdout, run.returncode, text)
     text = text_for(file).decode('ascii')
     refused = text.startswith('refused')
     if example != 'renumber' and not refused:
@@ -162,11 +199,13 @@ def main():
     for name in MESHES:
         with open('examples/%s.grd' % name, 'rb') as f:
             meshes[name] = f.read()
-    meshes.update(broken(meshes['bracket']))
+    meshes.update(broken(meshes['bracket']), **broken_counts(meshes['hinged_plates']))
     many = {'file %d (%s)' % (i, kind): file for i, (kind, file) in list(enumerate(all_files(), 1))[::STEP]}
     with tempfile.TemporaryDirectory() as out:
         more = {'renumber': many, 'orders': dict(list(many.items())[::10])}
-        results = {example: try_example(example, dict(meshes, **more.get(example, {})), out) for example in EXAMPLES}
+        files = {example: dict(meshes, **more.get(example, {})) for example in EXAMPLES}
+        files['hinge'] = {'its own plates': b''}
+        results = {example: try_example(example, files[example], out) for example in EXAMPLES}
         for example in more if os.path.exists('/dev/full') else ():
             if results[example].startswith('ok') and not not_written(example, out):
                 results[example] = 'FAILED: a full device'

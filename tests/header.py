@@ -23,11 +23,11 @@ def parameters(text):
 
 
 def exported():
-    """{name: (parameters, figures)} of the crate."""
+    """{name: (parameters, figures)} of the crate, the figures as the contract has them."""
     found = {}
     for path in glob.glob(os.path.join(TOP, 'crates', 'capi', 'src', '*.rt')):
         for m in re.finditer(r'pub extern "C" fn (\w+)\(([^)]*)\) -> u16\n(.*?)\n}', text_of(path), re.S):
-            figures = re.search(r'figures\.len\(\) < (\d+)', m.group(3))
+            figures = re.search(r'answerC (\d+) \(was figures\)', m.group(3))
             found[m.group(1)] = (parameters(m.group(2)), int(figures.group(1)) if figures else 0)
     return found
 

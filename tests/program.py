@@ -25,7 +25,7 @@ PROGRAM = os.path.join(TOP, 'target', 'bin', 'renumber')
 sys.path[:0] = [os.path.join(TOP, 'tests', part) for part in ('tools', 'reference', 'vectors')]
 
 from files import all_files, random_damaged, random_valid
-from harness import Cases, grd_file
+from harness import Cases, grd_file, words
 from program import text_for
 from vectors import Draw
 
@@ -85,12 +85,33 @@ def full():
     return grd_file(200, *elements), grd_file(200, *elements, (1, *others[16384 - len(pairs)]))
 
 
+def counted(content, *counts):
+    """The file in version 2, with these counts."""
+    return content[:3] + b'\2\0' + content[5:9] + words(*counts) + content[9:]
+
+
+def counted_files():
+    """A name and the bytes of each: files with counts of unknowns, and such as are refused for them."""
+    hub = grd_file(5, (5, 1, 2, 3, 4, 5), (1, 5, 5))
+    whole = counted(SAMPLE, 3, 1, 6, 1, 2)
+    bad = counted(SAMPLE, 3, 1, 7, 1, 2)
+    return [('counts', whole), ('one unknown each', counted(SAMPLE, *[1] * 5)), ('one node of six', counted(grd_file(1), 6)),
+            ('a pyramid in version 2', counted(hub, 2, 2, 2, 2, 6)), ('4,096 nodes of six', counted(grd_file(4096), *[6] * 4096)),
+            ('a count of 7', bad), ('a count of 0', counted(SAMPLE, 0, 1, 1, 1, 1)), ('a count of 257', counted(SAMPLE, 1, 1, 1, 1, 257)),
+            ('cut within the counts', whole[:18]), ('cut within the counts, after a bad one', bad[:18]), ('no counts', whole[:9]),
+            ('a bad count, and no elements', bad[:19]), ('counts, and no elements', whole[:19]), ('counts, a byte left over', whole + b'\0'),
+            ('a bad count, kind 0', counted(grd_file(2, (0, 1, 2)), 1, 9)), ('counts, kind 0', counted(grd_file(2, (0, 1, 2)), 1, 2)),
+            ('counts, 4,097 nodes', counted(grd_file(4097), *[0] * 4097)), ('counts, no nodes', counted(grd_file(0), 7)),
+            ('counts in version 3', whole[:3] + b'\3\0' + whole[5:]), ('counts in version 1', whole[:3] + b'\1\0' + whole[5:])]
+
+
 def odd_files():
     """A name and the bytes of each."""
     exact, over = full()
     good = grd_file(4, (3, 1, 2, 3, 4))
     return [('empty', b''), ('8 bytes', SAMPLE[:8]), ('a header alone', grd_file(3)), ('wrong mark', b'grd' + SAMPLE[3:]),
-            ('version 2', SAMPLE[:3] + b'\2\0' + SAMPLE[5:]), ('no nodes', grd_file(0)), ('4,096 nodes', grd_file(4096)),
+            ('version 0', SAMPLE[:3] + b'\0\0' + SAMPLE[5:]), ('version 2, elements for counts', SAMPLE[:3] + b'\2\0' + SAMPLE[5:]),
+            ('no nodes', grd_file(0)), ('4,096 nodes', grd_file(4096)),
             ('4,097 nodes', grd_file(4097)), ('kind 0', grd_file(4, (0, 1, 2))), ('kind 11', grd_file(4, (11, 1, 2))),
             ('a record past the end', good[:-1]), ('half a kind word', good[:10]), ('an element missing', good[:7] + b'\2\0' + good[9:]),
             ('node 0', grd_file(4, (2, 1, 0, 3))), ('node 5 of 4', grd_file(4, (2, 1, 5, 3))), ('a node twice', grd_file(4, (2, 1, 3, 1))),
@@ -98,7 +119,7 @@ def odd_files():
             ('a brick on one node', grd_file(4, (7, *[3] * 8))), ('a node twice, a byte left over', grd_file(4, (1, 2, 2)) + b'\0'),
             ('node 0 twice', grd_file(4, (2, 0, 3, 0))), ('node 5 of 4 twice', grd_file(4, (2, 1, 5, 5))),
             ('a byte left over', good + b'\0'), ('32,768 entries', exact), ('32,770 entries', over), ('line feeds', b'\n' * 40),
-            ('the longest', LONGEST), ('65,536 bytes', LONGEST + b'\0'), ('70,000 bytes', LONGEST + bytes(4465))]
+            ('the longest', LONGEST), ('65,536 bytes', LONGEST + b'\0'), ('70,000 bytes', LONGEST + bytes(4465))] + counted_files()
 
 
 def damaged(draw, content):
@@ -123,9 +144,9 @@ def listings(c, folder):
         c.equal(name, run(written(folder, content)), wanted)
         c.equal(name + ' on standard input', run('-', given=content), wanted)
     draw = random.Random(1)
-    sources = [SAMPLE, read(os.path.join(TOP, 'examples', 'two_parts.grd'))]
+    sources = [SAMPLE, read(os.path.join(TOP, 'examples', 'two_parts.grd')), counted(SAMPLE, 3, 1, 6, 1, 2)]
     for i in range(60):
-        content = damaged(draw, sources[i % 2])
+        content = damaged(draw, sources[i % 3])
         c.equal('damaged %d: %r' % (i, content), run(given=content), expected(text_for(content)))
 
 

@@ -27,6 +27,11 @@ def words(values):
     return '(%s)' % ' ++ '.join(parts)
 
 
+def bare(term):
+    """A list without the brackets that it has as an argument."""
+    return term[1:-1] if term.startswith('(') else term
+
+
 def record(fields, values):
     return '(record { %s })' % '; '.join('%s = %s' % pair for pair in zip(fields, values))
 

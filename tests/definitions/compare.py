@@ -5,7 +5,7 @@
 
 Each equation (a call of `spec` on an input, and what tests/reference answers and leaves) is a theorem by computation.
 They are checked in a temporary repository with copies of the crates basis and spec, in batches. Run by hand; it takes
-some minutes and is no part of the gate. Exit status 1 where a definition and the reference differ.
+a quarter of an hour and is no part of the gate. Exit status 1 where a definition and the reference differ.
 """
 
 import argparse
@@ -40,10 +40,11 @@ use Rattle.spec.specs.CallsLevels.{combinedAnswer, combinedLevels, combinedScra
 use Rattle.spec.specs.CallsNumbering.{reportAnswer, reportScratch, runAnswer, runNumbers, runLevels, runPasses, runScratch}
 use Rattle.spec.specs.CallsNumbering.{measuresAnswer, measuresScratch}
 use Rattle.spec.specs.CallsCuthill.{cuthillAnswer, cuthillNumbers, cuthillLevels, cuthillPasses, cuthillScratch}
+use Rattle.spec.specs.CallsCuthill.{cuthillEliminateAnswer, cuthillEliminateBytes}
 use Rattle.spec.specs.CallsStore.{eliminationAnswer, eliminationScratch, eliminationBytes, runEliminateAnswer, runEliminateBytes}
 use Rattle.spec.specs.CallsMesh.{meshAnswer, meshStarts, meshNeighbours, meshScratch}
 use Rattle.spec.specs.Mesh.{startList, neighbourList}
-use Rattle.spec.specs.File.{fileGraph, fileRefusal, programOutput}
+use Rattle.spec.specs.File.{fileCounts, fileGraph, fileRefusal, programOutput}
 use Rattle.spec.proofs.Compute.{computes}
 '''
 BATCH = 60
@@ -109,7 +110,7 @@ def of_graph_and_store(i):
 def main():
     parser = argparse.ArgumentParser(description=__doc__.split('\n')[0])
     parser.add_argument('--seed', type=int, default=1976)
-    parser.add_argument('--graphs', type=int, default=300, help='random graphs of 5 to 12 nodes')
+    parser.add_argument('--graphs', type=int, default=120, help='random graphs of 5 to 12 nodes')
     parser.add_argument('--files', type=int, default=60, help='meshes, and files')
     asked = parser.parse_args()
     rng = graphs.seeded(asked.seed)
@@ -118,8 +119,10 @@ def main():
         wrong = run(folder, 'all graphs of up to 4 nodes', graphs.all_small(rng, 4), of_graph_and_store)
         wrong += run(folder, 'random graphs of 5 to 8 nodes', graphs.at_random(rng, asked.graphs * 2 // 3, 5, 8), of_graph_and_store)
         wrong += run(folder, 'random graphs of 9 to 12 nodes', graphs.at_random(rng, asked.graphs // 3, 9, 12), of_graph_and_store)
+        wrong += run(folder, 'bad counts among other refusals', graphs.in_order(rng), of_graph)
         wrong += run(folder, 'meshes', meshes.mesh_inputs(rng, asked.files), of_mesh)
         wrong += run(folder, 'files', meshes.file_inputs(rng, asked.files), of_file)
+        wrong += run(folder, 'files with counts', meshes.counted_inputs(rng), of_file)
     print('%d differ' % wrong)
     return 1 if wrong else 0
 

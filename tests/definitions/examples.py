@@ -18,8 +18,10 @@ sys.path[:0] = [os.path.join(TOP, 'tests', 'reference'), HERE]
 import calls
 import listing
 import program
-from antt import ELIMINATION_FIGURES, ENDS, FIGURES, PART_REPORT, figures, outcome, words
+from antt import ELIMINATION_FIGURES, ENDS, FIGURES, PART_REPORT, bare, figures, outcome, words
 from graph import MOST_ENTRIES, from_edges
+from tables import kept
+from unknowns import ones
 
 # name, what it is for, nodes, edges
 GRAPHS = [
@@ -93,7 +95,7 @@ PASSES = [
 # what it shows, mark, the words after it, bytes after these
 FILES = [
     ('a wrong mark, and no node: 12 before 1', b'GRX', [1, 0, 0], b''),
-    ('a wrong version, and a node too many', b'GRD', [2, 4097, 0], b''),
+    ('a wrong version, and a node too many', b'GRD', [3, 4097, 0], b''),
     ('no node, and an unknown kind: 1 before 9', b'GRD', [1, 0, 1, 0], b''),
     ('an unknown kind as the last word', b'GRD', [1, 2, 1, 11], b''),
     ('a record past the end, seen before its node 0', b'GRD', [1, 2, 1, 1, 0], b''),
@@ -125,6 +127,7 @@ use Rattle.spec.specs.Graph.{sizeOf}
 use Rattle.spec.specs.Ends.{Ends}
 use Rattle.spec.specs.Numbering.{Forward, Reversed, PartReport, Figures}
 use Rattle.spec.specs.Lent.{Outcome, accepted}
+use Rattle.spec.specs.Unknowns.{ones}
 use Rattle.spec.specs.Mesh.{startList, neighbourList}
 use Rattle.spec.specs.File.{fileGraph, fileRefusal}
 use Rattle.spec.specs.CallsLevels.{adjacencyAnswer, rootedAnswer, rootedSizes, endsAnswer}
@@ -169,13 +172,14 @@ record Ordered : Type 0 where
 
 ordered : List ℕ → List ℕ → Ordered
 ordered S N =
+    let c : List ℕ = ones (sizeOf S) in
     let w : List ℕ = replicate (sizeOf S) 9 in
     let x : List ℕ = replicate (6 * sizeOf S) 9 in
     record {
-      levels = cuthillLevels S N w w w x;
-      numbers = cuthillNumbers S N w w w x;
-      passes = cuthillPasses S N w w w x;
-      figures = cuthillAnswer S N w w w x;
+      levels = cuthillLevels S N c w w w x;
+      numbers = cuthillNumbers S N c w w w x;
+      passes = cuthillPasses S N c w w w x;
+      figures = cuthillAnswer S N c w w w x;
     }
 '''
 
@@ -186,13 +190,13 @@ def buffer(count):
 
 def found(n, edges):
     """The fields of Found, as the reference has them."""
-    starts, neighbours = from_edges(n, edges)
+    (starts, neighbours), counts = from_edges(n, edges), ones(n)
     combined, numbers, levels, passes, marks = buffer(n), buffer(n), buffer(n), buffer(n), buffer(4)
     ends = calls.ends(starts, neighbours, 1, buffer(calls.scratch_words(n)))
     calls.combined_levels(starts, neighbours, 1, combined, buffer(calls.scratch_words(n)))
-    report = calls.part_report(starts, neighbours, 1, buffer(calls.scratch_words(n)))
-    run = calls.whole_run(starts, neighbours, numbers, levels, passes, buffer(calls.scratch_words(n)))
-    elimination = calls.elimination(starts, neighbours, numbers, buffer(n), marks)
+    report = calls.part_report(starts, neighbours, counts, 1, buffer(calls.scratch_words(n)))
+    run = calls.whole_run(starts, neighbours, counts, numbers, levels, passes, buffer(calls.scratch_words(n)))
+    elimination = calls.elimination(starts, neighbours, counts, numbers, buffer(n), marks)
     return [('ends', outcome(ends, figures(ENDS))), ('combined', words(combined)),
             ('report', outcome(report, figures(PART_REPORT))), ('levels', words(levels)),
             ('numbers', words(numbers)), ('passes', words(passes)), ('figures', outcome(run, figures(FIGURES))),
@@ -202,7 +206,7 @@ def found(n, edges):
 def ordered(n, edges):
     """The fields of Ordered, as the reference has them."""
     numbers, levels, passes = buffer(n), buffer(n), buffer(n)
-    answer = calls.reverse_cuthill_mckee(*from_edges(n, edges), numbers, levels, passes, buffer(calls.scratch_words(n)))
+    answer = calls.reverse_cuthill_mckee(*from_edges(n, edges), ones(n), numbers, levels, passes, buffer(calls.scratch_words(n)))
     return [('levels', words(levels)), ('numbers', words(numbers)), ('passes', words(passes)), ('figures', outcome(answer, figures(FIGURES)))]
 
 
@@ -218,16 +222,11 @@ def refusals(starts, neighbours, node, numbering, per_node):
     answers = [calls.adjacency_test(starts, neighbours),
                calls.rooted_levels(starts, neighbours, node, lent(), lent()),
                calls.ends(starts, neighbours, node, lent()),
-               calls.whole_run(starts, neighbours, lent(), lent(), lent(), lent()),
-               calls.reverse_cuthill_mckee(starts, neighbours, lent(), lent(), lent(), lent()),
-               calls.measures(starts, neighbours, numbering, lent()),
-               calls.elimination(starts, neighbours, numbering, lent(), [])]
+               calls.whole_run(starts, neighbours, ones(n), lent(), lent(), lent(), lent()),
+               calls.reverse_cuthill_mckee(starts, neighbours, ones(n), lent(), lent(), lent(), lent()),
+               calls.measures(starts, neighbours, ones(n), numbering, lent()),
+               calls.elimination(starts, neighbours, ones(n), numbering, lent(), [])]
     return [refusal_of(answer) for answer in answers]
-
-
-def bare(term):
-    """A list without the brackets that it has as an argument."""
-    return term[1:-1] if term.startswith('(') else term
 
 
 def listed(name, kind, fields):
@@ -279,7 +278,7 @@ def pass_rows():
     """Fields for what the run and reverse Cuthill-McKee refuse each by, and for their lists of passes, and their proofs."""
     fields, proofs = [], []
     for number, (why, n, edges, *lengths) in enumerate(PASSES, 1):
-        given, lent = from_edges(n, edges), [buffer(length) for length in lengths]
+        given, lent = (*from_edges(n, edges), ones(n)), [buffer(length) for length in lengths]
         arguments = ' '.join(map(words, [*given, *lent]))
         fields.append('  -- %s' % why)
         for name, call in ('run', calls.whole_run), ('cuthill', calls.reverse_cuthill_mckee):
@@ -301,7 +300,7 @@ def file_lists(file):
     """The start list and the neighbour list of a file that is not refused."""
     n = listing.nodes_of_file(file)
     starts, neighbours = buffer(n + 1), buffer(MOST_ENTRIES)
-    _, (entries,) = calls.mesh(n, listing.words_after_header(file), starts, neighbours, buffer(n))
+    _, (entries,) = calls.mesh(n, listing.words_of_elements(file), starts, neighbours, buffer(n))
     return [('starts', 'startList', starts), ('neighbours', 'neighbourList', neighbours[:entries])]
 
 
@@ -323,14 +322,15 @@ REFUSED = '''-- what the adjacency test, rooted levels, ends, run, reverse Cuthi
 -- node and no mark byte
 refusals : List ℕ → List ℕ → ℕ → List ℕ → ℕ → List ℕ
 refusals S N node x k =
+    let c : List ℕ = ones (sizeOf S) in
     let w : List ℕ = replicate (k * sizeOf S) 9 in
     numberOf (adjacencyAnswer S N)
     ∷ numberOf (rootedAnswer S N node w w)
     ∷ numberOf (endsAnswer S N node w)
-    ∷ numberOf (runAnswer S N w w w w)
-    ∷ numberOf (cuthillAnswer S N w w w w)
-    ∷ numberOf (measuresAnswer S N x w)
-    ∷ numberOf (eliminationAnswer S N x w [])
+    ∷ numberOf (runAnswer S N c w w w w)
+    ∷ numberOf (cuthillAnswer S N c w w w w)
+    ∷ numberOf (measuresAnswer S N c x w)
+    ∷ numberOf (eliminationAnswer S N c x w [])
     ∷ []
 '''
 
@@ -350,15 +350,5 @@ def text():
         'example-table = record {', *proofs, *refused, *sized, *passed, *read, '}', ''])
 
 
-def main():
-    if sys.argv[1:] != ['--check']:
-        print(text(), end='')
-        return 0
-    with open(os.path.join(TOP, 'crates', 'spec', 'proofs', 'Examples.antt'), encoding='utf-8') as f:
-        same = f.read().split() == text().split()
-    print('Examples.antt: %s' % ('as tests/reference has it' if same else 'NOT as tests/reference has it'))
-    return 0 if same else 1
-
-
 if __name__ == '__main__':
-    sys.exit(main())
+    sys.exit(kept('Examples.antt', text()))

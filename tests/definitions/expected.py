@@ -5,8 +5,9 @@ from antt import (COMBINED_FIGURES, ELIMINATION_FIGURES, ENDS, FIGURES, LEVEL_FI
                   PART_REPORT, figures, nothing, one_number, outcome, record, truth, words)
 from graph import MOST_ENTRIES
 from idle_cases import is_connected, numbers_before_turning, store_of, without_lower
-from listing import nodes_of_file, words_after_header
+from listing import counts_of_file, nodes_of_file, words_of_elements
 from program import text_for
+from unknowns import ones
 
 
 def called(call, given, lent):
@@ -37,8 +38,9 @@ def run_elimination(values):
 
 
 def of_graph(i):
-    """Equations for every call on an adjacency."""
+    """Equations for every call on an adjacency; those that number, measure, eliminate or report a part are handed the counts."""
     lists = (i.starts, i.neighbours)
+    counted = lists + (i.counts,)
     run = (i.numbers, i.levels, i.passes, i.scratch)
     return (
         of_call(calls.adjacency_test, lists, (), 'adjacencyAnswer', nothing, ())
@@ -47,23 +49,25 @@ def of_graph(i):
         + of_call(calls.ends, lists + (i.node,), (i.scratch,), 'endsAnswer', figures(ENDS), ('endsScratch',))
         + of_call(calls.combined_levels, lists + (i.node,), (i.levels, i.scratch),
                   'combinedAnswer', figures(COMBINED_FIGURES), ('combinedLevels', 'combinedScratch'))
-        + of_call(calls.part_report, lists + (i.node,), (i.scratch,),
+        + of_call(calls.part_report, counted + (i.node,), (i.scratch,),
                   'reportAnswer', figures(PART_REPORT), ('reportScratch',))
-        + of_call(calls.whole_run, lists, run,
+        + of_call(calls.whole_run, counted, run,
                   'runAnswer', figures(FIGURES), ('runNumbers', 'runLevels', 'runPasses', 'runScratch'))
-        + of_call(calls.reverse_cuthill_mckee, lists, run,
+        + of_call(calls.reverse_cuthill_mckee, counted, run,
                   'cuthillAnswer', figures(FIGURES), ('cuthillNumbers', 'cuthillLevels', 'cuthillPasses', 'cuthillScratch'))
-        + of_call(calls.measures, lists + (i.numbering,), (i.words,),
+        + of_call(calls.measures, counted + (i.numbering,), (i.words,),
                   'measuresAnswer', figures(MEASURE_FIGURES), ('measuresScratch',))
-        + of_call(calls.elimination, lists + (i.numbering,), (i.words, i.bytes),
+        + of_call(calls.elimination, counted + (i.numbering,), (i.words, i.bytes),
                   'eliminationAnswer', figures(ELIMINATION_FIGURES), ('eliminationScratch', 'eliminationBytes'))
-        + of_call(calls.run_and_eliminate, lists, run + (i.bytes,),
-                  'runEliminateAnswer', run_elimination, (None, None, None, None, 'runEliminateBytes')))
+        + of_call(calls.run_and_eliminate, counted, run + (i.bytes,),
+                  'runEliminateAnswer', run_elimination, (None, None, None, None, 'runEliminateBytes'))
+        + of_call(calls.cuthill_and_eliminate, counted, run + (i.bytes,),
+                  'cuthillEliminateAnswer', run_elimination, (None, None, None, None, 'cuthillEliminateBytes')))
 
 
 def of_store(i):
-    """Equations for a legal adjacency: whether it is connected, A.3's numbers before turning, and of these and the given numbers the premise
-    of A.12; the bytes of the store that the first fill."""
+    """Equations for a legal adjacency, with one unknown a node: whether it is connected, A.3's numbers before turning, and of these and the given
+    numbers the premise of A.12; the bytes of the store that the first fill."""
     graph = (i.starts, i.neighbours)
     if calls.adjacency_test(*graph)[0] == 'refused':
         return []
@@ -76,7 +80,7 @@ def of_store(i):
         if sorted(numbers) == list(range(1, n + 1)):
             rows.append(('lowerNeighbours (renumbered (%s) %s)' % (lists, words(numbers)), truth(not without_lower(graph, numbers))))
     if is_connected(graph):
-        turned = called(calls.reverse_cuthill_mckee, graph, [[9] * n, [9] * n, [9] * n, [9] * calls.scratch_words(n)])[1][0]
+        turned = called(calls.reverse_cuthill_mckee, graph + (ones(n),), [[9] * n, [9] * n, [9] * n, [9] * calls.scratch_words(n)])[1][0]
         rows.append(('turnedBack %s' % terms(n, turned), words(back)))
     return rows
 
@@ -88,12 +92,13 @@ def of_mesh(i):
 
 
 def of_file(file):
-    """Equations for the program on a file: its refusal, what it prints, and the graph of a file that it accepts."""
+    """Equations for the program on a file: its refusal, what it prints, and the graph and the counts of a file that it accepts."""
     text, given = text_for(file), words(file)
     refused = text.startswith(b'refused ')
     rows = [('fileRefusal %s' % given, text.split()[1].decode('ascii') if refused else '0'), ('programOutput %s' % given, words(text))]
     if refused:
         return rows
     n = nodes_of_file(file)
-    (_, (entries,)), (starts, neighbours, _) = called(calls.mesh, (n, words_after_header(file)), ([0] * (n + 1), [0] * MOST_ENTRIES, [0] * n))
-    return rows + [('startList (fileGraph %s)' % given, words(starts)), ('neighbourList (fileGraph %s)' % given, words(neighbours[:entries]))]
+    (_, (entries,)), (starts, neighbours, _) = called(calls.mesh, (n, words_of_elements(file)), ([0] * (n + 1), [0] * MOST_ENTRIES, [0] * n))
+    return rows + [('startList (fileGraph %s)' % given, words(starts)), ('neighbourList (fileGraph %s)' % given, words(neighbours[:entries])),
+                   ('fileCounts %s' % given, words(counts_of_file(file)))]

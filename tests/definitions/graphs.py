@@ -1,13 +1,16 @@
-"""Inputs of the calls on an adjacency: graphs, damaged lists, buffers of every length."""
+"""Inputs of the calls on an adjacency: graphs, damaged lists, counts of unknowns, buffers of every length."""
 
 import random
 from collections import namedtuple
 
+import calls
 from calls import scratch_words
 from graph import from_edges, small_graphs
+from store import byte_count
+from unknowns import MOST, ones
 
 # Everything that the calls on an adjacency are handed; lent buffers hold 9s.
-Input = namedtuple('Input', 'starts neighbours node numbering numbers levels sizes passes scratch words bytes')
+Input = namedtuple('Input', 'starts neighbours counts node numbering numbers levels sizes passes scratch words bytes')
 
 
 def random_edges(rng, n):
@@ -34,9 +37,39 @@ def damaged(rng, starts, neighbours):
     return tuple(lists)
 
 
+# So many unknowns, or two more than there are nodes: with more the checker takes long.
+MOST_UNKNOWNS = 16
+
+
+def good_counts(rng, n):
+    """One unknown each, as many for every node, or any numbers from 1 to 6."""
+    room, way = max(n + 2, MOST_UNKNOWNS), rng.random()
+    if way < 0.25:
+        return ones(n)
+    if way < 0.4:
+        return [rng.randint(1, min(MOST, room // max(1, n)))] * n
+    counts = ones(n)
+    for p in rng.sample(range(n), n):
+        counts[p] += rng.randint(0, min(MOST - 1, room - sum(counts)))
+    return counts
+
+
+def bad_counts(rng, n):
+    """A count of 0, of 7 or of 65,535 at one place or at all, a word too few or too many, or none."""
+    counts, wrong, at = good_counts(rng, n), rng.choice([0, 7, 65535]), rng.randrange(max(1, n))
+    return rng.choice([counts[:at] + [wrong] + counts[at + 1:], counts[:at] + [wrong] + counts[at + 1:], [wrong] * max(1, n),
+                       counts[1:] if n else [1], counts + [rng.randint(1, MOST)], counts + [wrong], [] if n else [0]])
+
+
 def lent(rng, need):
     """A lent buffer of 9s: mostly exact or longer, now and then short."""
     return [9] * max(0, need + rng.choice([0, 0, 0, 0, 1, 2, -1]))
+
+
+def mark_bytes(starts, neighbours, counts, numbering):
+    """How many bytes the elimination needs; 2 where it is refused."""
+    state, value = calls.measures(starts, neighbours, counts, numbering, [9] * len(starts))
+    return byte_count(value[1]) if state == 'accepted' else 2
 
 
 def given(rng, starts, neighbours):
@@ -45,11 +78,28 @@ def given(rng, starts, neighbours):
     numbering = rng.sample(range(1, n + 1), n)
     if rng.random() < 0.1:
         numbering = (numbering + [n])[rng.randint(0, 1):]
+    counts = (bad_counts if rng.random() < 0.15 else good_counts)(rng, n)
     node = rng.randint(0, n + 1) if rng.random() < 0.2 else rng.randint(min(1, n), n)
     # the 8n words of document 01 are now longer than need be
     scratch = [9] * (8 * n) if rng.random() < 0.1 else lent(rng, scratch_words(n))
     numbers, levels, sizes, passes, words = [lent(rng, n) for _ in range(5)]
-    return Input(starts, neighbours, node, numbering, numbers, levels, sizes, passes, scratch, words, lent(rng, (n * n // 2 + 7) // 8))
+    return Input(starts, neighbours, counts, node, numbering, numbers, levels, sizes, passes, scratch, words,
+                 lent(rng, mark_bytes(starts, neighbours, counts, numbering)))
+
+
+def in_order(rng):
+    """Bad counts with enough lent and with too little, a node and a numbering that are none or not, over legal lists and over a row that lacks
+    its partner: 4, then 5, then 15, then 6 and 7."""
+    inputs = []
+    for lists in (from_edges(1, []), from_edges(2, [(1, 2)]), from_edges(3, [(1, 2), (2, 3)]), ([0, 1, 1, 1], [2])):
+        n = len(lists[0]) - 1
+        counts = ones(n)
+        for bad in ([0] + counts[1:], counts[1:] + [7], [65535] * n, counts[1:], counts + [1], counts + [0], []):
+            for node, numbering in ((1, list(range(1, n + 1))), (0, list(range(n))), (n + 1, [1] * (n + 1))):
+                for less in (0, 1):
+                    few, most = [9] * (n - less), [9] * (scratch_words(n) - less)
+                    inputs.append(Input(*lists, bad, node, numbering, few, few, few, few, most, few, [9] * rng.randint(0, 2)))
+    return inputs
 
 
 def all_small(rng, most):

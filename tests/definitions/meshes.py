@@ -2,9 +2,10 @@
 
 from collections import namedtuple
 
-from graphs import lent
+from graphs import good_counts, lent
 from graph import MOST_ENTRIES
 from mesh import NODE_COUNT
+from unknowns import MOST
 
 MeshInput = namedtuple('MeshInput', 'n elements starts neighbours scratch')
 
@@ -51,11 +52,17 @@ def mesh_inputs(rng, count):
     return inputs
 
 
+def file_of(version, n, count, counts, words):
+    return list(b'GRD') + of_bytes([version, n, count] + counts + words)
+
+
 def file_bytes(rng, n):
-    """A file of n nodes; now and then damaged in one place."""
-    count = rng.randint(0, 4)
-    words = [1, n, count] + elements(rng, max(1, n), count)
-    file = list(b'GRD') + of_bytes(words)
+    """A file of n nodes, of version 1 or of version 2 with its counts; now and then damaged in one place."""
+    count, version = rng.randint(0, 4), rng.randint(1, 2)
+    counts = good_counts(rng, min(n, 9)) if version == 2 else []
+    if counts and rng.random() < 0.1:
+        counts[rng.randrange(len(counts))] = rng.choice([0, 7, 256, 65535])
+    file = file_of(version, n, count, counts, elements(rng, max(1, n), count))
     way = rng.random()
     if way < 0.1:
         # any byte but the two of n: for hundreds of nodes the output is more than the checker computes
@@ -69,3 +76,25 @@ def file_bytes(rng, n):
 
 def file_inputs(rng, count):
     return [file_bytes(rng, rng.choice([0, 4097] + [rng.randint(1, 7)] * 8)) for _ in range(count)]
+
+
+# Two nodes and a bar; five nodes and a pyramid, with a bar behind it: n, the element count, the words of the elements.
+BAR, PYRAMID = (2, 1, [1, 1, 2]), (5, 2, [5, 1, 2, 3, 4, 5, 1, 3, 3])
+
+
+def counted_inputs(rng):
+    """Files of version 2: whole, cut at every byte from the header on, with a bad count whole and cut so; with 0, 1 and 3 for the version; with
+    elements that are refused behind counts that are not, and are."""
+    inputs = []
+    for n, count, words in (BAR, PYRAMID):
+        for counts in ([1] * n, [6] * n, [rng.randint(1, MOST) for _ in range(n)]):
+            inputs += [file_of(version, n, count, counts, words) for version in range(4)]
+        for bad in (0, 7, 257, 65535):
+            inputs += [file_of(2, n, count, [1] * at + [bad] + [1] * (n - at - 1), words) for at in range(n)]
+    n, count, words = BAR
+    for counts in ([2, 3], [0, 3], [2, 7]):
+        whole = file_of(2, n, count, counts, words)
+        inputs += [whole[:size] for size in range(9, len(whole))] + [whole + [0]]
+        inputs += [file_of(2, n, count, counts, others) for others in ([], [11], [1], [1, 0, 1], [1, 3, 9], [1, 2, 2, 0])]
+    inputs += [file_of(2, n, count, counts, []) for n in (0, 4097) for count in (0, 1) for counts in ([], [0])]
+    return inputs

@@ -1,14 +1,14 @@
 #!/usr/bin/env python3
 """The proved libraries through their C interface against the independent program, on generated input.
 
-  compare.py [--seed S] [--cases N] [--only CALL]    some two minutes: the fixed kinds, and random ones by N
+  compare.py [--seed S] [--cases N] [--only CALL]    some three minutes: the fixed kinds, and random ones by N
   compare.py --seconds T                             then further random ones, with other seeds, until T seconds have passed
   compare.py --replay FILE                           one case again that was saved
 
 Of each case the answer, every list given or lent, the figures among them, and eight elements behind each list are compared word by word, after
 each call where the run or reverse Cuthill-McKee, and then the elimination by its numbers, are called. Under the latter's numbers turned back the
-marks counted must also be as many as the profile. A case that differs, or that ends the process, is saved in target/failed. All expected values
-come from tests/reference.
+marks counted must also be as many as the profile; with c unknowns of every node bandwidth and front must also be c(b + 1) - 1 and c times those of
+one each. A case that differs, or that ends the process, is saved in target/failed. All expected values come from tests/reference.
 """
 
 import argparse

@@ -1,14 +1,17 @@
 """Trials of each kind: the cases of tests/vectors with lists of figures short, exact and long, numbers that sixteen bits can't hold, full size."""
 
 import cases
+import counted_cases
 import idle_cases
 import paper
 import shapes
 from calls import reverse_cuthill_mckee, scratch_words, whole_run
 from cases import CALLS, Case, fields
+from count_lists import counted, counts_of
 from graph import from_edges, small_graphs
 from library import FIGURES
-from trials import FILLS, FUNCTIONS, ONES, PAIRS, STAR, TURNED_BACK, ZEROS, Trial
+from trials import ALIKE, FILLS, FUNCTIONS, ONES, PAIRS, STAR, TURNED_BACK, ZEROS, Trial
+from unknowns import MOST, ones
 
 
 def length_of_figures(draw, need):
@@ -24,76 +27,83 @@ def trial(draw, kind, call, given, lent):
 
 
 def of_case(draw, c):
-    """The trials of a case. Run and eliminate is here the two calls, then reverse Cuthill-McKee and the elimination, with one scratch or with two."""
+    """The trials of a case. Run and eliminate is here the two calls, then reverse Cuthill-McKee and the elimination, with one scratch or with two;
+    reverse Cuthill-McKee and eliminate the second alone."""
     given, lent = fields(c, CALLS[c.call].given), fields(c, CALLS[c.call].lent)
-    if c.call != 'run and eliminate':
+    if c.call in FUNCTIONS:
         yield trial(draw, c.kind, c.call, given, lent)
         return
     n = max(0, len(c.starts) - 1)
-    for pair in PAIRS:
+    for pair in PAIRS if c.call == 'run and eliminate' else PAIRS[1:]:
         other = None if draw.chance(0.5) else cases.lent(draw, n)
         yield trial(draw, c.kind, pair, given, lent[:4] + [other] + lent[4:])
 
 
-def every_call(kind, lists, node, numbering, n):
-    """All calls on an adjacency, with enough of everything lent."""
-    yield Case(kind, 'adjacency test', *lists, [], 0)
-    yield Case(kind, 'rooted levels', *lists, [], node, n, n)
-    yield Case(kind, 'ends', *lists, [], node, scratch_words(n))
-    yield Case(kind, 'combined levels', *lists, [], node, n, scratch_words(n))
-    yield Case(kind, 'part report', *lists, [], node, scratch_words(n))
-    yield Case(kind, 'whole run', *lists, [], 0, n, n, n, scratch_words(n))
-    yield Case(kind, 'reverse Cuthill-McKee', *lists, [], 0, n, n, n, scratch_words(n))
-    yield Case(kind, 'measures', *lists, numbering, 0, n)
-    need = cases.byte_count(lists, numbering) if len(lists[0]) == n + 1 else 2
-    yield Case(kind, 'elimination', *lists, numbering, 0, n, bytes=need)
-    yield Case(kind, 'run and eliminate', *lists, [], 0, n, n, n, scratch_words(n), 40000)
+def every_call(kind, graph, node, numbering, n):
+    """All calls on an adjacency, with enough of everything lent. The graph is its two lists and the counts."""
+    lists = graph[:2]
+    yield Case(kind, 'adjacency test', *lists, [], [], 0)
+    yield Case(kind, 'rooted levels', *lists, [], [], node, n, n)
+    yield Case(kind, 'ends', *lists, [], [], node, scratch_words(n))
+    yield Case(kind, 'combined levels', *lists, [], [], node, n, scratch_words(n))
+    yield Case(kind, 'part report', *graph, [], node, scratch_words(n))
+    yield Case(kind, 'whole run', *graph, [], 0, n, n, n, scratch_words(n))
+    yield Case(kind, 'reverse Cuthill-McKee', *graph, [], 0, n, n, n, scratch_words(n))
+    yield Case(kind, 'measures', *graph, numbering, 0, n)
+    need = cases.byte_count(graph, numbering) if len(lists[0]) == n + 1 else 2
+    yield Case(kind, 'elimination', *graph, numbering, 0, n, bytes=need)
+    yield Case(kind, 'run and eliminate', *graph, [], 0, n, n, n, scratch_words(n), 40000)
 
 
 def of_paper(draw, count):
     """The worked example of the 1976 paper, under so many old numbers."""
     for _ in range(count):
         lists, _ = paper.example(draw.source)
-        yield from every_call('paper', lists, 1 + draw.below(24), list(range(1, 25)), 24)
+        yield from every_call('paper', counted(draw, lists), 1 + draw.below(24), list(range(1, 25)), 24)
 
 
 def wide():
     """Lengths and words at the limits, and such as sixteen bits would take for small ones."""
     kind = 'wide'
-    same = list(range(1, 4097))
+    same, each = list(range(1, 4097)), ones(4096)
     for lists in (([], []), ([0], []), ([65535], [1]), ([0] * 4098, []), ([0] * 65537, []), ([0] * 65539, []), ([0, 0, 0], [1] * 65536),
                   ([0, 1, 2], [2, 1] + [7] * 65536), ([0] * 4097, [1] * 65536), ([65535] * 4097, []), ([0, 65535], [1] * 65535),
                   ([0] + [32768] * 4096, same * 8), ([0, 32769], same * 8 + [1]), ([0, 1, 2], [65535, 1]), ([0, 1, 2], [2, 65535]),
                   ([0] + list(range(1, 4097)), [4096] * 4096)):
-        yield from every_call(kind, lists, 1, same, 4096)
-    isolated = ([0] * 4097, [])
+        yield from every_call(kind, (*lists, each), 1, same, 4096)
+    isolated = ([0] * 4097, [], each)
     yield from every_call(kind, isolated, 4096, same, 4096)
     for node in (0, 4097, 65535):
         yield from every_call(kind, isolated, node, same + [1] * 65536, 4096)
+    # the counts of three nodes: as many words as sixteen bits would take for 3, and such as eight bits would take for 1 and 6
+    for counts in ([1] * 65539, [1, 1, 1] + [0] * 65536, [257] * 3, [262] * 3, [65535] * 3, [32769] * 3):
+        yield from every_call(kind, (*from_edges(*shapes.path(3)), counts), 1, [1, 2, 3], 3)
     for n in (65536, 65539, 2 ** 32 + 3, 2 ** 63, 2 ** 64 - 1):
-        yield Case(kind, 'mesh', [], [], [1, 1, 2], n, 4, 32768, 4)
+        yield Case(kind, 'mesh', [], [], [], [1, 1, 2], n, 4, 32768, 4)
     for words in ([65535], [10, 65535], [1, 65535, 1], [1, 4096, 1] + [65535] * 65535):
-        yield Case(kind, 'mesh', [], [], words, 4096, 4097, 32768, 4096)
+        yield Case(kind, 'mesh', [], [], [], words, 4096, 4097, 32768, 4096)
 
 
 def full_size(draw):
-    """Shapes of full size that the reference runs in some seconds: no elimination under old numbers that need a large store."""
+    """Shapes of full size that the reference runs in some seconds: no elimination under old numbers that need a large store. One unknown or two of
+    each node."""
     for n, edges in (shapes.grid(64, 64, False), shapes.renamed(draw, *shapes.grid(512, 8, True)), shapes.renamed(draw, *shapes.band(4096, 4)),
                      shapes.random_tree(draw, 4096), shapes.rings_of_four(1024)):
-        lists = from_edges(n, edges)
-        for c in every_call('full size', lists, 1 + draw.below(n), list(range(1, n + 1)), n):
+        graph = counted(draw, from_edges(n, edges), 2)
+        for c in every_call('full size', graph, 1 + draw.below(n), list(range(1, n + 1)), n):
             if c.bytes <= cases.MOST_BYTES:
                 yield c
 
 
 def pairs(draw, count):
-    """Random graphs of up to 40 nodes: the run or reverse Cuthill-McKee, then the elimination, with mark bytes short, exact and long."""
+    """Random graphs of up to 40 nodes: the run or reverse Cuthill-McKee, then the elimination, with mark bytes short, exact and long, and now and
+    then with wrong counts."""
     for _ in range(count):
         n = 1 + draw.below(40)
-        lists = cases.random_graph(draw, n)
-        sizes = [cases.enough(draw, size) for size in cases.run_lengths(lists)]
-        need = cases.run_byte_count(lists, draw.one([whole_run, reverse_cuthill_mckee]))
-        yield Case('random graph', 'run and eliminate', *lists, [], 0, *sizes, cases.lent(draw, need))
+        graph = counted(draw, cases.random_graph(draw, n))
+        sizes = [cases.enough(draw, size) for size in cases.run_lengths(graph)]
+        need = cases.run_byte_count(graph, draw.one([whole_run, reverse_cuthill_mckee]))
+        yield Case('random graph', 'run and eliminate', *cases.now_and_then(draw, graph), [], 0, *sizes, cases.lent(draw, need))
 
 
 def to_turn_back(draw, count):
@@ -106,12 +116,36 @@ def to_turn_back(draw, count):
 
 
 def turned_back(draw, count):
-    """Reverse Cuthill-McKee, its numbers turned back, then measures and elimination; mark bytes short, exact and long, one scratch or two."""
+    """Reverse Cuthill-McKee, its numbers turned back, then measures and elimination; mark bytes short, exact and long, one scratch or two. With one
+    unknown a node, as A.12 has it, and half of those of up to 40 nodes with any counts."""
     for kind, lists in to_turn_back(draw, count):
-        n, need = len(lists[0]) - 1, cases.byte_count(lists, idle_cases.numbers_before_turning(lists))
-        sizes = [cases.enough(draw, size) for size in cases.run_lengths(lists)]
+        n = len(lists[0]) - 1
+        graph = (*lists, counts_of(draw, n) if n <= 40 and draw.chance(0.5) else ones(n))
+        need = cases.byte_count(graph, idle_cases.numbers_before_turning(lists))
+        sizes = [cases.enough(draw, size) for size in cases.run_lengths(graph)]
         other = None if draw.chance(0.5) else cases.lent(draw, n)
-        yield trial(draw, kind, TURNED_BACK, list(lists), sizes + [other, cases.lent(draw, need)])
+        yield trial(draw, kind, TURNED_BACK, list(graph), sizes + [other, cases.lent(draw, need)])
+
+
+def alike_each(draw, lists, c):
+    """The numbering calls and the measures with c unknowns of every node; of full size without reverse Cuthill-McKee, under old numbers."""
+    n = len(lists[0]) - 1
+    graph, sizes, full = [*lists, [c] * n], cases.run_lengths(lists), n == 4096
+    yield trial(draw, ALIKE, 'whole run', graph, sizes)._replace(figures=[7])
+    if not full:
+        yield trial(draw, ALIKE, 'reverse Cuthill-McKee', graph, sizes)._replace(figures=[7])
+    numbering = list(range(1, n + 1)) if full else draw.some(range(1, n + 1), n)
+    yield trial(draw, ALIKE, 'measures', graph + [numbering], [n])._replace(figures=[3])
+
+
+def alike(draw, count):
+    """A.6: c unknowns of every node, c from 1 to 6: worked and random graphs of up to 30 nodes; six of each of 4,096 isolated nodes and of a path."""
+    graphs = [from_edges(*graph) for graph in (shapes.path(1), shapes.path(2), shapes.blocks(3, 1), cases.SEVERAL, shapes.star(6))]
+    for lists in graphs + [cases.random_graph(draw, 1 + draw.below(30)) for _ in range(count)]:
+        for c in range(1, MOST + 1):
+            yield from alike_each(draw, lists, c)
+    for lists in (from_edges(*shapes.path(4096)), from_edges(4096, [])):
+        yield from alike_each(draw, lists, MOST)
 
 
 def among_ones(draw, count):
@@ -122,12 +156,15 @@ def among_ones(draw, count):
 
 
 def stars():
-    """The largest store, of 1,048,320 bytes: 4,096 nodes about a centre with number 1; in all the bytes that it needs, in more, and in one less."""
+    """The largest store of one unknown a node, of 1,048,320 bytes: 4,096 nodes about a centre with number 1; in all the bytes that it needs, in
+    more, and in one less. With six unknowns each it needs 36 times as many, and some: too few are lent."""
     lists, numbering = from_edges(*shapes.star(4096)), list(range(1, 4097))
-    need = cases.byte_count(lists, numbering)
+    graph = (*lists, ones(4096))
+    need = cases.byte_count(graph, numbering)
     for more, fill in ((0, ZEROS), (1, ONES), (17, ONES)):
-        yield Trial(STAR, 'elimination', [*lists, numbering], [4096, need + more], [2], fill)
-    yield Trial('star, bytes short', 'elimination', [*lists, numbering], [4096, need - 1], [2], ONES)
+        yield Trial(STAR, 'elimination', [*graph, numbering], [4096, need + more], [2], fill)
+    yield Trial('star, bytes short', 'elimination', [*graph, numbering], [4096, need - 1], [2], ONES)
+    yield Trial('star, bytes short', 'elimination', [*lists, [MOST] * 4096, numbering], [4096, need], [2], ONES)
 
 
 # All kinds.
@@ -143,18 +180,20 @@ def at_random(draw, count):
     yield from cases.meshes(draw, 2 * count)
     yield from cases.pass_counts(draw, count // 5)
     yield from cases.cuthill_orders(draw, count // 5)
+    yield from counted_cases.turned_by_counts(draw, count // 5)
 
 
 def some(draw, count):
     """What is run in some minutes."""
     for made in (cases.small(draw, 1, 5), cases.of_table(draw), of_paper(draw, 20), at_random(draw, count), cases.limits(draw), wide(),
-                 cases.of_many_parts(), cases.collapsed_meshes(), cases.full_meshes(), cases.long_meshes(), cases.scratch_sizes(draw),
-                 cases.level_sizes(draw), full_size(draw)):
+                 cases.of_many_parts(draw), cases.collapsed_meshes(), cases.full_meshes(), cases.long_meshes(), cases.scratch_sizes(draw),
+                 cases.level_sizes(draw), counted_cases.wrong_lists(draw), counted_cases.as_many_each(draw), full_size(draw)):
         for c in made:
             yield from of_case(draw, c)
     yield from among_ones(draw, 12)
     yield from stars()
     yield from turned_back(draw, count // 2)
+    yield from alike(draw, count // 50)
 
 
 def more(draw, count):
@@ -164,3 +203,4 @@ def more(draw, count):
             yield from of_case(draw, c)
     yield from among_ones(draw, 12)
     yield from turned_back(draw, count // 2)
+    yield from alike(draw, count // 50)

@@ -1,6 +1,6 @@
 #!/usr/bin/env python3
-"""That the comparison can fail: a library that alters one word is reported, and its case is saved and found again; so is one that faults, and
-an idle place where none may be.
+"""That the comparison can fail: a library that alters one word is reported, and its case is saved and found again; so is one that faults, an idle
+place where none may be, and a bandwidth or front that is not that of as many unknowns each.
 
 Altered in turn are the answer and, of every list of a call, the first word, the last and the last element behind it.
 """
@@ -17,7 +17,7 @@ from cases import CALLS, Case, fields
 from graph import from_edges
 from kinds import every_call
 from library import BEHIND, FIGURES, Library, Span
-from trials import FUNCTIONS, PAIRS, TURNED_BACK, Trial, difference, got
+from trials import ALIKE, FUNCTIONS, PAIRS, TURNED_BACK, Trial, difference, got
 
 
 class Altered:
@@ -53,9 +53,10 @@ class Faulting:
 
 
 def trials():
-    """Each call on three nodes, with one word more than it needs in every list that is lent; calls one after another with one scratch and two."""
-    on_graph = list(every_call('self-test', from_edges(3, [(1, 2), (2, 3)]), 1, [1, 2, 3], 3))
-    for c in on_graph + [Case('self-test', 'mesh', [], [], [1, 1, 2], 3, 4, 32768, 3)]:
+    """Each call on three nodes of two, one and three unknowns, with one word more than it needs in every list that is lent; calls one after another
+    with one scratch and two."""
+    on_graph = list(every_call('self-test', (*from_edges(3, [(1, 2), (2, 3)]), [2, 1, 3]), 1, [1, 2, 3], 3))
+    for c in on_graph + [Case('self-test', 'mesh', [], [], [], [1, 1, 2], 3, 4, 32768, 3)]:
         given, lent = fields(c, CALLS[c.call].given), [size + 1 for size in fields(c, CALLS[c.call].lent)]
         chained = [(chain, lent[:4] + [other] + lent[4:]) for chain in (*PAIRS, TURNED_BACK) for other in (None, 4)]
         for call, lengths in chained if c.call == 'run and eliminate' else [(c.call, lent)]:
@@ -100,6 +101,13 @@ def idle_seen(library):
     return not difference(trial, was, was) and ' must mark all ' in difference(trial, idle, idle)
 
 
+def alike_seen(library):
+    """Whether a front of measures that is not that of as many unknowns each is reported, even if the independent program had the same."""
+    trial = Trial(ALIKE, 'measures', [*from_edges(3, [(1, 2), (2, 3)]), [2, 2, 2], [1, 2, 3]], [3], [3], 0)
+    was, other = got(library, trial), got(Altered(library, 'measures', -1, 2), trial)
+    return not difference(trial, was, was) and ' unknowns each' in difference(trial, other, other)
+
+
 def main():
     library, tried, missed = Library(), 0, 0
     for trial in trials():
@@ -114,6 +122,9 @@ def main():
     if not idle_seen(library):
         missed += 1
         print('an idle place is not seen')
+    if not alike_seen(library):
+        missed += 1
+        print('a wrong front of as many unknowns each is not seen')
     print('%d words altered, %d not seen' % (tried, missed))
     return tried == 0 or missed > 0
 

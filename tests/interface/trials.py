@@ -18,6 +18,8 @@ from library import CODE_OF, FIGURES, PARAMETERS, Span, guarded
 # What is given, lists and numbers in the order of the call; the lengths of what is lent, and of the list of figures of each call; what is in them.
 Trial = namedtuple('Trial', 'kind call given lent figures fill')
 
+# Given to a pair. A.6: both calls are handed the same counts.
+GIVEN_TO_PAIR = ('starts', 'neighbours', 'counts')
 # Lent to a pair: numbers, levels, passes and scratch to the first; to the elimination a scratch of its own, or None for the first's, and bytes.
 PAIRS = ('run, then eliminate', 'reverse Cuthill-McKee, then eliminate')
 LENT_TO_PAIR = ('numbers', 'levels', 'passes', 'scratch', 'other scratch', 'bytes')
@@ -32,8 +34,10 @@ FUNCTIONS = {
     'elimination': ('eliminate',), PAIRS[0]: ('run', 'eliminate'), PAIRS[1]: ('reverse_cuthill_mckee', 'eliminate'), 'mesh': ('mesh',),
     TURNED_BACK: ('reverse_cuthill_mckee', 'measures', 'eliminate'),
 }
-# Eliminations of a star whose centre has number 1, with enough of everything lent: by sums, where the reference would take hours.
+# Eliminations of a star whose centre has number 1, one unknown each and enough of everything lent: by sums, where the reference would take hours.
 STAR = 'star, centre first'
+# As many unknowns of every node: bandwidth and front must be what they are of one unknown each, by a rule of their own.
+ALIKE = 'as many unknowns each'
 REFERENCE = {functions[0]: CASE_CALLS[call].reference for call, functions in FUNCTIONS.items() if len(functions) == 1}
 
 # What a lent list holds before the call, by place, below the modulus of its elements: falling from the top, zeros, ones, small numbers.
@@ -63,7 +67,7 @@ def filled(fill, code, count):
 def before(trial):
     """Numbers and lists by name, as they are before the first call."""
     if len(FUNCTIONS[trial.call]) > 1:
-        names = ('starts', 'neighbours') + LENT_TO_PAIR + FIGURE_LISTS
+        names = GIVEN_TO_PAIR + LENT_TO_PAIR + FIGURE_LISTS
     else:
         names = [parameter.name for parameter in PARAMETERS[FUNCTIONS[trial.call][0]]]
     lengths = [length or 0 for length in list(trial.lent) + list(trial.figures)]
@@ -89,15 +93,15 @@ def steps(trial, values):
     n = max(0, len(values['starts']) - 1)
     scratch = 'scratch' if trial.lent[LENT_TO_PAIR.index('other scratch')] is None else 'other scratch'
     lent = {'measures': [scratch], 'eliminate': [scratch, 'bytes']}
-    return [(first, whole(values, 'starts', 'neighbours', 'numbers', 'levels', 'passes', 'scratch', 'figures'))] + [
-        (function, whole(values, 'starts', 'neighbours') + [('numbers', n)] + whole(values, *lent[function], figures))
+    return [(first, whole(values, *GIVEN_TO_PAIR, 'numbers', 'levels', 'passes', 'scratch', 'figures'))] + [
+        (function, whole(values, *GIVEN_TO_PAIR) + [('numbers', n)] + whole(values, *lent[function], figures))
         for function, figures in zip(others, FIGURE_LISTS[1:])]
 
 
 def turn_back(trial, function, lists):
     """What the trial itself does after a call that accepted: the numbers as they were before A.3's turning, in their place."""
     if trial.call == TURNED_BACK and function == 'reverse_cuthill_mckee':
-        calls.put(lists['numbers'], idle_cases.turned_back(trial.given, lists['numbers']))
+        calls.put(lists['numbers'], idle_cases.turned_back(trial.given[:2], lists['numbers']))
 
 
 # By the reference.
@@ -180,7 +184,8 @@ def got(library, trial):
 
 
 def idle_place(trial, was):
-    """A.12, by the library's figures alone: under numbers turned back the marks are as many as the profile. What is wrong, or ''."""
+    """A.12, by the library's figures alone: under numbers turned back the marks are as many as the profile. What is wrong, or ''. It is said of
+    one unknown a node, and holds of any counts, as then every unknown but the first of a part has a neighbour with a lower number."""
     if trial.call != TURNED_BACK or [answer for answer, _ in was] != [0, 0, 0]:
         return ''
     lists = dict(zip(in_memory(before(trial)), was[-1][1]))
@@ -188,8 +193,26 @@ def idle_place(trial, was):
     return '' if marks == profile else 'eliminate marked %d places, must mark all %d' % (marks, profile)
 
 
+def measured(trial, figures):
+    """Bandwidth and front, where the figures are those of measures or of a numbering call."""
+    return (figures[0], figures[2]) if trial.call == 'measures' else (figures[2], figures[4])
+
+
+def not_alike(trial, was):
+    """With c unknowns of every node the bandwidth is c(b + 1) - 1 and the front c times what they are of one each, as the order is the same. What
+    is wrong by the library's own figures, or ''."""
+    if trial.kind != ALIKE or was[0][0]:
+        return ''
+    n, count = len(trial.given[0]) - 1, trial.given[2][0]
+    ones = trial._replace(given=trial.given[:2] + [[1] * n] + trial.given[3:])
+    wide, high = measured(trial, dict(zip(in_memory(before(trial)), was[0][1]))['figures'])
+    bandwidth, front = measured(ones, dict(zip(in_memory(before(ones)), wanted(ones)[0][1]))['figures'])
+    due = count * (bandwidth + 1) - 1, count * front
+    return '' if (wide, high) == due else 'bandwidth %d and front %d, must be %d and %d for %d unknowns each' % (wide, high, *due, count)
+
+
 def difference(trial, was, must):
-    """What differs first, or ''; where nothing does, whether a place is idle that may not be."""
+    """What differs first, or ''; where nothing does, whether a place is idle that may not be, or figures are not those of as many unknowns each."""
     names = list(in_memory(before(trial)))
     for function, one, other in zip(FUNCTIONS[trial.call], was, must):
         if one[0] != other[0]:
@@ -198,7 +221,7 @@ def difference(trial, was, must):
             if words != due:
                 i = next(i for i in range(len(words)) if words[i] != due[i])
                 return 'after %s %s[%d] is %d, must be %d' % (function, name, i, words[i], due[i])
-    return idle_place(trial, was)
+    return idle_place(trial, was) or not_alike(trial, was)
 
 
 def to_text(trial, text):

@@ -10,6 +10,7 @@ from checking import Checks
 from graph import parts_of, rows_of
 from numbering import forward_order, part_profile
 from program import text_for
+from store import eliminate
 
 FIGURES = ('nodes', 'parts', 'bandwidth', 'profile', 'front', 'levels', 'width')
 SAMPLE_EDGES = [(1, 2), (1, 4), (2, 3), (3, 5)]
@@ -17,11 +18,12 @@ SAMPLE_OUTPUT = (b'nodes 5 parts 1 bandwidth 1 profile 4 front 2 levels 5 width 
                  b'1 2 2\n2 3 3\n3 4 4\n4 1 1\n5 5 5\n')
 
 
-def run(starts, neighbours):
-    """The whole run as a dictionary: its figures by name, its numbers, its level list and its list of passes, each lent in use."""
+def run(starts, neighbours, counts=None):
+    """The whole run as a dictionary: its figures by name, its numbers, its level list and its list of passes, each lent in use. One unknown each
+    unless there are counts, here and below."""
     n = len(starts) - 1
     numbers, levels, passes = [7] * n, [7] * n, [7] * n
-    state, value = calls.whole_run(starts, neighbours, numbers, levels, passes, [7] * (6 * n))
+    state, value = calls.whole_run(starts, neighbours, counts or calls.ones(n), numbers, levels, passes, [7] * (6 * n))
     if state == 'refused':
         raise AssertionError('the run refused %d' % value)
     if len(value) != len(FIGURES):
@@ -29,9 +31,9 @@ def run(starts, neighbours):
     return dict(zip(FIGURES, value), numbers=numbers, by_node=levels, passes=passes)
 
 
-def report(starts, neighbours, node):
+def report(starts, neighbours, node, counts=None):
     n = len(starts) - 1
-    return calls.part_report(starts, neighbours, node, [0] * (6 * n))[1]
+    return calls.part_report(starts, neighbours, counts or calls.ones(n), node, [0] * (6 * n))[1]
 
 
 # The starred rows.
@@ -73,7 +75,8 @@ def star(checks):
     checks.equal('star: direction', direction, 'Reversed')
     rows = rows_of(*graph)
     level_of = {p: got['by_node'][p - 1] for p in rows}
-    checks.equal('star: profile forward', part_profile(rows, forward_order(rows, v, k, level_of)), 4)
+    one_each = {p: 1 for p in rows}
+    checks.equal('star: profile forward', part_profile(rows, one_each, forward_order(rows, v, k, level_of)), 4)
     checks.equal('star: profile', got['profile'], 3)
     checks.equal('star: bandwidth', got['bandwidth'], 2)
     checks.equal('star: front', got['front'], 2)
@@ -87,25 +90,25 @@ def ring(checks):
     checks.equal('ring: bandwidth', got['bandwidth'], 2)
     checks.equal('ring: profile', got['profile'], 5)
     checks.equal('ring: marks and new',
-                 calls.elimination(*graph, got['numbers'], [0] * 4, [0]), ('accepted', (5, 1)))
+                 calls.elimination(*graph, calls.ones(4), got['numbers'], [0] * 4, [0]), ('accepted', (5, 1)))
 
 
 def sample_measures(checks):
     graph = calls.from_edges(5, SAMPLE_EDGES)
     numbering = [1, 2, 3, 4, 5]
     checks.equal('sample graph: measures',
-                 calls.measures(*graph, numbering, [0] * 5), ('accepted', (3, 7, 3)))
-    checks.equal('sample graph: fronts', calls.fronts_of(*graph, numbering), [3, 3, 3, 2, 1])
+                 calls.measures(*graph, calls.ones(5), numbering, [0] * 5), ('accepted', (3, 7, 3)))
+    checks.equal('sample graph: fronts', calls.fronts_of(*graph, calls.ones(5), numbering), [3, 3, 3, 2, 1])
 
 
 def refused_rows(checks):
     two = calls.from_edges(2, [])
-    checks.equal('numbering 1, 1: measures', calls.measures(*two, [1, 1], [0, 0]), ('refused', 7))
+    checks.equal('numbering 1, 1: measures', calls.measures(*two, calls.ones(2), [1, 1], [0, 0]), ('refused', 7))
     checks.equal('numbering 1, 1: elimination',
-                 calls.elimination(*two, [1, 1], [0, 0], []), ('refused', 7))
+                 calls.elimination(*two, calls.ones(2), [1, 1], [0, 0], []), ('refused', 7))
     checks.equal('rows {2}, {}', calls.adjacency_test([0, 1, 1], [2]), ('refused', 4))
     checks.equal('rows {2}, {}: whole run',
-                 calls.whole_run([0, 1, 1], [2], [0] * 2, [0] * 2, [0] * 2, [0] * 12), ('refused', 4))
+                 calls.whole_run([0, 1, 1], [2], calls.ones(2), [0] * 2, [0] * 2, [0] * 2, [0] * 12), ('refused', 4))
     checks.equal('root 0', calls.rooted_levels(*two, 0, [0, 0], [0, 0]), ('refused', 6))
 
 
@@ -123,7 +126,7 @@ def nodes_at_the_limit(checks):
     checks.equal('4,096 nodes: isolated', (got['parts'], got['passes']), (4096, [1] * 4096))
     lent = [0] * 4096
     checks.equal('4,097 nodes: whole run',
-                 calls.whole_run(*calls.from_edges(4097, []), lent, lent, lent, lent), ('refused', 1))
+                 calls.whole_run(*calls.from_edges(4097, []), calls.ones(4097), lent, lent, lent, lent), ('refused', 1))
     checks.equal('4,096 nodes: mesh',
                  calls.mesh(4096, [], [0] * 4097, [0] * 32768, [0] * 4096), ('accepted', (0,)))
     checks.equal('4,097 nodes: mesh',
@@ -153,9 +156,10 @@ def entries_at_the_limit(checks):
 
 # The program.
 
-def grd_file(n, count, words):
+def grd_file(n, count, words, counts=None):
+    """Version 1, or version 2 if there are counts."""
     file = b'GRD'
-    for word in [1, n, count] + words:
+    for word in [1, n, count] + words if counts is None else [2, n, count] + counts + words:
         file += bytes([word % 256, word // 256])
     return file
 
@@ -251,12 +255,12 @@ def random_edges(rng, n):
     return [(names[p - 1], names[q - 1]) for p, q in edges]
 
 
-def levels_claims(checks, graph, got):
+def levels_claims(checks, graph, got, counts=None):
     """Occupied levels, edges between neighbouring levels, passes; gives the part reports."""
     rows = rows_of(*graph)
     reports = []
     for part in parts_of(rows):
-        done = report(*graph, part[0])
+        done = report(*graph, part[0], counts)
         k, passes = done[2], done[4]
         checks.equal('every level holds a node, every node stands in a level',
                      {got['by_node'][p - 1] for p in part}, set(range(1, k + 1)))
@@ -268,33 +272,41 @@ def levels_claims(checks, graph, got):
     return reports
 
 
-def figures_claims(checks, graph, got, reports):
+def figures_claims(checks, graph, got, reports, counts=None):
     n = len(graph[0]) - 1
     checks.equal('numbers are 1 to n', sorted(got['numbers']), list(range(1, n + 1)))
     checks.holds('bandwidth at most 2w - 1', got['bandwidth'] <= 2 * got['width'] - 1)
     checks.holds('front at most bandwidth + 1', got['front'] <= got['bandwidth'] + 1)
-    checks.equal('measures of the numbers', calls.measures(*graph, got['numbers'], [0] * n)[1],
+    checks.equal('measures of the numbers', calls.measures(*graph, counts or calls.ones(n), got['numbers'], [0] * n)[1],
                  (got['bandwidth'], got['profile'], got['front']))
     checks.equal('levels and width of the parts', (got['levels'], got['width']),
                  (sum(r[2] for r in reports), max(r[3] for r in reports)))
 
 
-def store_claims(checks, graph, numbers, profile):
+def joined_at_first(graph, counts):
+    """How many pairs of unknowns adjoin: those of one node, and those of each edge."""
+    rows = rows_of(*graph)
+    return sum(c * (c - 1) // 2 for c in counts) + sum(counts[p - 1] * counts[q - 1] for p in rows for q in rows[p] if p < q)
+
+
+def store_claims(checks, graph, numbers, profile, counts=None):
     """Every pair joined at any time has a place; places are distinct and below the profile."""
-    n = len(graph[0]) - 1
-    place_of = calls.places_of(*graph, numbers)
+    counts = counts or calls.ones(len(numbers))
+    place_of = calls.places_of(*graph, counts, numbers)
     checks.equal('places are 0 to profile - 1', sorted(place_of.values()), list(range(profile)))
-    for i in range(n + 1):
-        joined = calls.joined_after(*graph, numbers, i)
+    joined = calls.joined_after(*graph, counts, numbers, 0)
+    for i in range(sum(counts) + 1):
+        if i > 0:
+            eliminate(joined, i, sum(counts))
         checks.holds('every pair joined after %d eliminations has a place' % i,
                      all(pair in place_of for pair in joined))
+    checks.equal('the pairs joined after the last', joined, calls.joined_after(*graph, counts, numbers, sum(counts)))
     mark_bytes = [0] * ((profile + 7) // 8)
-    state, value = calls.elimination(*graph, numbers, [0] * n, mark_bytes)
+    state, value = calls.elimination(*graph, counts, numbers, [0] * len(numbers), mark_bytes)
     checks.equal('elimination accepts', state, 'accepted')
     ones = {t for t in range(8 * len(mark_bytes)) if mark_bytes[t // 8] >> t % 8 & 1}
     checks.equal('marks stand at the pairs joined at the end', ones, {place_of[pair] for pair in joined})
-    edges = len(graph[1]) // 2
-    checks.equal('counts of marks and new pairs', value, (len(joined), len(joined) - edges))
+    checks.equal('counts of marks and new pairs', value, (len(joined), len(joined) - joined_at_first(graph, counts)))
 
 
 def demand_3(checks):

@@ -1,9 +1,10 @@
-"""The entry points with their lent buffers and refusals; document 01's 'Lent buffers' and table, with A.2, A.3, A.7 and A.9 of document 02.
+"""The entry points with their lent buffers and refusals; document 01's 'Lent buffers' and table, with A.2, A.3, A.6, A.7 and A.9 of document 02.
 
 Every call answers ('accepted', tuple) or ('refused', number).
+A.6: "Calls that number, measure, eliminate or report a part take the counts", behind the neighbours.
 """
 
-# from_edges, small_graphs and rows_of stand here for the scripts that import calls.
+# from_edges, small_graphs, ones and rows_of stand here for the scripts that import calls.
 import store
 from combined import combined_levels as combined_of_part
 from cuthill import reverse_cuthill_mckee as cuthill_of_graph
@@ -12,10 +13,13 @@ from graph import (MOST_ENTRIES, adjacency_refusal, from_edges, lists_of, part_o
                    rows_of, small_graphs, wrong_node_count)
 from levels import by_old_number, depth, size_list, width
 from levels import rooted_levels as levels_from
+from listing import (MOST_FILE_WORDS, count_refusal, counts_of_file, element_refusal, header_refusal,
+                     most_output_bytes, nodes_of_file, output_text, refusal_line, words_of_elements)
 from measures import adjoining, bandwidth, front, fronts, is_numbering, number_of_nodes, profile
 from mesh import mesh_rows, read_elements, too_many_entries
 from numbering import number_part
 from numbering import whole_run as run_of_graph
+from unknowns import count_of_nodes, ones, wrong_counts
 
 
 # Answers and buffers.
@@ -128,26 +132,29 @@ def combined_levels(starts, neighbours, node, levels, scratch):
 
 # Numbering.
 
-def part_report(starts, neighbours, node, scratch):
-    """(v, u, k, width, passes, direction)"""
+def part_report(starts, neighbours, counts, node, scratch):
+    """(v, u, k, width, passes, direction); the width in unknowns."""
     number = adjacency_refusal(starts, neighbours)
     if number:
         return refused(number)
     n = len(starts) - 1
     if is_short((scratch, scratch_words(n))):
         return refused(5)
+    # 15: "tested .. in the library after 5, ahead of 6, 7 and 13; nothing is written"
+    if wrong_counts(n, counts):
+        return refused(15)
     if is_wrong_node(node, n):
         return refused(6)
     rows = rows_of(starts, neighbours)
-    done = number_part(rows, part_of(rows, node))
+    done = number_part(rows, count_of_nodes(counts), part_of(rows, node))
     zero(scratch, scratch_words(n))
     # "The part report gives v and u as now named, k, the combined levels'
     # width, passes and a direction, which is Forward or Reversed."
     return accepted(done.v, done.u, done.k, done.width, done.passes, done.direction)
 
 
-def numbered(run_of_rows, starts, neighbours, numbers, levels, passes, scratch):
-    """(nodes, parts, bandwidth, profile, front, levels, width)"""
+def numbered(run_of_rows, starts, neighbours, counts, numbers, levels, passes, scratch):
+    """(nodes, parts, bandwidth, profile, front, levels, width); bandwidth, profile, front and width in unknowns."""
     number = adjacency_refusal(starts, neighbours)
     if number:
         return refused(number)
@@ -155,7 +162,9 @@ def numbered(run_of_rows, starts, neighbours, numbers, levels, passes, scratch):
     # A.9: "Refusal 5 covers the list"
     if is_short((numbers, n), (levels, n), (passes, n), (scratch, scratch_words(n))):
         return refused(5)
-    run = run_of_rows(rows_of(starts, neighbours))
+    if wrong_counts(n, counts):
+        return refused(15)
+    run = run_of_rows(rows_of(starts, neighbours), count_of_nodes(counts))
     # "Numbers and levels run by old number"
     put(numbers, [run.number_of[p] for p in range(1, n + 1)])
     put(levels, by_old_number(run.level_of, n))
@@ -164,46 +173,50 @@ def numbered(run_of_rows, starts, neighbours, numbers, levels, passes, scratch):
     return accepted(*run.figures)
 
 
-def whole_run(starts, neighbours, numbers, levels, passes, scratch):
-    return numbered(run_of_graph, starts, neighbours, numbers, levels, passes, scratch)
+def whole_run(starts, neighbours, counts, numbers, levels, passes, scratch):
+    return numbered(run_of_graph, starts, neighbours, counts, numbers, levels, passes, scratch)
 
 
-def reverse_cuthill_mckee(starts, neighbours, numbers, levels, passes, scratch):
+def reverse_cuthill_mckee(starts, neighbours, counts, numbers, levels, passes, scratch):
     # A.3: "a further call with the run's buffers and figures"
-    return numbered(cuthill_of_graph, starts, neighbours, numbers, levels, passes, scratch)
+    return numbered(cuthill_of_graph, starts, neighbours, counts, numbers, levels, passes, scratch)
 
 
 # Measures, store.
 
-def measures(starts, neighbours, numbering, scratch):
-    """(bandwidth, profile, front)"""
+def measures(starts, neighbours, counts, numbering, scratch):
+    """(bandwidth, profile, front), in unknowns"""
     number = adjacency_refusal(starts, neighbours)
     if number:
         return refused(number)
     n = len(starts) - 1
     if is_short((scratch, n)):
         return refused(5)
+    if wrong_counts(n, counts):
+        return refused(15)
     # The n scratch words are 0 for refusal 7 as well as when accepted.
     zero(scratch, n)
     if not is_numbering(n, numbering):
         return refused(7)
-    adjoins = adjoining_of(starts, neighbours, numbering)
+    adjoins = adjoining_of(starts, neighbours, counts, numbering)
     return accepted(bandwidth(adjoins), profile(adjoins), front(adjoins))
 
 
-def elimination(starts, neighbours, numbering, scratch, mark_bytes):
-    """(marks, new)"""
+def elimination(starts, neighbours, counts, numbering, scratch, mark_bytes):
+    """(marks, new), in unknowns"""
     number = adjacency_refusal(starts, neighbours)
     if number:
         return refused(number)
     n = len(starts) - 1
     if is_short((scratch, n)):
         return refused(5)
+    if wrong_counts(n, counts):
+        return refused(15)
     # The n scratch words are 0 for refusals 7 and 8 as well as when accepted.
     zero(scratch, n)
     if not is_numbering(n, numbering):
         return refused(7)
-    adjoins = adjoining_of(starts, neighbours, numbering)
+    adjoins = adjoining_of(starts, neighbours, counts, numbering)
     # 8: "mark bytes are short"
     if len(mark_bytes) < store.byte_count(profile(adjoins)):
         return refused(8)
@@ -212,15 +225,16 @@ def elimination(starts, neighbours, numbering, scratch, mark_bytes):
     return accepted(marks, new)
 
 
-def and_eliminate(call, starts, neighbours, numbers, levels, passes, scratch, mark_bytes):
+def and_eliminate(call, starts, neighbours, counts, numbers, levels, passes, scratch, mark_bytes):
     """(the call's figures, elimination's answer); refused as the call is refused."""
-    answer = call(starts, neighbours, numbers, levels, passes, scratch)
+    answer = call(starts, neighbours, counts, numbers, levels, passes, scratch)
     if answer[0] == 'refused':
         return answer
     n = len(starts) - 1
     # "The numbers handed on are the run's n, without the excess of a
-    # longer buffer". The call left all 6n scratch words 0.
-    return accepted(answer[1], elimination(starts, neighbours, numbers[:n], scratch, mark_bytes))
+    # longer buffer". The call left all 6n scratch words 0. A.6: demand 3 hands
+    # "both their calls the same ones".
+    return accepted(answer[1], elimination(starts, neighbours, counts, numbers[:n], scratch, mark_bytes))
 
 
 def run_and_eliminate(*lists):
@@ -255,29 +269,68 @@ def mesh(n, element_words, starts, neighbours, scratch):
     return accepted(len(new_neighbours))
 
 
-# For comparisons, on legal input. Pairs are (p, q) with p < q, new numbers.
+# The listing, a call of our own: what the program prints for a file.
 
-def adjoining_of(starts, neighbours, numbering):
-    """For each new number the set of new numbers it adjoins."""
-    return adjoining(rows_of(starts, neighbours), number_of_nodes(numbering))
+def listing(file, words, starts, neighbours, scratch, numbers, levels, passes, counts, output):
+    """(count,) of the output bytes written."""
+    number = header_refusal(file)
+    if number:
+        return refused_with_line(number, output)
+    n = nodes_of_file(file)
+    if is_short((words, MOST_FILE_WORDS), (starts, n + 1), (neighbours, MOST_ENTRIES), (scratch, scratch_words(n)),
+                (numbers, n), (levels, n), (passes, n), (counts, n), (output, most_output_bytes(n))):
+        return refused_with_line(5, output)
+    number = count_refusal(file)
+    if number:
+        return refused_with_line(number, output)
+    # From here on the words of the elements and the counts stand in the lent lists, whatever follows.
+    put(words, words_of_elements(file))
+    put(counts, counts_of_file(file))
+    number = element_refusal(file)
+    if number:
+        return refused_with_line(number, output)
+    # All else has been tested: the mesh can only refuse with 11.
+    state, value = mesh(n, words_of_elements(file), starts, neighbours, scratch)
+    if state == 'refused':
+        return refused_with_line(value, output)
+    (entries,) = value
+    _, figures = whole_run(starts[:n + 1], neighbours[:entries], counts[:n], numbers, levels, passes, scratch)
+    text = output_text(figures, numbers[:n], levels[:n], passes[:n])
+    put(output, text)
+    return accepted(len(text))
 
 
-def fronts_of(starts, neighbours, numbering):
-    """Fronts at i = 1, 2, .. n."""
-    return fronts(adjoining_of(starts, neighbours, numbering))
+def refused_with_line(number, output):
+    """Refuse, with the line at the front of output where it fits."""
+    line = refusal_line(number)
+    if len(line) <= len(output):
+        put(output, line)
+    return refused(number)
 
 
-def joined_after(starts, neighbours, numbering, i):
-    """Set of the pairs joined after i eliminations."""
-    return store.joined_after(adjoining_of(starts, neighbours, numbering), i)
+# For comparisons, on legal input. Pairs are (p, q) with p < q, numbers of unknowns.
+
+def adjoining_of(starts, neighbours, counts, numbering):
+    """For each unknown the set of unknowns it adjoins."""
+    return adjoining(rows_of(starts, neighbours), count_of_nodes(counts), number_of_nodes(numbering))
 
 
-def places_of(starts, neighbours, numbering):
+def fronts_of(starts, neighbours, counts, numbering):
+    """Fronts at each unknown, from 1 on."""
+    return fronts(adjoining_of(starts, neighbours, counts, numbering))
+
+
+def joined_after(starts, neighbours, counts, numbering, i):
+    """Set of the pairs joined after i eliminations, each of one unknown."""
+    return store.joined_after(adjoining_of(starts, neighbours, counts, numbering), i)
+
+
+def places_of(starts, neighbours, counts, numbering):
     """Place of each pair that has one."""
-    return store.places(adjoining_of(starts, neighbours, numbering))
+    return store.places(adjoining_of(starts, neighbours, counts, numbering))
 
 
-def marks_of(starts, neighbours, numbering):
+def marks_of(starts, neighbours, counts, numbering):
     """Mark of each place after the last elimination, as a list by place."""
-    adjoins = adjoining_of(starts, neighbours, numbering)
+    adjoins = adjoining_of(starts, neighbours, counts, numbering)
     return store.marks(adjoins, store.joined_after(adjoins, len(adjoins)))

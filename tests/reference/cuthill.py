@@ -1,11 +1,12 @@
-"""Reverse Cuthill-McKee, from A.3 of document 02 and steps B and D in section 3 of the 1976 paper (source document 002)."""
+"""Reverse Cuthill-McKee, from A.3 and A.6 of document 02 and steps B and D in section 3 of the 1976 paper (source document 002)."""
 
 from collections import namedtuple
 
 from ends import ends_of_part
 from graph import in_order_e
-from levels import depth, rooted_levels, width
+from levels import depth, rooted_levels
 from numbering import number_parts
+from unknowns import width_in_unknowns
 
 # level_of has the levels rooted at v; order holds the part's nodes by new number, after turning.
 CuthillPart = namedtuple('CuthillPart', 'v k width passes level_of order')
@@ -39,15 +40,17 @@ def step_d(order):
     return order[::-1]
 
 
-def cuthill_part(rows, part):
+def cuthill_part(rows, count_of, part):
     # A.3: "each part starts from the v of our end search": before any change of names
     ends = ends_of_part(rows, part)
     # A.3: "Levels are those rooted at v."
     level_of = rooted_levels(rows, ends.v)
     order = step_d(step_b(rows, ends.v, level_of))
-    return CuthillPart(ends.v, depth(level_of), width(level_of), ends.passes, level_of, order)
+    # A.6: the width is "the greatest number of unknowns in a level"; every part is turned,
+    # so the order has nothing to do with the counts.
+    return CuthillPart(ends.v, depth(level_of), width_in_unknowns(level_of, count_of), ends.passes, level_of, order)
 
 
-def reverse_cuthill_mckee(rows):
+def reverse_cuthill_mckee(rows, count_of):
     # A.3: "parts by lowest old number", "with the run's buffers and figures"
-    return number_parts(rows, cuthill_part)
+    return number_parts(rows, count_of, cuthill_part)

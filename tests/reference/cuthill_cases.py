@@ -4,7 +4,7 @@ import random
 import sys
 
 import calls
-from bracket import FIGURES, random_edges, run, store_claims
+from bracket import FIGURES, random_edges, report, run, store_claims
 from checking import Checks
 from graph import order_e, parts_of, rows_of
 from numbering import part_profile
@@ -36,11 +36,11 @@ WORKED_ORDERS = [
 ]
 
 
-def cuthill(starts, neighbours):
-    """The call as a dictionary, as bracket.run has the run."""
+def cuthill(starts, neighbours, counts=None):
+    """The call as a dictionary, as bracket.run has the run; one unknown each unless there are counts, here and below."""
     n = len(starts) - 1
     numbers, levels, passes, scratch = [7] * n, [7] * n, [7] * n, [7] * (6 * n)
-    state, value = calls.reverse_cuthill_mckee(starts, neighbours, numbers, levels, passes, scratch)
+    state, value = calls.reverse_cuthill_mckee(starts, neighbours, counts or calls.ones(n), numbers, levels, passes, scratch)
     if state == 'refused' or len(value) != len(FIGURES) or any(scratch):
         raise AssertionError('reverse Cuthill-McKee: %s %r' % (state, value))
     return dict(zip(FIGURES, value), numbers=numbers, by_node=levels, passes=passes)
@@ -64,11 +64,23 @@ def by_a_queue(rows, v):
     return queue
 
 
-def part_claims(checks, graph, got, part, first):
+def band_of_part(checks, rows, count, number, level, part):
+    """A.3: "For a part of two or more nodes its bandwidth is at least the width w of those levels and at most 2w less 1", in unknowns. Gives w."""
+    width = max(sum(count[p] for p in part if level[p] == i) for i in {level[p] for p in part})
+    # The last unknown of a node is so far from the first of another: the unknowns of the nodes between, and all of theirs but one.
+    order = sorted(part, key=number.get)
+    ahead = {p: sum(count[q] for q in order[:t]) for t, p in enumerate(order)}
+    own = max(ahead[q] + count[q] - ahead[p] - 1 for p in part for q in [p, *rows[p]] if number[p] <= number[q])
+    checks.holds('its bandwidth is at least w and at most 2w - 1',
+                 width <= own <= 2 * width - 1 if len(part) > 1 else own == width - 1)
+    return width
+
+
+def part_claims(checks, graph, got, part, first, counts):
     """Of a part whose lowest new number is `first`."""
     rows = rows_of(*graph)
-    n, number, level = len(rows), dict(enumerate(got['numbers'], 1)), dict(enumerate(got['by_node'], 1))
-    v, _, k, width, _, passes = calls.ends(*graph, part[-1], [0] * (6 * n))[1]
+    n, number, level, count = len(rows), dict(enumerate(got['numbers'], 1)), dict(enumerate(got['by_node'], 1)), dict(enumerate(counts, 1))
+    v, _, k, _, _, passes = calls.ends(*graph, part[-1], [0] * (6 * n))[1]
     order = sorted(part, key=number.get)
     checks.equal('a part takes the next numbers', [number[p] for p in order], list(range(first, first + len(part))))
     checks.equal('v has the highest number of its part and level 1', (order[-1], level[v]), (v, 1))
@@ -81,26 +93,27 @@ def part_claims(checks, graph, got, part, first):
                  all(any(number[q] > number[p] for q in rows[p]) for p in order[:-1]))
     before = order[::-1]
     checks.equal('the order before turning is that of a queue', before, by_a_queue(rows, v))
-    own = max([0] + [abs(number[p] - number[q]) for p in part for q in rows[p]])
-    checks.holds('its bandwidth is at least w and at most 2w - 1', width <= own <= 2 * width - 1 if len(part) > 1 else own == 0)
-    profiles = part_profile(rows, before), part_profile(rows, order)
+    width = band_of_part(checks, rows, count, number, level, part)
+    profiles = part_profile(rows, count, before), part_profile(rows, count, order)
     checks.holds('turning never makes the profile more (002, [24])', profiles[1] <= profiles[0])
     return k, width, passes, profiles[0] == profiles[1] and len(part) > 1
 
 
-def claims(checks, graph):
+def claims(checks, graph, counts=None):
     """All claims of A.3 but the store's; how many parts of two or more nodes keep their profile, and are turned all the same."""
-    rows, got = rows_of(*graph), cuthill(*graph)
+    counts = counts or calls.ones(len(graph[0]) - 1)
+    rows, got = rows_of(*graph), cuthill(*graph, counts)
     n, done, first = len(rows), [], 1
     for part in parts_of(rows):
-        done.append(part_claims(checks, graph, got, part, first))
+        done.append(part_claims(checks, graph, got, part, first, counts))
         first += len(part)
     checks.equal('numbers are 1 to n', sorted(got['numbers']), list(range(1, n + 1)))
     checks.holds('edges join equal or neighbouring levels',
                  all(abs(got['by_node'][p - 1] - got['by_node'][q - 1]) <= 1 for p in rows for q in rows[p]))
     checks.equal('nodes, parts, levels, width', (got['nodes'], got['parts'], got['levels'], got['width']),
                  (n, len(done), sum(k for k, *_ in done), max(width for _, width, *_ in done)))
-    checks.equal('measures of the numbers', calls.measures(*graph, got['numbers'], [0] * n)[1], (got['bandwidth'], got['profile'], got['front']))
+    checks.equal('measures of the numbers', calls.measures(*graph, counts, got['numbers'], [0] * n)[1],
+                 (got['bandwidth'], got['profile'], got['front']))
     checks.holds('bandwidth at most 2w - 1, front at most bandwidth + 1',
                  got['bandwidth'] <= 2 * got['width'] - 1 and got['front'] <= got['bandwidth'] + 1)
     checks.equal('passes are those of the search, and of the run', (got['passes'], got['passes']),
@@ -108,10 +121,10 @@ def claims(checks, graph):
     return sum(equal for *_, equal in done)
 
 
-def all_claims(checks, graph):
-    store = cuthill(*graph)
-    store_claims(checks, graph, store['numbers'], store['profile'])
-    return claims(checks, graph)
+def all_claims(checks, graph, counts=None):
+    store = cuthill(*graph, counts)
+    store_claims(checks, graph, store['numbers'], store['profile'], counts)
+    return claims(checks, graph, counts)
 
 
 def small_graphs(checks):
@@ -142,7 +155,7 @@ def random_graphs(checks):
         several += cuthill(*graph)['parts'] > 1
         for part in parts_of(rows_of(*graph)):
             v = calls.ends(*graph, part[0], [0] * (6 * n))[1][0]
-            names_changed += calls.part_report(*graph, part[0], [0] * (6 * n))[1][0] != v
+            names_changed += report(*graph, part[0])[0] != v
     checks.holds('some part changes names in the run and not here', names_changed)
     checks.holds('some part keeps its profile and is turned', equal_profiles)
     checks.holds('some graph has several parts', several)
@@ -160,7 +173,7 @@ def limits(checks):
     checks.equal('star of 4,096', got['numbers'], [n - 1, n] + list(range(n - 2, 0, -1)))
     checks.equal('star of 4,096: figures', tuple(got[figure] for figure in FIGURES), (n, 1, n - 2, n - 1, 2, 3, n - 2))
     lent = [0] * n
-    checks.equal('4,097 nodes', calls.reverse_cuthill_mckee(*calls.from_edges(n + 1, []), lent, lent, lent, lent), ('refused', 1))
+    checks.equal('4,097 nodes', calls.reverse_cuthill_mckee(*calls.from_edges(n + 1, []), calls.ones(n + 1), lent, lent, lent, lent), ('refused', 1))
 
 
 def main():

@@ -66,7 +66,7 @@ def numbers_before_turning(graph):
 
 def without_lower(graph, numbers):
     """The numbers above 1 that have no neighbour with a lower number."""
-    adjoins = calls.adjoining_of(*graph, numbers)
+    adjoins = calls.adjoining_of(*graph, calls.ones(len(numbers)), numbers)
     return [q for q in range(2, len(numbers) + 1) if all(p > q for p in adjoins[q])]
 
 
@@ -76,9 +76,10 @@ def is_connected(graph):
 
 def store_of(graph, numbers):
     """Profile, marks, new pairs, and the bits of the mark bytes; these are lent in use, and just enough."""
-    places = profile(calls.adjoining_of(*graph, numbers))
+    ones = calls.ones(len(numbers))
+    places = profile(calls.adjoining_of(*graph, ones, numbers))
     mark_bytes = [165] * byte_count(places)
-    state, value = calls.elimination(*graph, numbers, [7] * len(numbers), mark_bytes)
+    state, value = calls.elimination(*graph, ones, numbers, [7] * len(numbers), mark_bytes)
     if state == 'refused':
         raise AssertionError('the elimination refused %d' % value)
     return (places, *value, [byte >> t & 1 for byte in mark_bytes for t in range(8)])
@@ -87,16 +88,16 @@ def store_of(graph, numbers):
 def idle_pairs(graph, numbers):
     """The pairs whose places are not marked."""
     bits = store_of(graph, numbers)[3]
-    return sorted(pair for pair, place in calls.places_of(*graph, numbers).items() if not bits[place])
+    return sorted(pair for pair, place in calls.places_of(*graph, calls.ones(len(numbers)), numbers).items() if not bits[place])
 
 
 # Worked with pencil.
 
 def worked_store(checks, name, graph, numbers, lacking, places, new, idle, mark_bytes):
-    graph, scratch, got = calls.from_edges(*graph), [0] * len(numbers), [165] * len(mark_bytes)
+    graph, ones, scratch, got = calls.from_edges(*graph), calls.ones(len(numbers)), [0] * len(numbers), [165] * len(mark_bytes)
     checks.equal(name + ': numbers without a lower neighbour', without_lower(graph, numbers), lacking)
-    checks.equal(name + ': profile', calls.measures(*graph, numbers, scratch)[1][1], places)
-    checks.equal(name + ': marks, new', calls.elimination(*graph, numbers, scratch, got), ('accepted', (places - len(idle), new)))
+    checks.equal(name + ': profile', calls.measures(*graph, ones, numbers, scratch)[1][1], places)
+    checks.equal(name + ': marks, new', calls.elimination(*graph, ones, numbers, scratch, got), ('accepted', (places - len(idle), new)))
     checks.equal(name + ': mark bytes', got, mark_bytes)
     checks.equal(name + ': idle pairs', idle_pairs(graph, numbers), idle)
 

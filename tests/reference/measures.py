@@ -1,4 +1,9 @@
-"""Test of a numbering, bandwidth, profile and fronts, from the section 'Measures' of document 01."""
+"""Test of a numbering, bandwidth, profile and fronts, from the section 'Measures' of document 01.
+
+A.6: "Bandwidth, profile, front .. are then measured in unknowns", so p, q, i and j are numbers of unknowns.
+"""
+
+from unknowns import unknowns_of_nodes
 
 
 def is_numbering(n, numbering):
@@ -11,9 +16,16 @@ def number_of_nodes(numbering):
     return {p: numbering[p - 1] for p in range(1, len(numbering) + 1)}
 
 
-def adjoining(rows, number_of):
-    """For each new number the set of new numbers it adjoins."""
-    return {number_of[p]: {number_of[q] for q in rows[p]} for p in number_of}
+def adjoining(rows, count_of, number_of):
+    """For each unknown the set of unknowns it adjoins."""
+    # A.6: "Any two of one node, or of two nodes that adjoin, adjoin"
+    unknowns_of = unknowns_of_nodes(count_of, number_of)
+    adjoins = {}
+    for p in number_of:
+        near = {j for q in [p, *rows[p]] for j in unknowns_of[q]}
+        for i in unknowns_of[p]:
+            adjoins[i] = near - {i}
+    return adjoins
 
 
 def first(adjoins, q):
@@ -32,13 +44,16 @@ def profile(adjoins):
 
 
 def fronts(adjoins):
-    """Fronts at i = 1, 2, .. n."""
+    """Fronts at each number, from 1 on."""
     # "The front at i counts the j >= i such that j = i or j adjoins some
-    # number <= i". It adjoins some number <= i if the least it adjoins is <= i.
-    n = len(adjoins)
-    least = {j: min(adjoins[j], default=n + 1) for j in adjoins}
-    return [sum(1 for j in range(i, n + 1) if j == i or least[j] <= i)
-            for i in range(1, n + 1)]
+    # number <= i". Those above i that adjoin such a number are kept from one i to the next.
+    found = []
+    kept = set()
+    for i in range(1, len(adjoins) + 1):
+        kept.discard(i)
+        kept.update(j for j in adjoins[i] if j > i)
+        found.append(1 + len(kept))
+    return found
 
 
 def front(adjoins):

@@ -1,6 +1,6 @@
 """Numbering: change of names, order of a part, turning, part report, whole run.
 
-Written from the section 'Numbering' of document 01 and A.9 of document 02.
+Written from the section 'Numbering' of document 01, A.6 and A.9 of document 02.
 """
 
 from collections import namedtuple
@@ -8,8 +8,8 @@ from collections import namedtuple
 from combined import combined_levels
 from ends import ends_of_part
 from graph import degree, first_in_e, in_order_e, parts_of
-from levels import width
 from measures import adjoining, bandwidth, front, profile
+from unknowns import width_in_unknowns
 
 # v and u as now named; order holds the part's nodes by new number, after turning.
 NumberedPart = namedtuple('NumberedPart', 'v u k width passes direction level_of order')
@@ -91,55 +91,57 @@ def numbers_from(first_number, order):
     return {order[t]: first_number + t for t in range(len(order))}
 
 
-def part_profile(rows, order):
-    """Profile of a part alone; the numbers of parts before it shift nothing."""
+def part_profile(rows, count_of, order):
+    """Profile of a part alone, in unknowns; the numbers of parts before it shift nothing."""
     numbers = numbers_from(1, order)
-    return profile(adjoining(rows, numbers))
+    return profile(adjoining(rows, count_of, numbers))
 
 
-def turn(rows, order):
+def turn(rows, count_of, order):
     """Order of the part and its direction."""
     # "A part's numbers are turned end for end exactly if that makes its
-    # profile less."
+    # profile less." A.6: "Levels and the numbering before turning don't change;
+    # turning is decided by the profile in unknowns."
     turned = order[::-1]
-    if part_profile(rows, turned) < part_profile(rows, order):
+    if part_profile(rows, count_of, turned) < part_profile(rows, count_of, order):
         return turned, 'Reversed'
     return order, 'Forward'
 
 
-def number_part(rows, part):
+def number_part(rows, count_of, part):
     ends = ends_of_part(rows, part)
     combined = combined_levels(rows, part, ends)
     v, u, level_of = change_names(rows, ends, combined)
-    order, direction = turn(rows, forward_order(rows, v, ends.k, level_of))
+    order, direction = turn(rows, count_of, forward_order(rows, v, ends.k, level_of))
     # "Levels don't turn."
-    return NumberedPart(v, u, ends.k, width(combined), ends.passes, direction,
+    return NumberedPart(v, u, ends.k, width_in_unknowns(level_of, count_of), ends.passes, direction,
                         level_of, order)
 
 
-def whole_run(rows):
-    return number_parts(rows, number_part)
+def whole_run(rows, count_of):
+    return number_parts(rows, count_of, number_part)
 
 
-def number_parts(rows, numbering_of_part):
+def number_parts(rows, count_of, numbering_of_part):
     """Numbers, levels, passes and figures of the graph, each part numbered by the function."""
     number_of = {}
     level_of = {}
     numbered = []
     # "Parts come in order of lowest old number and take the next free numbers."
     for part in parts_of(rows):
-        done = numbering_of_part(rows, part)
+        done = numbering_of_part(rows, count_of, part)
         number_of.update(numbers_from(len(number_of) + 1, done.order))
         level_of.update(done.level_of)
         numbered.append(done)
     # A.9: "Keep a count for every part, in a list .. ordered as the parts are"
     passes = [done.passes for done in numbered]
-    return WholeRun(number_of, level_of, passes, run_figures(rows, number_of, numbered))
+    return WholeRun(number_of, level_of, passes, run_figures(rows, count_of, number_of, numbered))
 
 
-def run_figures(rows, number_of, numbered):
+def run_figures(rows, count_of, number_of, numbered):
     """The seven figures: those of the program's first line but the passes."""
-    adjoins = adjoining(rows, number_of)
+    # Reading 10: nodes, parts and levels stay as they are, the other four are in unknowns.
+    adjoins = adjoining(rows, count_of, number_of)
     # "Levels and passes are summed over parts; width is the greatest."
     # A.9: "drop the single counter: both return seven figures"
     return (len(rows), len(numbered),

@@ -90,7 +90,7 @@ def components(checks, rows):
 def cuthill_mckee(checks, lists, bandwidth):
     """'The bandwidth obtained by a Cuthill-McKee numbering can never be less than the width of the rooted level structure used.'"""
     numbers, levels, passes = [0] * 24, [0] * 24, [0] * 24
-    figures = calls.reverse_cuthill_mckee(*lists, numbers, levels, passes, [0] * (6 * 24))[1]
+    figures = calls.reverse_cuthill_mckee(*lists, calls.ones(24), numbers, levels, passes, [0] * (6 * 24))[1]
     checks.equal('paper: reverse Cuthill-McKee, depth and width', figures[5:], (6, 7))
     checks.holds('paper: its bandwidth is at least the width, and more than ours', bandwidth < 7 <= figures[2] <= 13)
     checks.equal('paper: its levels, those rooted at 9, and its last number', (levels, numbers[8]), (rooted(*lists, 9)[1], 24))
@@ -100,7 +100,7 @@ def whole(checks, lists, column):
     """By hand: the columns are the levels. They are numbered one after the other from 9, so neighbours are at most 5 apart, and
     q - f_q is 4 at the head of a column and 5 below, in the first column 0 and 1."""
     numbers, levels, passes = [0] * 24, [0] * 24, [0] * 24
-    figures = calls.whole_run(*lists, numbers, levels, passes, [0] * (6 * 24))[1]
+    figures = calls.whole_run(*lists, calls.ones(24), numbers, levels, passes, [0] * (6 * 24))[1]
     checks.equal('paper: figures', figures, (24, 1, 5, 98, 6, 6, 4))
     checks.equal('paper: passes', passes, [1] + [0] * 23)
     checks.equal('paper: levels', levels, [column[p] for p in range(1, 25)])

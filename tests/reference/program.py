@@ -2,9 +2,9 @@
 
 import sys
 
-from calls import mesh, scratch_words, whole_run
-from graph import MOST_ENTRIES
-from listing import element_refusal, header_refusal, nodes_of_file, output_text, refusal_line, words_after_header
+from calls import listing, scratch_words
+from graph import MOST_ENTRIES, MOST_NODES
+from listing import MOST_FILE_WORDS, most_output_bytes, refusal_line
 
 # One byte more than the longest file, so that a longer one is seen.
 MOST_BYTES_READ = 65536
@@ -12,20 +12,14 @@ MOST_BYTES_READ = 65536
 
 def text_for(file):
     """Output bytes for the bytes of a file."""
-    file = list(file[:MOST_BYTES_READ])
-    number = header_refusal(file) or element_refusal(file)
-    if number:
-        return refusal_line(number)
-    n = nodes_of_file(file)
-    starts, neighbours, scratch = [0] * (n + 1), [0] * MOST_ENTRIES, [0] * scratch_words(n)
-    # All else has been tested: the mesh can only refuse with 11.
-    state, value = mesh(n, words_after_header(file), starts, neighbours, scratch)
-    if state == 'refused':
-        return refusal_line(value)
-    (entries,) = value
-    numbers, levels, passes = [0] * n, [0] * n, [0] * n
-    _, figures = whole_run(starts, neighbours[:entries], numbers, levels, passes, scratch)
-    return output_text(figures, numbers, levels, passes)
+    # The program lends enough for any n, so it never answers 5.
+    n = MOST_NODES
+    output = [0] * most_output_bytes(n)
+    numbers, levels, passes, counts = [0] * n, [0] * n, [0] * n, [0] * n
+    state, value = listing(list(file[:MOST_BYTES_READ]), [0] * MOST_FILE_WORDS, [0] * (n + 1), [0] * MOST_ENTRIES,
+                           [0] * scratch_words(n), numbers, levels, passes, counts, output)
+    count = value[0] if state == 'accepted' else len(refusal_line(value))
+    return bytes(output[:count])
 
 
 if __name__ == '__main__':

@@ -1,7 +1,8 @@
 """Places, joined pairs after each elimination, marks, mark bytes and counts.
 
 Written from the section 'Store and elimination' of document 01. A pair is
-(p, q) with p < q, both new numbers.
+(p, q) with p < q, both new numbers. A.6: "store and elimination are then measured
+in unknowns", so these are numbers of unknowns.
 """
 
 from measures import first, profile
@@ -22,7 +23,8 @@ def places(adjoins):
 
 
 def edges_joined(adjoins):
-    # "At first the edges are joined."
+    # "At first the edges are joined." A.6: any two unknowns that adjoin, those of
+    # one node too, "are joined from the start".
     return {(p, q) for q in adjoins for p in adjoins[q] if p < q}
 
 

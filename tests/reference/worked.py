@@ -97,6 +97,11 @@ def path(n):
     return n, [(p, p + 1) for p in range(1, n)]
 
 
+def star_edges(n):
+    """Centre 1, leaves 2 to n."""
+    return [(1, q) for q in range(2, n + 1)]
+
+
 # A.9: name, parts with their nodes, passes and depth of each
 PASSES = [
     ('two isolated nodes', [(path(1), [1]), (path(1), [2])], [1, 1], [1, 1]),
@@ -126,9 +131,9 @@ def worked_graph(checks, name, edges, ends, combined, report, levels, numbers):
     checks.equal(name + ': combined', calls.combined_levels(*graph, 1, got_combined, scratch)[1],
                  (report[2], report[3]))
     checks.equal(name + ': combined levels', got_combined, combined)
-    checks.equal(name + ': report', calls.part_report(*graph, n, scratch)[1], report)
+    checks.equal(name + ': report', calls.part_report(*graph, calls.ones(n), n, scratch)[1], report)
     got_passes = [0] * n
-    calls.whole_run(*graph, got_numbers, got_levels, got_passes, scratch)
+    calls.whole_run(*graph, calls.ones(n), got_numbers, got_levels, got_passes, scratch)
     checks.equal(name + ': levels', got_levels, levels)
     checks.equal(name + ': numbers', got_numbers, numbers)
     checks.equal(name + ': passes', got_passes, [ends[5]] + [0] * (n - 1))
@@ -165,7 +170,7 @@ def both_directions(checks):
     """Path 1-3-5, star of centre 2 and leaves 4, 6, 7, node 8: only the star turns."""
     graph = calls.from_edges(8, [(1, 3), (3, 5), (2, 4), (2, 6), (2, 7)])
     numbers, levels, passes = [0] * 8, [0] * 8, [0] * 8
-    checks.equal('both directions: figures', calls.whole_run(*graph, numbers, levels, passes, [0] * 48)[1],
+    checks.equal('both directions: figures', calls.whole_run(*graph, calls.ones(8), numbers, levels, passes, [0] * 48)[1],
                  (8, 3, 2, 5, 2, 7, 2))
     checks.equal('both directions: numbers', numbers, [1, 6, 2, 7, 3, 5, 4, 8])
     checks.equal('both directions: levels', levels, [1, 2, 2, 1, 3, 3, 3, 1])
@@ -195,7 +200,7 @@ def stars(checks):
         mark_bytes, marks, new = star_store(n)
         # Ones behind the store stay and are not counted.
         got = [255] * (len(mark_bytes) + 9)
-        answer = calls.elimination(*calls.from_edges(n, [(1, q) for q in range(2, n + 1)]), list(range(1, n + 1)), [0] * n, got)
+        answer = calls.elimination(*calls.from_edges(n, star_edges(n)), calls.ones(n), list(range(1, n + 1)), [0] * n, got)
         checks.equal('star of %d: figures' % n, answer, ('accepted', (marks, new)))
         checks.equal('star of %d: bytes' % n, got, mark_bytes + [255] * 9)
     mark_bytes, marks, new = star_store(4096)

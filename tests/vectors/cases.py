@@ -16,14 +16,16 @@ import store
 import worked
 from calls import scratch_words
 from combined import number_pairs
+from count_lists import counted, counts_of, miscounted
 from ends import ends_of_part
 from examples import GRAPHS
 from graph import degree, from_edges, lists_of, part_of, parts_of, pieces_of, rows_of, small_graphs
 from measures import profile
+from unknowns import MOST, ones, wrong_counts
 from vectors import answer_text, byte_pattern, changed, number, of_words, pattern, shown
 
 # Given lists, a given node (n for the mesh), lengths of what is lent, 0 where nothing is said. `kind` says what the case is for.
-Case = namedtuple('Case', 'kind call starts neighbours given node first second third fourth bytes', defaults=(0,) * 5)
+Case = namedtuple('Case', 'kind call starts neighbours counts given node first second third fourth bytes', defaults=(0,) * 5)
 
 # A call: its number in the program, the reference's call, and which of a case's fields it is given and lent, in its order.
 Call = namedtuple('Call', 'number reference given lent')
@@ -32,15 +34,15 @@ CALLS = {
     'adjacency test': Call(1, calls.adjacency_test, 'starts neighbours', ''),
     'rooted levels': Call(2, calls.rooted_levels, 'starts neighbours node', 'first second'),
     'ends': Call(3, calls.ends, 'starts neighbours node', 'first'),
-    'measures': Call(4, calls.measures, 'starts neighbours given', 'first'),
-    'elimination': Call(5, calls.elimination, 'starts neighbours given', 'first bytes'),
+    'measures': Call(4, calls.measures, 'starts neighbours counts given', 'first'),
+    'elimination': Call(5, calls.elimination, 'starts neighbours counts given', 'first bytes'),
     'mesh': Call(6, calls.mesh, 'node given', 'first second third'),
     'combined levels': Call(7, calls.combined_levels, 'starts neighbours node', 'first second'),
-    'whole run': Call(8, calls.whole_run, 'starts neighbours', 'first second third fourth'),
-    'run and eliminate': Call(9, calls.run_and_eliminate, 'starts neighbours', 'first second third fourth bytes'),
-    'part report': Call(10, calls.part_report, 'starts neighbours node', 'first'),
-    'reverse Cuthill-McKee': Call(11, calls.reverse_cuthill_mckee, 'starts neighbours', 'first second third fourth'),
-    'reverse Cuthill-McKee and eliminate': Call(12, calls.cuthill_and_eliminate, 'starts neighbours', 'first second third fourth bytes'),
+    'whole run': Call(8, calls.whole_run, 'starts neighbours counts', 'first second third fourth'),
+    'run and eliminate': Call(9, calls.run_and_eliminate, 'starts neighbours counts', 'first second third fourth bytes'),
+    'part report': Call(10, calls.part_report, 'starts neighbours counts node', 'first'),
+    'reverse Cuthill-McKee': Call(11, calls.reverse_cuthill_mckee, 'starts neighbours counts', 'first second third fourth'),
+    'reverse Cuthill-McKee and eliminate': Call(12, calls.cuthill_and_eliminate, 'starts neighbours counts', 'first second third fourth bytes'),
 }
 
 # The calls with the run's buffers.
@@ -59,9 +61,9 @@ MOST_BYTES = 40000
 
 def encoded(c):
     """The case as the program reads it."""
-    assert max(len(c.starts), len(c.neighbours), c.first, c.second, c.third, c.fourth) <= MOST_WORDS
+    assert max(len(c.starts), len(c.neighbours), len(c.counts), c.first, c.second, c.third, c.fourth) <= MOST_WORDS
     assert len(c.given) <= MOST_GIVEN and c.bytes <= MOST_BYTES
-    lists = b''.join(number(len(words)) + of_words(words) for words in (c.starts, c.neighbours, c.given))
+    lists = b''.join(number(len(words)) + of_words(words) for words in (c.starts, c.neighbours, c.counts, c.given))
     lengths = b''.join(number(size) for size in (c.node, c.first, c.second, c.third, c.fourth, c.bytes))
     return number(CALLS[c.call].number) + lists + lengths
 
@@ -124,7 +126,7 @@ def damaged(draw, starts, neighbours):
     return tuple(lists)
 
 
-# Cases on an adjacency.
+# Cases on an adjacency. A graph is its two lists and the counts.
 
 def lent(draw, need):
     """A length: short, exact or longer."""
@@ -137,13 +139,18 @@ def enough(draw, need):
     return need + draw.one([0, 0, 1, 1 + draw.below(9)])
 
 
-def at_node(draw, kind, lists, node):
+def now_and_then(draw, graph):
+    """The graph, one time in ten with wrong counts."""
+    return miscounted(draw, graph) if draw.chance(0.1) else graph
+
+
+def at_node(draw, kind, graph, node):
     """The calls that are given a node."""
-    n = max(0, len(lists[0]) - 1)
-    yield Case(kind, 'rooted levels', *lists, [], node, lent(draw, n), lent(draw, n), 3)
-    yield Case(kind, 'ends', *lists, [], node, lent(draw, scratch_words(n)), 3)
-    yield Case(kind, 'combined levels', *lists, [], node, lent(draw, n), lent(draw, scratch_words(n)), 3)
-    yield Case(kind, 'part report', *lists, [], node, lent(draw, scratch_words(n)), 3)
+    n = max(0, len(graph[0]) - 1)
+    yield Case(kind, 'rooted levels', *graph, [], node, lent(draw, n), lent(draw, n), 3)
+    yield Case(kind, 'ends', *graph, [], node, lent(draw, scratch_words(n)), 3)
+    yield Case(kind, 'combined levels', *graph, [], node, lent(draw, n), lent(draw, scratch_words(n)), 3)
+    yield Case(kind, 'part report', *now_and_then(draw, graph), [], node, lent(draw, scratch_words(n)), 3)
 
 
 def wrong_numbering(draw, numbering):
@@ -153,73 +160,81 @@ def wrong_numbering(draw, numbering):
                      numbering[:at] + [numbering[at - 1]] + numbering[at + 1:] if n > 1 else [2], [], numbering[:at] + [65535] + numbering[at + 1:]])
 
 
-def byte_count(lists, numbering):
-    """Mark bytes that a numbering needs, as the reference counts them; 2 where it is none."""
-    if sorted(numbering) != list(range(1, len(lists[0]))):
+def byte_count(graph, numbering):
+    """Mark bytes that a numbering needs, as the reference counts them; 2 where it is none, or the counts are wrong."""
+    n = len(graph[0]) - 1
+    if sorted(numbering) != list(range(1, n + 1)) or wrong_counts(n, graph[2]):
         return 2
-    return store.byte_count(profile(calls.adjoining_of(*lists, numbering)))
+    return store.byte_count(profile(calls.adjoining_of(*graph, numbering)))
 
 
-def numbered(draw, kind, lists, numbering):
+def numbered(draw, kind, graph, numbering):
     """The calls that are given a numbering."""
-    n = len(lists[0]) - 1
-    yield Case(kind, 'measures', *lists, numbering, 0, lent(draw, n), 3)
-    yield Case(kind, 'elimination', *lists, numbering, 0, lent(draw, n), 3, bytes=lent(draw, byte_count(lists, numbering)))
+    n = len(graph[0]) - 1
+    yield Case(kind, 'measures', *now_and_then(draw, graph), numbering, 0, lent(draw, n), 3)
+    yield Case(kind, 'elimination', *now_and_then(draw, graph), numbering, 0, lent(draw, n), 3, bytes=lent(draw, byte_count(graph, numbering)))
 
 
-def run_lengths(lists):
+def run_lengths(graph):
     """What the run asks for: numbers, levels, passes, scratch."""
-    n = max(0, len(lists[0]) - 1)
+    n = max(0, len(graph[0]) - 1)
     return [n, n, n, scratch_words(n)]
 
 
-def run_byte_count(lists, call=calls.whole_run):
+def run_byte_count(graph, call=calls.whole_run):
     """Mark bytes that the numbers of the run, or of another call with its buffers, need, as the reference counts them."""
-    n = len(lists[0]) - 1
-    _, figures = call(*lists, pattern(n), pattern(n), pattern(n), pattern(scratch_words(n)))
+    n = len(graph[0]) - 1
+    _, figures = call(*graph, pattern(n), pattern(n), pattern(n), pattern(scratch_words(n)))
     return store.byte_count(figures[3])
 
 
-def runs(draw, kind, lists):
-    """The calls with the run's buffers on a legal adjacency, with all that they need; now and then also with one thing short."""
-    need, due = run_byte_count(lists), run_lengths(lists)
+def one_short(draw, lengths, due):
+    """The lengths with one of them a word less than is due."""
+    at = draw.below(len(due))
+    return lengths[:at] + [due[at] - 1] + lengths[at + 1:]
+
+
+def runs(draw, kind, graph):
+    """The calls with the run's buffers on a legal adjacency, with all that they need; now and then also with one thing short or with wrong counts."""
+    need, due = run_byte_count(graph), run_lengths(graph)
     most = [enough(draw, size) for size in due]
-    yield Case(kind, 'whole run', *lists, [], 0, *most, 2)
-    yield Case(kind, 'reverse Cuthill-McKee', *lists, [], 0, *most, 2)
-    yield Case(kind, 'run and eliminate', *lists, [], 0, *most, enough(draw, need))
+    yield Case(kind, 'whole run', *graph, [], 0, *most, 2)
+    yield Case(kind, 'reverse Cuthill-McKee', *graph, [], 0, *most, 2)
+    yield Case(kind, 'run and eliminate', *graph, [], 0, *most, enough(draw, need))
     if draw.chance(0.3):
-        yield Case(kind, 'run and eliminate', *lists, [], 0, *most, max(0, need - 1))
+        yield Case(kind, 'run and eliminate', *graph, [], 0, *most, max(0, need - 1))
     if draw.chance(0.3):
-        at = draw.below(4)
-        short = most[:at] + [due[at] - 1] + most[at + 1:]
-        yield Case(kind, draw.one(RUNS), *lists, [], 0, *short, enough(draw, need))
+        yield Case(kind, draw.one(RUNS), *graph, [], 0, *one_short(draw, most, due), enough(draw, need))
+    if draw.chance(0.3):
+        lengths = one_short(draw, most, due) if draw.chance(0.3) else most
+        yield Case(kind, draw.one(RUNS), *miscounted(draw, graph), [], 0, *lengths, enough(draw, need))
 
 
-def whole(draw, kind, lists):
+def whole(draw, kind, graph):
     """The calls on a legal adjacency alone."""
-    yield Case(kind, 'adjacency test', *lists, [], 0, 3, bytes=2)
-    yield from runs(draw, kind, lists)
+    yield Case(kind, 'adjacency test', *graph, [], 0, 3, bytes=2)
+    yield from runs(draw, kind, graph)
 
 
-def on_graph(draw, kind, lists, nodes, numberings):
+def on_graph(draw, kind, graph, nodes, numberings):
     """All calls on a legal adjacency: at these nodes and at one that is none, with so many numberings and with one that is none."""
-    n = len(lists[0]) - 1
-    yield from whole(draw, kind, lists)
+    n = len(graph[0]) - 1
+    yield from whole(draw, kind, graph)
     for node in list(nodes) + [draw.one([0, n + 1, 65535])]:
-        yield from at_node(draw, kind, lists, node)
+        yield from at_node(draw, kind, graph, node)
     same = list(range(1, n + 1))
     for numbering in [same] + [draw.some(same, n) for _ in range(numberings)] + [wrong_numbering(draw, draw.some(same, n))]:
-        yield from numbered(draw, kind, lists, numbering)
+        yield from numbered(draw, kind, graph, numbering)
 
 
-def on_illegal(draw, lists):
-    """Calls on an adjacency that may be illegal."""
-    n = max(0, len(lists[0]) - 1)
-    made = [Case('illegal adjacency', 'adjacency test', *lists, [], 0, 3, bytes=2)]
-    made += list(at_node(draw, 'illegal adjacency', lists, draw.below(n + 2)))
-    made += [Case('illegal adjacency', call, *lists, list(range(1, n + 1)), 0, lent(draw, n), 3, bytes=lent(draw, n))
+def on_illegal(draw, graph):
+    """Calls on an adjacency that may be illegal, with counts that may be wrong."""
+    n = max(0, len(graph[0]) - 1)
+    made = [Case('illegal adjacency', 'adjacency test', *graph, [], 0, 3, bytes=2)]
+    made += list(at_node(draw, 'illegal adjacency', graph, draw.below(n + 2)))
+    made += [Case('illegal adjacency', call, *now_and_then(draw, graph), list(range(1, n + 1)), 0, lent(draw, n), 3, bytes=lent(draw, n))
              for call in ('measures', 'elimination')]
-    made += [Case('illegal adjacency', call, *lists, [], 0, *[lent(draw, size) for size in run_lengths(lists)], lent(draw, n))
+    made += [Case('illegal adjacency', call, *now_and_then(draw, graph), [], 0, *[lent(draw, size) for size in run_lengths(graph)], lent(draw, n))
              for call in RUNS]
     return [made[0], draw.one(made[1:])]
 
@@ -228,21 +243,21 @@ def small(draw, least, most):
     """All graphs of so many nodes, at every node."""
     for n in range(least, most + 1):
         for lists in small_graphs(n):
-            yield from on_graph(draw, '%d nodes' % n, lists, range(1, n + 1), 2)
+            yield from on_graph(draw, '%d nodes' % n, counted(draw, lists), range(1, n + 1), 2)
 
 
 def some_of_five(draw, count):
     for lists in draw.some(small_graphs(5), count):
-        yield from on_graph(draw, '5 nodes', lists, draw.some(range(1, 6), 2), 1)
+        yield from on_graph(draw, '5 nodes', counted(draw, lists), draw.some(range(1, 6), 2), 1)
 
 
-def every_numbering(least, most):
-    """All graphs of so many nodes, eliminated under every numbering."""
+def every_numbering(draw, least, most):
+    """All graphs of so many nodes, eliminated under every numbering, with one unknown or two of each node."""
     for n in range(least, most + 1):
         for lists in small_graphs(n):
             for numbering in permutations(range(1, n + 1)):
-                need = byte_count(lists, numbering)
-                yield Case('every numbering', 'elimination', *lists, list(numbering), 0, n, bytes=need)
+                graph = counted(draw, lists, 2)
+                yield Case('every numbering', 'elimination', *graph, list(numbering), 0, n, bytes=byte_count(graph, numbering))
 
 
 # Bytes of a store, about the ends of the eight-byte words that marks are counted by.
@@ -250,27 +265,38 @@ STORE_BYTES = (0, 1, 7, 8, 9, 15, 16)
 
 
 def paths_of(size):
-    """Paths whose stores have this many bytes, the last with one place and with eight; each place is marked."""
+    """Paths whose stores have this many bytes, the last with one place and with eight; one unknown each, and each place is marked."""
     for places in (max(0, 8 * size - 7), 8 * size):
-        yield from_edges(*shapes.path(places + 1)), list(range(1, places + 2))
+        lists, n = from_edges(*shapes.path(places + 1)), places + 1
+        yield (*lists, ones(n)), list(range(1, n + 1))
+
+
+def of_some_bytes(draw):
+    """A random graph: of up to 40 nodes with one unknown each, or of up to 9 with any counts."""
+    if draw.chance(0.5):
+        n = 1 + draw.below(40)
+        return (*random_graph(draw, n), ones(n))
+    n = 1 + draw.below(9)
+    return (*random_graph(draw, n), counts_of(draw, n))
 
 
 def stores_of(draw, size, count):
-    """Random graphs of up to 40 nodes and numberings whose stores have this many bytes."""
+    """Random graphs and numberings whose stores have this many bytes."""
     while count > 0:
-        n = 1 + draw.below(40)
-        lists, numbering = random_graph(draw, n), draw.some(range(1, n + 1), n)
-        if byte_count(lists, numbering) == size:
+        graph = of_some_bytes(draw)
+        n = len(graph[2])
+        numbering = draw.some(range(1, n + 1), n)
+        if byte_count(graph, numbering) == size:
             count -= 1
-            yield lists, numbering
+            yield graph, numbering
 
 
 def run_of(draw, size):
-    """A random graph of up to 60 nodes whose run has a store of this many bytes."""
+    """A random graph whose run has a store of this many bytes."""
     while True:
-        lists = random_graph(draw, 1 + draw.below(60))
-        if run_byte_count(lists) == size:
-            return lists
+        graph = of_some_bytes(draw)
+        if run_byte_count(graph) == size:
+            return graph
 
 
 def store_sizes(draw, count):
@@ -278,26 +304,26 @@ def store_sizes(draw, count):
     for size in STORE_BYTES:
         kind = 'store of %d bytes' % size
         for made, more in ((paths_of(size), (0, 8)), (stores_of(draw, size, count), (0, 1, 8, 17))):
-            for lists, numbering in made:
+            for graph, numbering in made:
                 for excess in more:
-                    yield Case(kind, 'elimination', *lists, numbering, 0, len(numbering), bytes=size + excess)
-        lists = run_of(draw, size)
+                    yield Case(kind, 'elimination', *graph, numbering, 0, len(numbering), bytes=size + excess)
+        graph = run_of(draw, size)
         for excess in (0, 9):
-            yield Case(kind, 'run and eliminate', *lists, [], 0, *run_lengths(lists), size + excess)
+            yield Case(kind, 'run and eliminate', *graph, [], 0, *run_lengths(graph), size + excess)
 
 
 def at_random(draw, count, nodes):
     """Random graphs of up to 40 nodes, at so many of their nodes."""
     for _ in range(count):
         n = 1 + draw.below(40)
-        yield from on_graph(draw, 'random graph', random_graph(draw, n), draw.some(range(1, n + 1), min(n, nodes)), 2)
+        yield from on_graph(draw, 'random graph', counted(draw, random_graph(draw, n)), draw.some(range(1, n + 1), min(n, nodes)), 2)
 
 
 def runs_at_random(draw, count):
     """Random graphs of up to 60 nodes: the calls that are given no node."""
     for _ in range(count):
         n = 1 + draw.below(60)
-        yield from on_graph(draw, 'random graph', random_graph(draw, n), [], 1)
+        yield from on_graph(draw, 'random graph', counted(draw, random_graph(draw, n)), [], 1)
 
 
 def tells(rows, node):
@@ -315,42 +341,44 @@ def telling(draw, count):
         lists, node = random_graph(draw, n), 1 + draw.below(n)
         if tells(rows_of(*lists), node):
             count -= 1
-            yield from at_node(draw, 'telling graph', lists, node)
-            yield from draw.some(runs(draw, 'telling graph', lists), 2)
+            graph = counted(draw, lists)
+            yield from at_node(draw, 'telling graph', graph, node)
+            yield from draw.some(runs(draw, 'telling graph', graph), 2)
 
 
 def of_table(draw):
     """The graphs of the table of examples, one for each slip and tie, at every node."""
     for _, _, n, edges in GRAPHS:
-        yield from on_graph(draw, 'example', from_edges(n, edges), range(1, n + 1), 2)
+        yield from on_graph(draw, 'example', counted(draw, from_edges(n, edges)), range(1, n + 1), 2)
 
 
 def large(draw, count):
-    """Random graphs of 100 to 1,000 nodes at one node; the elimination of the smaller ones."""
+    """Random graphs of 100 to 1,000 nodes at one node; the elimination of the smaller ones, with one unknown each, as the reference is slow."""
     for _ in range(count):
         n = 100 + draw.below(901)
-        lists = random_graph(draw, n)
-        yield from at_node(draw, 'large graph', lists, 1 + draw.below(n))
-        for case in numbered(draw, 'large graph', lists, draw.some(range(1, n + 1), n)):
+        graph = counted(draw, random_graph(draw, n))
+        yield from at_node(draw, 'large graph', graph, 1 + draw.below(n))
+        for case in numbered(draw, 'large graph', graph if n > 200 else (*graph[:2], ones(n)), draw.some(range(1, n + 1), n)):
             if case.call == 'measures' or n <= 200:
                 yield case
 
 
-def of_many_parts():
-    """As many parts as there can be, and nearly so: isolated nodes, pairs, rings of four."""
-    for lists in shapes.many_parts():
-        yield Case('many parts', 'run and eliminate', *lists, [], 0, *run_lengths(lists), run_byte_count(lists))
-        yield Case('many parts', 'reverse Cuthill-McKee', *lists, [], 0, *run_lengths(lists))
+def of_many_parts(draw):
+    """As many parts as there can be, and nearly so: isolated nodes of six unknowns, pairs of any counts, rings of four with one each."""
+    isolated, pairs, rings = shapes.many_parts()
+    for graph in ((*isolated, [MOST] * 4096), (*pairs, [1 + draw.below(MOST) for _ in range(4096)]), (*rings, ones(4000))):
+        yield Case('many parts', 'run and eliminate', *graph, [], 0, *run_lengths(graph), run_byte_count(graph))
+        yield Case('many parts', 'reverse Cuthill-McKee', *graph, [], 0, *run_lengths(graph))
 
 
 def of_full_size(draw):
     """Meshes, trees and paths of about 4,096 nodes; run and eliminate where the program has room for the bytes."""
     kind = 'full size'
     for lists in shapes.full_size(draw):
-        n = len(lists[0]) - 1
-        yield from (case for case in whole(draw, kind, lists) if case.bytes <= MOST_BYTES)
-        yield from at_node(draw, kind, lists, 1 + draw.below(n))
-        yield Case(kind, 'measures', *lists, list(range(1, n + 1)), 0, n)
+        n, graph = len(lists[0]) - 1, counted(draw, lists, 2)
+        yield from (case for case in whole(draw, kind, graph) if case.bytes <= MOST_BYTES)
+        yield from at_node(draw, kind, graph, 1 + draw.below(n))
+        yield Case(kind, 'measures', *counted(draw, lists), list(range(1, n + 1)), 0, n)
 
 
 # Path 1-3-5, star about 2, node 8, triangle 9-11-12, pair 10-13, path from 14 to 17 and node 18.
@@ -364,7 +392,7 @@ def every_root(draw):
     for lists in [from_edges(*graph) for graph in graphs] + [random_graph(draw, 1 + draw.below(16)) for _ in range(10)]:
         n = len(lists[0]) - 1
         for root in range(1, n + 1):
-            yield Case('every root', 'rooted levels', *lists, [], root, n, n)
+            yield Case('every root', 'rooted levels', *lists, [], [], root, n, n)
 
 
 def level_sizes(draw):
@@ -376,39 +404,40 @@ def level_sizes(draw):
         for root in sorted({0, 1, n, n + 1, 65535}):
             for levels in lengths:
                 for sizes in lengths:
-                    yield Case('two lists', 'rooted levels', *lists, [], root, levels, sizes, 3)
+                    yield Case('two lists', 'rooted levels', *lists, [], [], root, levels, sizes, 3)
     star = from_edges(*shapes.star(4096))
     for root in (1, 77):
-        yield Case('full size', 'rooted levels', *star, [], root, 4096, 4096)
+        yield Case('full size', 'rooted levels', *star, [], [], root, 4096, 4096)
 
 
-def with_scratch(kind, lists, node, length, need):
+def with_scratch(kind, graph, node, length, need):
     """The run, the calls on one part, and run and eliminate, with so many words of scratch and mark bytes and just enough of the rest."""
-    n = len(lists[0]) - 1
-    yield Case(kind, 'ends', *lists, [], node, length)
-    yield Case(kind, 'combined levels', *lists, [], node, n, length)
-    yield Case(kind, 'part report', *lists, [], node, length)
+    n = len(graph[0]) - 1
+    yield Case(kind, 'ends', *graph, [], node, length)
+    yield Case(kind, 'combined levels', *graph, [], node, n, length)
+    yield Case(kind, 'part report', *graph, [], node, length)
     for call in RUNS:
-        yield Case(kind, call, *lists, [], 0, n, n, n, length, need)
+        yield Case(kind, call, *graph, [], 0, n, n, n, length, need)
 
 
 def scratch_sizes(draw):
     """A.7: 6n words, one less, one more, and the 8n of document 01, of which the last 2n stay; graphs of 1 to 4,096 nodes."""
     graphs = [from_edges(n, edges) for _, _, n, edges in GRAPHS] + [from_edges(*graph) for graph in (
         shapes.path(1), shapes.blocks(5, 1), shapes.path(7), shapes.star(9), shapes.rings_of_four(3), shapes.grid(9, 4, True), shapes.path(4096))]
-    for lists in graphs:
-        n = len(lists[0]) - 1
-        node, need = 1 + draw.below(n), run_byte_count(lists)
+    for graph in [counted(draw, lists) for lists in graphs]:
+        n = len(graph[0]) - 1
+        node, need = 1 + draw.below(n), run_byte_count(graph)
         lengths = (('short', 6 * n - 1), ('exact', 6 * n), ('long', 6 * n + 1), ('long', 8 * n))
         for kind, length in lengths if n < 4096 else lengths[::3]:
-            yield from with_scratch('%s scratch' % kind, lists, node, length, need)
-    # 5 comes before 6, and other lists that are long don't help
+            yield from with_scratch('%s scratch' % kind, graph, node, length, need)
+    # 5 comes before 6 and 15, and other lists that are long don't help
     lists = from_edges(*shapes.path(7))
     for length in (6 * 7 - 1, 5 * 7, 0):
+        graph = (*lists, draw.one([ones(7), [0] * 7]))
         for call, first, second in (('ends', length, 0), ('combined levels', 99, length), ('part report', length, 0)):
-            yield Case('short scratch', call, *lists, [], draw.one([0, 8, 65535]), first, second)
+            yield Case('short scratch', call, *graph, [], draw.one([0, 8, 65535]), first, second)
         for call in RUNS:
-            yield Case('short scratch', call, *lists, [], 0, 99, 99, 99, length, 9)
+            yield Case('short scratch', call, *graph, [], 0, 99, 99, 99, length, 9)
 
 
 # Connected graphs of one, two and three passes, and which a part of a larger graph may be.
@@ -428,13 +457,14 @@ def pass_counts(draw, count):
     """A.9: parts of one, two and three passes in one graph, in every order; the list of passes exact, long and short."""
     fixed = [from_edges(*worked.of_parts(parts)) for _, parts, *_ in worked.PASSES]
     for lists in fixed + [mixed(draw, [draw.one(PARTS) for _ in range(2 + draw.below(4))]) for _ in range(count)]:
-        n, need = len(lists[0]) - 1, run_byte_count(lists)
+        graph = counted(draw, lists)
+        n, need = len(lists[0]) - 1, run_byte_count(graph)
         for call in ('whole run', 'reverse Cuthill-McKee'):
-            yield Case('passes', call, *lists, [], 0, n, n, n, scratch_words(n), 2)
-            yield Case('passes', call, *lists, [], 0, n + 1, n, n + 2, scratch_words(n), 2)
-            yield Case('short passes', call, *lists, [], 0, n, n, n - 1, scratch_words(n), 2)
-        yield Case('passes', 'run and eliminate', *lists, [], 0, n, n, n + 1, scratch_words(n), need)
-        yield Case('short passes', 'run and eliminate', *lists, [], 0, n + 3, n, draw.below(n), scratch_words(n), need)
+            yield Case('passes', call, *graph, [], 0, n, n, n, scratch_words(n), 2)
+            yield Case('passes', call, *graph, [], 0, n + 1, n, n + 2, scratch_words(n), 2)
+            yield Case('short passes', call, *graph, [], 0, n, n, n - 1, scratch_words(n), 2)
+        yield Case('passes', 'run and eliminate', *graph, [], 0, n, n, n + 1, scratch_words(n), need)
+        yield Case('short passes', 'run and eliminate', *graph, [], 0, n + 3, n, draw.below(n), scratch_words(n), need)
 
 
 def changes_names(lists):
@@ -453,29 +483,34 @@ def with_names_changed(draw, count):
             yield lists
 
 
+def with_orders(draw, count):
+    """Graphs worked with pencil for A.3, a strip, and such as change names in the run."""
+    yield from (from_edges(n, edges) for _, n, edges, *_ in cuthill_cases.WORKED_ORDERS)
+    yield from_edges(*shapes.grid(7, 4, True))
+    yield from with_names_changed(draw, count)
+
+
 def cuthill_orders(draw, count):
-    """A.3: graphs worked with pencil, and such as change names in the run; each of the four lists exact, long and short."""
-    fixed = [from_edges(n, edges) for _, n, edges, *_ in cuthill_cases.WORKED_ORDERS] + [from_edges(*shapes.grid(7, 4, True))]
-    for lists in fixed + list(with_names_changed(draw, count)):
-        due = run_lengths(lists)
-        yield Case('order', 'reverse Cuthill-McKee', *lists, [], 0, *due)
-        yield Case('order', 'reverse Cuthill-McKee', *lists, [], 0, *[size + 1 + draw.below(9) for size in due], 2)
+    """A.3: each of the four lists exact, long and short."""
+    for graph in [counted(draw, lists) for lists in with_orders(draw, count)]:
+        due = run_lengths(graph)
+        yield Case('order', 'reverse Cuthill-McKee', *graph, [], 0, *due)
+        yield Case('order', 'reverse Cuthill-McKee', *graph, [], 0, *[size + 1 + draw.below(9) for size in due], 2)
         for at in range(4):
-            yield Case('order', 'reverse Cuthill-McKee', *lists, [], 0, *due[:at], due[at] - 1, *due[at + 1:])
+            yield Case('order', 'reverse Cuthill-McKee', *graph, [], 0, *due[:at], due[at] - 1, *due[at + 1:])
 
 
 def cuthill_stores(draw, count):
-    """A.3 and then the elimination: just enough bytes, more, and one less; each of the four lists short; an adjacency that is none."""
+    """A.3 and then the elimination: just enough bytes, more, and one less; each of the four lists short; an adjacency that is none; wrong counts."""
     call = 'reverse Cuthill-McKee and eliminate'
-    fixed = [from_edges(n, edges) for _, n, edges, *_ in cuthill_cases.WORKED_ORDERS] + [from_edges(*shapes.grid(7, 4, True))]
-    for lists in fixed + list(with_names_changed(draw, count)):
-        due, need = run_lengths(lists), run_byte_count(lists, calls.reverse_cuthill_mckee)
-        yield Case('store of an order', call, *lists, [], 0, *due, need)
-        yield Case('store of an order', call, *lists, [], 0, *[size + 1 + draw.below(9) for size in due], need + 2)
-        yield Case('store of an order', call, *lists, [], 0, *due, max(0, need - 1))
-        at = draw.below(4)
-        yield Case('store of an order', call, *lists, [], 0, *due[:at], due[at] - 1, *due[at + 1:], need)
-        yield Case('store of an order', call, *damaged(draw, *lists), [], 0, *due, need)
+    for graph in [counted(draw, lists) for lists in with_orders(draw, count)]:
+        due, need = run_lengths(graph), run_byte_count(graph, calls.reverse_cuthill_mckee)
+        yield Case('store of an order', call, *graph, [], 0, *due, need)
+        yield Case('store of an order', call, *graph, [], 0, *[size + 1 + draw.below(9) for size in due], need + 2)
+        yield Case('store of an order', call, *graph, [], 0, *due, max(0, need - 1))
+        yield Case('store of an order', call, *graph, [], 0, *one_short(draw, due, due), need)
+        yield Case('store of an order', call, *damaged(draw, *graph[:2]), graph[2], [], 0, *due, need)
+        yield Case('store of an order', call, *miscounted(draw, graph), [], 0, *due, need)
 
 
 def connected_graphs(draw, count):
@@ -488,52 +523,58 @@ def connected_graphs(draw, count):
 
 
 def full_stores(draw, count):
-    """A.12: the elimination by numbers worked with pencil, and by A.3's turned back, on connected graphs; bytes exact, long and one short."""
-    made = [('worked store', from_edges(*graph), numbers) for _, graph, numbers, *_ in idle_cases.WORKED_STORES]
-    made += [('full store', lists, idle_cases.numbers_before_turning(lists)) for lists in connected_graphs(draw, count)]
-    for kind, lists, numbering in made:
-        n, need = len(numbering), byte_count(lists, numbering)
-        yield Case(kind, 'elimination', *lists, numbering, 0, n, bytes=need)
-        yield Case(kind, 'elimination', *lists, numbering, 0, n + 1 + draw.below(9), 3, bytes=need + 1 + draw.below(9))
+    """A.12: the elimination by numbers worked with pencil, with one unknown a node, and by A.3's turned back, on connected graphs, with any counts,
+    as the store is full by unknowns too; bytes exact, long and one short."""
+    made = [('worked store', (*from_edges(*graph), ones(graph[0])), numbers) for _, graph, numbers, *_ in idle_cases.WORKED_STORES]
+    made += [('full store', counted(draw, lists), idle_cases.numbers_before_turning(lists)) for lists in connected_graphs(draw, count)]
+    for kind, graph, numbering in made:
+        n, need = len(numbering), byte_count(graph, numbering)
+        yield Case(kind, 'elimination', *graph, numbering, 0, n, bytes=need)
+        yield Case(kind, 'elimination', *graph, numbering, 0, n + 1 + draw.below(9), 3, bytes=need + 1 + draw.below(9))
         if need > 0:
-            yield Case(kind, 'elimination', *lists, numbering, 0, n, bytes=need - 1)
+            yield Case(kind, 'elimination', *graph, numbering, 0, n, bytes=need - 1)
 
 
 def illegal(draw, count):
     for _ in range(count):
         lists = random_graph(draw, 1 + draw.below(9))
         if draw.chance(0.4):
-            yield from on_illegal(draw, lopsided(draw, *lists))
+            yield from on_illegal(draw, counted(draw, lopsided(draw, *lists)))
         else:
             lists = damaged(draw, *lists)
-            yield from on_illegal(draw, damaged(draw, *lists) if draw.chance(0.3) else lists)
+            yield from on_illegal(draw, counted(draw, damaged(draw, *lists) if draw.chance(0.3) else lists))
 
 
 def limits(draw):
-    """n and the entries at their limits: lists that are empty, 4,096 and 4,097 nodes, 32,768 and more entries."""
+    """n and the entries at their limits: lists that are empty, 4,096 and 4,097 nodes, 32,768 and more entries; six unknowns of each of 4,096."""
     kind = 'limits'
     for starts in ([], [0], [5], [0] * 4097, [0] * 4098):
         n = max(0, len(starts) - 1)
-        given = list(range(1, n + 1)) if n <= 4096 else []
-        yield Case(kind, 'adjacency test', starts, [], [], 0)
-        yield Case(kind, 'rooted levels', starts, [], [], 1, n, n)
-        yield Case(kind, 'ends', starts, [], [], 1, scratch_words(n))
-        yield Case(kind, 'measures', starts, [], given, 0, n)
-        yield Case(kind, 'elimination', starts, [], given, 0, n)
+        graph, given = (starts, [], ones(n)), list(range(1, n + 1)) if n <= 4096 else []
+        yield Case(kind, 'adjacency test', *graph, [], 0)
+        yield Case(kind, 'rooted levels', *graph, [], 1, n, n)
+        yield Case(kind, 'ends', *graph, [], 1, scratch_words(n))
+        yield Case(kind, 'part report', *graph, [], 1, scratch_words(n))
+        yield Case(kind, 'measures', *graph, given, 0, n)
+        yield Case(kind, 'elimination', *graph, given, 0, n, bytes=byte_count(graph, given))
         for call in RUNS:
-            yield Case(kind, call, starts, [], [], 0, n, n, n, scratch_words(n))
+            yield Case(kind, call, *graph, [], 0, n, n, n, scratch_words(n))
+    six = [MOST] * 4096
     path = from_edges(*shapes.path(4096))
     for root in (1, 2048, 4096):
-        yield Case(kind, 'rooted levels', *path, [], root, 4096, 4096)
-    yield Case(kind, 'ends', *path, [], 77, scratch_words(4096) + 2)
-    yield Case(kind, 'combined levels', *path, [], 77, 4096, scratch_words(4096))
-    yield Case(kind, 'run and eliminate', *path, [], 0, *run_lengths(path), 512)
-    yield Case(kind, 'reverse Cuthill-McKee', *path, [], 0, *run_lengths(path))
+        yield Case(kind, 'rooted levels', *path, [], [], root, 4096, 4096)
+    yield Case(kind, 'ends', *path, [], [], 77, scratch_words(4096) + 2)
+    yield Case(kind, 'combined levels', *path, [], [], 77, 4096, scratch_words(4096))
+    yield Case(kind, 'part report', *path, six, [], 77, scratch_words(4096))
+    yield Case(kind, 'run and eliminate', *path, ones(4096), [], 0, *run_lengths(path), 512)
+    yield Case(kind, 'reverse Cuthill-McKee', *path, six, [], 0, *run_lengths(path))
+    # the greatest figures: every unknown reaches back to 1
+    yield Case(kind, 'measures', *from_edges(*shapes.star(4096)), six, list(range(1, 4097)), 0, 4096)
     ring = from_edges(*shapes.band(4096, 4))
-    yield Case(kind, 'adjacency test', *ring, [], 0)
+    yield Case(kind, 'adjacency test', *ring, [], [], 0)
     for call in ('whole run', 'reverse Cuthill-McKee'):
-        yield Case(kind, call, *ring, [], 0, 4096, 4099, 4096, scratch_words(4096))
-    yield Case(kind, 'adjacency test', [0, 32769], [1] * 32769, [], 0)
+        yield Case(kind, call, *ring, ones(4096), [], 0, 4096, 4099, 4096, scratch_words(4096))
+    yield Case(kind, 'adjacency test', [0, 32769], [1] * 32769, [], [], 0)
 
 
 # Cases of the mesh.
@@ -556,13 +597,13 @@ def meshes(draw, count):
         words = [word for _ in range(draw.below(8)) for word in element(draw, max(1, n))]
         if words and draw.chance(0.1):
             words = words[:-1 - draw.below(2)]
-        yield Case('mesh', 'mesh', [], [], words, n, lent(draw, n + 1), lent(draw, 32768), lent(draw, n))
+        yield Case('mesh', 'mesh', [], [], [], words, n, lent(draw, n + 1), lent(draw, 32768), lent(draw, n))
 
 
 def collapsed_meshes():
     """Elements that have a node more than once, or a number that is no node."""
     for n, made in list(elements.collapsed()) + list(elements.no_node_twice()):
-        yield Case('collapsed mesh', 'mesh', [], [], sum(made, []), n, n + 1, 32768, n)
+        yield Case('collapsed mesh', 'mesh', [], [], [], sum(made, []), n, n + 1, 32768, n)
 
 
 def full_meshes():
@@ -570,13 +611,13 @@ def full_meshes():
     for blocks, pairs in ((364, 3), (364, 4), (364, 5), (365, 0)):
         words = [word for b in range(blocks) for word in [10] + list(range(10 * b + 1, 10 * b + 11))]
         words += [word for p in range(pairs) for word in (1, 4000 + 2 * p, 4001 + 2 * p)]
-        yield Case('mesh', 'mesh', [], [], words, 4096, 4097, 32768, 4096)
+        yield Case('mesh', 'mesh', [], [], [], words, 4096, 4097, 32768, 4096)
 
 
 def long_meshes():
     """Lists of elements longer than 65,535 words: accepted, and with a fault in the last element; quadrilaterals with one corner twice."""
     bars = [word for i in range(23000) for word in (1, 1 + i % 4095, 2 + i % 4095)]
     quadrilaterals = [word + i % 4094 if at else word for i in range(13500) for at, word in enumerate((3, 1, 2, 3, 1 + i % 3))]
-    yield Case('mesh', 'mesh', [], [], quadrilaterals, 4096, 4097, 32768, 4096)
+    yield Case('mesh', 'mesh', [], [], [], quadrilaterals, 4096, 4097, 32768, 4096)
     for last in ([1, 1, 3], [1, 3, 3], [1, 3, 4097], [0, 1, 3], [1, 1]):
-        yield Case('mesh', 'mesh', [], [], bars + last, 4096, 4097, 32768, 4096)
+        yield Case('mesh', 'mesh', [], [], [], bars + last, 4096, 4097, 32768, 4096)

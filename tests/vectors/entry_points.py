@@ -7,7 +7,8 @@
   entry_points.py --run N --seed S    run target/bin/test_calls on all graphs of up to 5 nodes at every node and under every numbering, N random
                                       graphs of up to 40 nodes at every node, N of up to 60 nodes, N graphs with several passes or
                                       pieces, N / 10 of up to 1,000 nodes, graphs of full size, N illegal adjacencies, N meshes,
-                                      N / 10 stores of each of a few sizes and N graphs of parts with other passes, and compare
+                                      N / 10 stores of each of a few sizes, N graphs of parts with other passes and N / 10 that
+                                      their counts turn, and compare
 
 A line has the answer, then for each of the four lent lists its words up to the last that isn't as it was lent, then the lent bytes. All
 expected lines come from tests/reference.
@@ -20,6 +21,7 @@ TOP = os.path.dirname(os.path.dirname(os.path.dirname(os.path.abspath(__file__))
 sys.path[:0] = [os.path.join(TOP, 'tests', part) for part in ('reference', 'definitions', 'vectors')]
 
 import cases
+import counted_cases
 from vectors import Draw, differences, keep, options, tally
 
 CRATE = os.path.join(TOP, 'crates', 'test_calls')
@@ -31,22 +33,22 @@ def selection():
     draw = Draw(1976)
     return (list(cases.small(draw, 1, 4)) + list(cases.some_of_five(draw, 40)) + list(cases.of_table(draw)) + list(cases.telling(draw, 120))
             + list(cases.at_random(draw, 20, 3)) + list(cases.runs_at_random(draw, 16)) + list(cases.illegal(draw, 350))
-            + list(cases.limits(draw)) + list(cases.of_many_parts()) + list(cases.meshes(draw, 250)) + list(cases.collapsed_meshes())
+            + list(cases.limits(draw)) + list(cases.of_many_parts(draw)) + list(cases.meshes(draw, 250)) + list(cases.collapsed_meshes())
             + list(cases.full_meshes()) + list(cases.store_sizes(draw, 3)) + list(cases.scratch_sizes(draw)) + list(cases.level_sizes(draw))
             + list(cases.pass_counts(draw, 30)) + list(cases.cuthill_orders(draw, 30)) + list(cases.cuthill_stores(draw, 30))
-            + list(cases.full_stores(draw, 16)))
+            + list(cases.full_stores(draw, 16)) + list(counted_cases.unknowns(draw, 20)))
 
 
 def many(count, seed):
     """What is run by hand."""
     draw = Draw(seed)
-    return (list(cases.small(draw, 1, 5)) + list(cases.every_numbering(1, 5)) + list(cases.of_table(draw)) + list(cases.telling(draw, count))
+    return (list(cases.small(draw, 1, 5)) + list(cases.every_numbering(draw, 1, 5)) + list(cases.of_table(draw)) + list(cases.telling(draw, count))
             + list(cases.at_random(draw, count, 40)) + list(cases.runs_at_random(draw, count)) + list(cases.large(draw, count // 10))
-            + list(cases.illegal(draw, count)) + list(cases.limits(draw)) + list(cases.of_many_parts()) + list(cases.of_full_size(draw))
+            + list(cases.illegal(draw, count)) + list(cases.limits(draw)) + list(cases.of_many_parts(draw)) + list(cases.of_full_size(draw))
             + list(cases.meshes(draw, count)) + list(cases.collapsed_meshes()) + list(cases.full_meshes()) + list(cases.long_meshes())
             + list(cases.store_sizes(draw, count // 10)) + list(cases.scratch_sizes(draw)) + list(cases.level_sizes(draw))
             + list(cases.pass_counts(draw, count)) + list(cases.cuthill_orders(draw, count // 10)) + list(cases.cuthill_stores(draw, count // 10))
-            + list(cases.full_stores(draw, count // 10)))
+            + list(cases.full_stores(draw, count // 10)) + list(counted_cases.unknowns(draw, count // 10)))
 
 
 def report(made):

@@ -7,7 +7,7 @@
   files.py --run N --seed S    run target/bin/test_reading on N random files and N damaged ones, and compare
 
 The input has for each file its length, four bytes low byte first, and its bytes. A line has 'accepted' and the entry count or 'refused' and the
-number, then for each of the four lent lists (words, starts, neighbours, scratch) its words up to the last that isn't as it was lent. All
+number, then for each of the five lent lists (words, starts, neighbours, scratch, counts) its words up to the last that isn't as it was lent. All
 expected lines come from tests/reference.
 """
 
@@ -18,30 +18,33 @@ TOP = os.path.dirname(os.path.dirname(os.path.dirname(os.path.abspath(__file__))
 sys.path[:0] = [os.path.join(TOP, 'tests', part) for part in ('reference', 'vectors')]
 
 import calls
+from count_lists import all_wrong_counts, counts_of, wrong_counts
 from elements import collapsed, element, no_node_twice
-from listing import element_refusal, header_refusal, nodes_of_file, words_after_header
+from listing import count_refusal, counts_of_file, element_refusal, header_refusal, nodes_of_file, words_of_elements
 from mesh import NODE_COUNT
+from unknowns import MOST, ones
 from vectors import Draw, answer_text, changed, differences, keep, number, of_words, options, pattern, shown, tally
 
 CRATE = os.path.join(TOP, 'crates', 'test_reading')
 PROGRAM = os.path.join(TOP, 'target', 'bin', 'test_reading')
 
 # How many words the program lends: some more than any file needs.
-LENT = (35000, 4100, 32780, 4100)
+LENT = (35000, 4100, 32780, 4100, 4100)
 
 
 # What is expected.
 
-def read(file, words, starts, neighbours, scratch):
-    """The program's steps up to the two lists; 5 can't be, as enough is lent."""
-    refusal = header_refusal(file)
+def read(file, words, starts, neighbours, scratch, counts):
+    """The program's steps up to the two lists and the counts; 5 can't be, as enough is lent."""
+    refusal = header_refusal(file) or count_refusal(file)
     if refusal:
         return calls.refused(refusal)
-    calls.put(words, words_after_header(file))
+    calls.put(counts, counts_of_file(file))
+    calls.put(words, words_of_elements(file))
     refusal = element_refusal(file)
     if refusal:
         return calls.refused(refusal)
-    return calls.mesh(nodes_of_file(file), words_after_header(file), starts, neighbours, scratch)
+    return calls.mesh(nodes_of_file(file), words_of_elements(file), starts, neighbours, scratch)
 
 
 def expected(file):
@@ -57,9 +60,11 @@ def header(n, count, mark=b'GRD', version=1):
     return mark + of_words([version, n, count])
 
 
-def file_of(n, elements, **words):
-    """A file of the elements, each a kind and its nodes."""
-    return header(n, len(elements), **words) + b''.join(of_words(element) for element in elements)
+def file_of(n, elements, counts=None, **words):
+    """A file of the elements, each a kind and its nodes; with counts, of version 2."""
+    if counts is not None:
+        words = dict({'version': 2}, **words)
+    return header(n, len(elements), **words) + of_words(counts or []) + b''.join(of_words(element) for element in elements)
 
 
 def bars(edges):
@@ -69,11 +74,15 @@ def bars(edges):
 SAMPLE = file_of(5, bars([(1, 2), (1, 4), (2, 3), (3, 5)]))
 MIXED = file_of(10, [[10, 3, 1, 4, 10, 5, 9, 2, 6, 8, 7], [2, 10, 1, 9], [9, 1, 2, 3, 4, 5, 6, 7, 8]])
 ALONE = file_of(3, [])
+# In version 2, the last with a pyramid.
+COUNTED = file_of(5, bars([(1, 2), (1, 4), (2, 3), (3, 5)]), [3, 1, 6, 1, 2])
+PYRAMID = file_of(6, [[5, 6, 1, 4, 2, 3], [1, 5, 5]], [6, 5, 4, 3, 2, 1])
 
 
 def changed_bytes():
-    for file in (SAMPLE, MIXED):
-        for at in range(len(file)):
+    """Each byte; of the file of version 2 those of its header and its counts."""
+    for file, size in ((SAMPLE, len(SAMPLE)), (MIXED, len(MIXED)), (COUNTED, 9 + 2 * 5)):
+        for at in range(size):
             old = file[at]
             values = {0, 1, 4, 6, 9, 11, 255, (old + 1) % 256, (old - 1) % 256, old ^ 128}
             for value in sorted(values - {old}):
@@ -81,13 +90,13 @@ def changed_bytes():
 
 
 def truncations():
-    for file in (SAMPLE, MIXED, ALONE):
+    for file in (SAMPLE, MIXED, ALONE, COUNTED, PYRAMID):
         for size in range(len(file)):
             yield file[:size]
 
 
 def extensions():
-    for file in (SAMPLE, MIXED, ALONE):
+    for file in (SAMPLE, ALONE, PYRAMID):
         yield file
         for value in (0, 1, 255):
             for size in range(1, 9):
@@ -96,9 +105,9 @@ def extensions():
         yield file + of_words([1, 1, 3, 0])
 
 
-def counts():
+def element_counts():
     """Wrong and right element counts."""
-    for file in (SAMPLE, MIXED, ALONE):
+    for file in (SAMPLE, MIXED, ALONE, COUNTED):
         for count in list(range(10)) + [255, 256, 1025, 65535]:
             yield file[:7] + of_words([count]) + file[9:]
 
@@ -139,6 +148,7 @@ def sizes():
     """n at the limits, with and without elements that reach to it."""
     for n in (0, 1, 2, 255, 256, 257, 4095, 4096, 4097, 4352, 32768, 65535):
         yield file_of(n, [])
+        yield file_of(n, [], ones(min(n, 4097)))
         yield file_of(n, bars([(1, 2)]))
         yield file_of(n, bars([(1, n)]))
         yield file_of(n, bars([(n, 1), (max(n, 1) - 1, n)]))
@@ -172,6 +182,32 @@ def orders():
             for n in (5, 0, 4097):
                 for elements, more in BODIES:
                     yield file_of(n, elements, mark=mark, version=version) + more
+    for version in (2, 3):
+        for counts in (ones(5), [1, 1, 7, 1, 1], ones(4)):
+            for elements, more in BODIES:
+                yield file_of(5, elements, counts, version=version) + more
+
+
+def unknowns():
+    """A.6, version 2: each count at each node, wrong lists before elements that are right and wrong, cut at each byte of the counts."""
+    for node in range(3):
+        for count in (0, 1, 2, 6, 7, 8, 255, 256, 257, 262, 65535):
+            yield file_of(3, bars([(1, 2)]), [count if p == node else 1 for p in range(3)])
+    for counts in all_wrong_counts(4):
+        for elements in ([], bars([(1, 4)]), [[11]], [[1, 0, 5]], [[5, 1, 2, 3, 4, 4]]):
+            yield file_of(4, elements, counts)
+    for counts in ([2, 3, 6], [7, 3, 6], [2, 0, 6], [0, 0, 0]):
+        for count in (0, 1, 65535):
+            whole = header(3, count, version=2) + of_words(counts)
+            for size in range(9, len(whole) + 1):
+                yield whole[:size]
+    # n at its limits; in the last three the counts end the file, one of them is wrong, and they are one too few
+    for n in (1, 255, 256, 4095, 4096):
+        six = [MOST] * n
+        yield file_of(n, bars([(1, n)]), six)
+        yield file_of(n, [], six[:-1] + [1])
+        yield file_of(n, [], six[:-1] + [7])
+        yield file_of(n, bars([(1, n)]), six[:-1])
 
 
 def grid_blocks():
@@ -216,6 +252,11 @@ def full():
     yield file_of(4096, over + [[1, 7, 0]])
     yield file_of(4096, over + [[0, 7, 7]])
     yield file_of(4096, over + [[1, 7, 7]])
+    # in version 2; 15 comes before 11
+    counts = [1 + p % MOST for p in range(4096)]
+    yield file_of(4096, most, counts)
+    yield file_of(4096, over, counts)
+    yield file_of(4096, over, counts[1:] + [0])
 
 
 def long():
@@ -226,13 +267,21 @@ def long():
     yield most[:-1]
     yield most + b'\0'
     yield file_of(4096, bars(edges[:-1]) + [[1, 5, 4097]])
+    # 8,192 bytes of counts leave room for 9,555 bars and two words
+    counted = file_of(4096, bars(edges[:9555]), [6] * 4096)
+    yield counted
+    yield counted + bytes(65535 - len(counted))
     yield header(4096, 0) + bytes(65536 - 9)
     yield header(4096, 0)[:8] + bytes(70000 - 8)
 
 
 def mesh_file(draw):
+    """Of version 1 or 2; now and then with wrong counts."""
     n = 1 + draw.below(40)
-    return file_of(n, [element(draw, n) for _ in range(draw.below(9))])
+    counts = None if draw.chance(0.5) else counts_of(draw, n)
+    if counts is not None and draw.chance(0.1):
+        counts = wrong_counts(draw, counts)
+    return file_of(n, [element(draw, n) for _ in range(draw.below(9))], counts)
 
 
 def random_valid(draw, count):
@@ -242,7 +291,7 @@ def random_valid(draw, count):
 
 def large_valid(draw):
     for n, count in ((200, 300), (1000, 700), (4096, 500), (100, 1500)):
-        yield file_of(n, [element(draw, n) for _ in range(count)])
+        yield file_of(n, [element(draw, n) for _ in range(count)], None if n == 200 else counts_of(draw, n))
 
 
 def damaged(draw, file):
@@ -274,10 +323,11 @@ def random_damaged(draw, count):
 def all_files():
     """Pairs of a kind of vector and a file."""
     draw = Draw(1976)
-    made = [('byte changed', changed_bytes()), ('truncated', truncations()), ('extended', extensions()), ('element count', counts()),
+    made = [('byte changed', changed_bytes()), ('truncated', truncations()), ('extended', extensions()), ('element count', element_counts()),
             ('kind', kinds()), ('node', wrong_nodes()), ('repeated node', repeated_nodes()), ('n', sizes()), ('two faults', orders()),
-            ('entries', full()), ('length', long()), ('random valid', random_valid(draw, 500)), ('large valid', large_valid(draw)),
-            ('random damaged', random_damaged(draw, 700))]
+            ('counts', unknowns()),
+            ('entries', full()), ('length', long()), ('random valid', random_valid(draw, 400)), ('large valid', large_valid(draw)),
+            ('random damaged', random_damaged(draw, 500))]
     return [(kind, file) for kind, files in made for file in files]
 
 
