@@ -148,8 +148,29 @@ static inline u32 first_of(const u16 *starts, const u16 *neighbours, const u16 *
   return first;
 }
 
-// The bandwidth is the greatest q - f_q. The front at i is the count of the f_q up to i less the numbers passed.
-void bare_measures(const u16 *starts, const u16 *neighbours, u32 n, const u16 *numbering, u16 *scratch, u64 *figures) {
+// 15: the greatest count, or 0 where there are not n counts of 1 to 6.
+u32 most_unknowns(const u16 *counts, size_t length, u32 n) {
+  if (length != n) return 0;
+  u16 most = 0;
+  bool out = false;
+  for (u32 i = 0; i < n; i++) {
+    out |= u16(counts[i] - 1) >= MAX_UNKNOWNS;
+    most = std::max(most, counts[i]);
+  }
+  return out ? 0 : most;
+}
+
+struct Measures {
+  u32 bandwidth, profile, front;
+  void write(u64 *figures) const {
+    figures[0] = bandwidth;
+    figures[1] = profile;
+    figures[2] = front;
+  }
+};
+
+// One unknown each. The bandwidth is the greatest q - f_q. The front at i is the count of the f_q up to i less the numbers passed.
+static Measures measures_in_nodes(const u16 *starts, const u16 *neighbours, u32 n, const u16 *numbering, u16 *scratch) {
   u32 bandwidth = 0, profile = 0, front = 0, live = 0;
   clear(scratch, n);
   for (u32 p = 0; p < n; p++) {
@@ -163,26 +184,76 @@ void bare_measures(const u16 *starts, const u16 *neighbours, u32 n, const u16 *n
     front = std::max(front, live);
     live--;
   }
-  figures[0] = bandwidth;
-  figures[1] = profile;
-  figures[2] = front;
+  return {bandwidth, profile, front};
 }
 
-u16 measures(const u16 *starts, size_t starts_len, const u16 *neighbours, size_t neighbours_len, const u16 *numbering,
-                  size_t numbering_len, u16 *scratch, size_t scratch_len, u64 *figures, size_t figures_len) {
+struct Reach {
+  u32 bandwidth, profile;
+};
+
+// The scratch word of each number becomes the count of the unknowns before its own. The first unknown of all that a node has is that of the least
+// number around it.
+static Reach reach_in_unknowns(const u16 *starts, const u16 *neighbours, u32 n, const u16 *numbering, const u16 *counts, u16 *scratch) {
+  for (u32 p = 0; p < n; p++) scratch[numbering[p] - 1] = counts[p];
+  for (u32 x = 0, before = 0; x < n; x++) {
+    const u32 count = scratch[x];
+    scratch[x] = u16(before);
+    before += count;
+  }
+  u32 bandwidth = 0, profile = 0;
+  for (u32 p = 0; p < n; p++) {
+    const u32 first = first_of(starts, neighbours, numbering, p), count = counts[p];
+    const u32 reach = u32(scratch[numbering[p] - 1]) - scratch[first - 1];
+    profile += count * reach + own_pairs(count);
+    bandwidth = std::max(bandwidth, reach + count - 1);
+  }
+  return {bandwidth, profile};
+}
+
+// The front is greatest at the first unknown of a number. From one number to the next it changes by the unknowns that begin to be held less those
+// that are passed.
+static u32 front_in_unknowns(const u16 *starts, const u16 *neighbours, u32 n, const u16 *numbering, const u16 *counts, u16 *scratch) {
+  clear(scratch, n);
+  for (u32 p = 0; p < n; p++) {
+    const u32 first = first_of(starts, neighbours, numbering, p), next = numbering[p];
+    scratch[first - 1] = u16(scratch[first - 1] + counts[p]);
+    if (next < n) scratch[next] = u16(scratch[next] - counts[p]);
+  }
+  int live = 0, front = 0;
+  for (u32 x = 0; x < n; x++) {
+    live += int16_t(scratch[x]);
+    front = std::max(front, live);
+  }
+  return u32(front);
+}
+
+static Measures measures_in_unknowns(const u16 *starts, const u16 *neighbours, u32 n, const u16 *numbering, const u16 *counts, u16 *scratch) {
+  const Reach found = reach_in_unknowns(starts, neighbours, n, numbering, counts, scratch);
+  return {found.bandwidth, found.profile, front_in_unknowns(starts, neighbours, n, numbering, counts, scratch)};
+}
+
+void bare_measures(const u16 *starts, const u16 *neighbours, const u16 *counts, u32 n, const u16 *numbering, u16 *scratch, u64 *figures) {
+  const Measures found = most_unknowns(counts, n, n) == 1 ? measures_in_nodes(starts, neighbours, n, numbering, scratch)
+                                                          : measures_in_unknowns(starts, neighbours, n, numbering, counts, scratch);
+  found.write(figures);
+}
+
+u16 measures(const u16 *starts, size_t starts_len, const u16 *neighbours, size_t neighbours_len, const u16 *counts, size_t counts_len,
+             const u16 *numbering, size_t numbering_len, u16 *scratch, size_t scratch_len, u64 *figures, size_t figures_len) {
   if (u16 refusal = test_adjacency(starts, starts_len, neighbours, neighbours_len)) return refusal;
   const u32 n = u32(starts_len - 1);
   if (scratch_len < n || figures_len < 3) return 5;
+  if (most_unknowns(counts, counts_len, n) == 0) return 15;
   if (!is_numbering(numbering, numbering_len, n, scratch)) return 7;
-  bare_measures(starts, neighbours, n, numbering, scratch, figures);
+  bare_measures(starts, neighbours, counts, n, numbering, scratch, figures);
   clear(scratch, n);
   return 0;
 }
 
-// Row q of the factor is what the lower neighbours of q reach by going from each number to its parent, the first number above it that it is
-// joined to. The marks tell which are reached. The scratch word of a number holds its node until its row is made, then its parent.
-void bare_eliminate(const u16 *starts, const u16 *neighbours, u32 n, const u16 *numbering, u16 *scratch, u8 *bytes, size_t bytes_len,
-                    u64 *figures) {
+// One unknown each. Row q of the factor is what the lower neighbours of q reach by going from each number to its parent, the first number above it
+// that it is joined to. The marks tell which are reached. The scratch word of a number holds its node until its row is made, then its parent.
+static void eliminate_nodes(const u16 *starts, const u16 *neighbours, u32 n, const u16 *numbering, u16 *scratch, u8 *bytes, size_t bytes_len,
+                            u64 *figures) {
   memset(bytes, 0, bytes_len);
   for (u32 p = 0; p < n; p++) scratch[numbering[p] - 1] = u16(p + 1);
   u32 start = 0, marked = 0;
@@ -212,19 +283,162 @@ void bare_eliminate(const u16 *starts, const u16 *neighbours, u32 n, const u16 *
   figures[1] = marked - starts[n] / 2u;
 }
 
-u16 eliminate(const u16 *starts, size_t starts_len, const u16 *neighbours, size_t neighbours_len, const u16 *numbering,
-                   size_t numbering_len, u16 *scratch, size_t scratch_len, u8 *bytes, size_t bytes_len, u64 *figures, size_t figures_len) {
+// Bits laid one behind the other to the end of the bytes.
+struct Bits {
+  u8 *at, *end;
+  u64 pending;  // what is not stored yet, or only in part
+  u32 count;    // of it, below 8 but within a row that is read ahead
+
+  // Up to 56. What stands in the next eight bytes is lost.
+  void put(u64 bits, u32 length) {
+    pending |= bits << count;
+    count += length;
+    settle();
+  }
+
+  void settle() {
+    if (end - at >= 8) {
+      memcpy(at, &pending, 8);
+    } else {
+      for (u32 i = 0; 8 * i < count; i++) at[i] = u8(pending >> (8 * i));
+    }
+    at += count / 8;
+    pending >>= count & ~7u;
+    count &= 7;
+  }
+
+  // Up to 8, between two settlings. What stands ahead is kept: seven bytes are stored where there are seven.
+  void put_gently(u64 bits, u32 length) {
+    pending |= bits << count;
+    count += length;
+    if (count < 56) return;
+    memcpy(at, &pending, 7);
+    at += 7;
+    pending >>= 56;
+    count -= 56;
+  }
+};
+
+static inline u64 ones(u32 count) { return (u64(1) << count) - 1; }
+
+// At least 57 bits from bit t on, as far as there are so many.
+static inline u64 bits_from(const u8 *bytes, const u8 *end, u32 t) {
+  const u8 *at = bytes + t / 8;
+  u64 bits = 0;
+  if (end - at >= 8) {
+    memcpy(&bits, at, 8);
+  } else {
+    for (u32 i = 0; at + i < end; i++) bits |= u64(at[i]) << (8 * i);
+  }
+  return bits >> (t % 8);
+}
+
+// In unknowns the scratch word of a number, here from 0 on, holds its node from 0 on, and once its row is made its parent, 0 for none; above that its
+// count of unknowns.
+static const u32 INDEX = 0xFFF, COUNT = 12;
+
+static inline u32 count_in(u32 word) { return word >> COUNT; }
+
+// Rows of the unknowns of one number. Of its row of nodes the bits stand from `marks` on, in these same bytes: at their end, so that they are read
+// before their place is taken. Each bit becomes as many as its number has unknowns; that row of `width` bits comes `count` times, each time with
+// one more of the pairs of the number's own unknowns.
+static void lay_rows(Bits &to, const u8 *bytes, u32 start, u32 marks, const u16 *words, u32 length, u32 width, u32 count) {
+  auto spread = [&](u32 i) {
+    const u32 t = marks + i;
+    return bytes[t / 8] >> (t % 8) & 1 ? ones(count_in(words[i])) : 0;
+  };
+  if (width + MAX_UNKNOWNS <= 56) {
+    u64 row = 0;
+    for (u32 i = 0, at = 0; i < length; at += count_in(words[i++])) row |= spread(i) << at;
+    for (u32 j = 0; j < count; j++) to.put(row | ones(j) << width, width + j);
+    return;
+  }
+  for (u32 i = 0; i < length; i++) to.put_gently(spread(i), count_in(words[i]));
+  to.settle();
+  for (u32 j = 1; j < count; j++) {
+    for (u32 done = 0; done < width; done += 56) {  // 56 bits at a time from the first row
+      const u32 some = std::min(width - done, 56u);
+      to.put(bits_from(bytes, to.end, start + done) & ones(some), some);
+    }
+    to.put(ones(j), j);
+  }
+}
+
+// Unknowns: eliminated on the nodes, since the pairs of two nodes are all joined or none, and each row laid out in unknowns as soon as it is made.
+static void eliminate_unknowns(const u16 *starts, const u16 *neighbours, u32 n, const u16 *numbering, const u16 *counts, u16 *scratch, u8 *bytes,
+                               size_t bytes_len, u64 *figures) {
+  for (u32 p = 0; p < n; p++) scratch[numbering[p] - 1] = u16(counts[p] << COUNT | p);
+  Bits to = {bytes, bytes + bytes_len, 0, 0};
+  u32 start = 0, marked = 0, joined = 0;
+  for (u32 q = 0; q < n; q++) {
+    const u32 node = scratch[q] & INDEX, count = count_in(scratch[q]);
+    scratch[q] &= u16(~INDEX);
+    const u32 first = first_of(starts, neighbours, numbering, node) - 1, length = q - first;
+    u32 width = 0, reached = 0, lower = 0;
+    for (u32 p = first; p < q; p++) width += count_in(scratch[p]);
+    const u32 end = start + count * width + own_pairs(count), marks = end - length;
+    if (length) memset(bytes + marks / 8, 0, (end - 1) / 8 - marks / 8 + 1);
+    for (u32 k = starts[node]; k < starts[node + 1]; k++) {
+      u32 p = numbering[neighbours[k] - 1] - 1u;
+      if (p < q) lower += count_in(scratch[p]);
+      while (p < q) {
+        const u32 t = marks + p - first;
+        const u8 bit = u8(1u << (t % 8));
+        if (bytes[t / 8] & bit) break;
+        bytes[t / 8] |= bit;
+        reached += count_in(scratch[p]);
+        const u32 parent = scratch[p] & INDEX;
+        if (parent == 0) {
+          scratch[p] |= u16(q);
+          break;
+        }
+        p = parent;
+      }
+    }
+    lay_rows(to, bytes, start, marks, scratch + first, length, width, count);
+    marked += count * reached + own_pairs(count);
+    joined += count * (reached - lower);
+    start = end;
+  }
+  figures[0] = marked;
+  figures[1] = joined;
+}
+
+static void eliminate_by(u32 most, const u16 *starts, const u16 *neighbours, const u16 *counts, u32 n, const u16 *numbering, u16 *scratch,
+                         u8 *bytes, size_t bytes_len, u64 *figures) {
+  if (most == 1) {
+    eliminate_nodes(starts, neighbours, n, numbering, scratch, bytes, bytes_len, figures);
+  } else {
+    eliminate_unknowns(starts, neighbours, n, numbering, counts, scratch, bytes, bytes_len, figures);
+  }
+}
+
+void bare_eliminate(const u16 *starts, const u16 *neighbours, const u16 *counts, u32 n, const u16 *numbering, u16 *scratch, u8 *bytes,
+                    size_t bytes_len, u64 *figures) {
+  eliminate_by(most_unknowns(counts, n, n), starts, neighbours, counts, n, numbering, scratch, bytes, bytes_len, figures);
+}
+
+static u32 profile_in_nodes(const u16 *starts, const u16 *neighbours, u32 n, const u16 *numbering) {
+  u32 profile = 0;
+  for (u32 p = 0; p < n; p++) profile += numbering[p] - first_of(starts, neighbours, numbering, p);
+  return profile;
+}
+
+u16 eliminate(const u16 *starts, size_t starts_len, const u16 *neighbours, size_t neighbours_len, const u16 *counts, size_t counts_len,
+              const u16 *numbering, size_t numbering_len, u16 *scratch, size_t scratch_len, u8 *bytes, size_t bytes_len, u64 *figures,
+              size_t figures_len) {
   if (u16 refusal = test_adjacency(starts, starts_len, neighbours, neighbours_len)) return refusal;
   const u32 n = u32(starts_len - 1);
   if (scratch_len < n || figures_len < 2) return 5;
+  const u32 most = most_unknowns(counts, counts_len, n);
+  if (most == 0) return 15;
   if (!is_numbering(numbering, numbering_len, n, scratch)) return 7;
-  u32 profile = 0;
-  for (u32 p = 0; p < n; p++) profile += numbering[p] - first_of(starts, neighbours, numbering, p);
+  const u32 profile = most == 1 ? profile_in_nodes(starts, neighbours, n, numbering)
+                                : reach_in_unknowns(starts, neighbours, n, numbering, counts, scratch).profile;
   const u32 used = (profile + 7) / 8;
-  if (bytes_len < used) return 8;
-  bare_eliminate(starts, neighbours, n, numbering, scratch, bytes, used, figures);
+  if (bytes_len >= used) eliminate_by(most, starts, neighbours, counts, n, numbering, scratch, bytes, used, figures);
   clear(scratch, n);
-  return 0;
+  return bytes_len >= used ? 0 : 8;
 }
 
 }  // namespace BUILD

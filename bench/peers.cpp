@@ -285,10 +285,10 @@ Result measure(const Peer &peer, const Graph &g, const std::vector<u16> &starts,
   std::sort(times.begin(), times.end());
   Result r = {DONE, double(times[times.size() / 2]), {0, 0, 0}};
   const u32 n = u32(g.rows.size());
-  const std::vector<u16> numbering(numbers.begin(), numbers.end());
+  const std::vector<u16> numbering(numbers.begin(), numbers.end()), counts(n, 1);
   std::vector<u16> scratch(n);
-  if (this_processor::measures(starts.data(), starts.size(), neighbours.data(), neighbours.size(), numbering.data(), numbering.size(),
-                               scratch.data(), n, r.figures, 3))
+  if (this_processor::measures(starts.data(), starts.size(), neighbours.data(), neighbours.size(), counts.data(), n, numbering.data(),
+                               numbering.size(), scratch.data(), n, r.figures, 3))
     r.state = NO_NUMBERING;
   return r;
 }

@@ -7,8 +7,11 @@ BELOW = '## Measured\n'
 
 # Our two orders, by the calls that make them.
 ORDERS = ('whole run', 'reverse Cuthill-McKee')
-CALLS = ('adjacency test', 'rooted levels', 'mesh', 'measures', *ORDERS, 'elimination', 'measures, numbers as given',
-         'elimination, numbers as given')
+# The calls that take counts of unknowns, and what the timing program says of counts that are not all 1.
+COUNTED = ('measures', *ORDERS, 'elimination')
+SORTS = ('mixed unknowns', 'six unknowns each')
+CALLS = ('adjacency test', 'rooted levels', 'mesh', *COUNTED, 'measures, numbers as given', 'elimination, numbers as given',
+         *('%s, %s' % (call, sort) for sort in SORTS for call in COUNTED))
 EACH, MEAN = 2.0, 1.5
 
 
@@ -20,8 +23,16 @@ class Mesh:
         self.peers = {}    # name: nanoseconds, bandwidth, profile, front; or a word
 
 
+class Store:
+    """The largest store, eliminated once: nanoseconds of the proved library and of the C++ for any processor and for this one."""
+
+    def __init__(self, mesh, unknowns, size, marks, *times):
+        self.mesh, self.unknowns, self.size, self.marks, self.times = mesh, unknowns, size, marks, times
+
+
 def read(text):
-    meshes = []
+    """The meshes and the largest store."""
+    meshes, store = [], None
     for line in text.splitlines():
         kind, name, *rest = line.split('\t')
         if kind == 'mesh':
@@ -32,7 +43,9 @@ def read(text):
             meshes[-1].figures[name] = list(map(int, rest))
         elif kind == 'peer':
             meshes[-1].peers[name] = rest[0] if len(rest) == 1 else [float(rest[0])] + list(map(int, rest[1:]))
-    return meshes
+        elif kind == 'store':
+            store = Store(name, *map(int, rest))
+    return meshes, store
 
 
 def rows(head, body):
@@ -77,6 +90,13 @@ def call_table(meshes, call):
     return rows(['mesh', 'proved, µs', 'same job, µs', 'ratio', 'ratio, plain -O3', 'ratio, bare stage'], body)
 
 
+def store_table(store):
+    ours, plain, same = store.times
+    return rows(['mesh', 'unknowns', 'bytes', 'marks', 'proved, µs', 'same job, µs', 'ratio', 'ratio, plain -O3'],
+                [[store.mesh] + ['{:,}'.format(count) for count in (store.unknowns, store.size, store.marks)]
+                 + [micro(ours), micro(same), times(ours / same), times(ours / plain)]])
+
+
 def figures(values):
     return '{:,} / {:,} / {:,}'.format(*values)
 
@@ -111,9 +131,11 @@ def peer_tables(meshes):
     return parts
 
 
-def tables(meshes):
-    parts = ['\nRatios of processor time, the proved library to the same job in C++. Over %g: bold.\n' % EACH, summary(meshes)]
+def tables(meshes, store):
+    parts = ['\nRatios of processor time, the proved library to the same job in C++. Over %g: bold.\n' % EACH,
+             'Each node has one unknown but where a name says otherwise; mixed: node p has 1 + p mod 6.\n', summary(meshes)]
     for call in CALLS:
         parts += ['### %s\n' % (call[0].upper() + call[1:]), call_table(meshes, call)]
+    parts += ['### The largest store\n', 'Of all meshes with their numbers as given; eliminated once.\n', store_table(store)]
     parts += peer_tables(meshes) + ['### Bandwidth, profile and front\n', figure_table(meshes)]
     return '\n'.join(parts)

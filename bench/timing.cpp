@@ -1,6 +1,7 @@
 // timing [--quick] MESH.grd ..: each call of the C interface on each mesh, the proved library against the same job in C++, in one process.
 // First all answers and buffers are compared, also on damaged input: a difference ends the run with status 1. Then each call is timed: medians of
-// the processor time of the thread, the programs taking turns. Lines for table.py go to standard output, their columns split by tabs.
+// the processor time of the thread, the programs taking turns. Calls that take counts of unknowns are so with each sort of them; in the end the
+// largest store is eliminated once. Lines for table.py go to standard output, their columns split by tabs.
 #include "../include/wagonepoch.h"
 #include "jobs.h"
 #include "peers.h"
@@ -54,9 +55,27 @@ struct Lent {
 // What a call is given.
 struct Given {
   size_t n;
-  Words elements, starts, neighbours, numbering;
+  Words elements, starts, neighbours, counts, numbering;
   u16 root;
 };
+
+// The counts of unknowns that the calls are tried with, and what their lines say of them.
+struct Sort {
+  const char *said;
+  u16 (*count)(u32 node);
+};
+static const Sort SORTS[] = {
+    {"", [](u32) { return u16(1); }},
+    {", mixed unknowns", [](u32 node) { return u16(1 + node % 6); }},
+    {", six unknowns each", [](u32) { return u16(6); }},
+};
+
+static Given with_unknowns(const Given &given, const Sort &sort) {
+  Given g = given;
+  g.counts.clear();
+  for (u32 p = 1; p <= g.n; p++) g.counts.push_back(sort.count(p));
+  return g;
+}
 
 // A pointer is never null, also that of an empty list.
 static const u16 *data(const Words &words) {
@@ -78,33 +97,43 @@ static void mesh_job(const Calls &c, const Given &g, Lent &l) {
                     l.scratch.data(), l.scratch.size(), l.figures.data(), l.figures.size());
 }
 static void order_by(decltype(Calls::run) call, const Given &g, Lent &l) {
-  l.answer = call(data(g.starts), g.starts.size(), data(g.neighbours), g.neighbours.size(), l.numbers.data(), l.numbers.size(),
-                  l.levels.data(), l.levels.size(), l.passes.data(), l.passes.size(), l.scratch.data(), l.scratch.size(), l.figures.data(),
-                  l.figures.size());
+  l.answer = call(data(g.starts), g.starts.size(), data(g.neighbours), g.neighbours.size(), data(g.counts), g.counts.size(),
+                  l.numbers.data(), l.numbers.size(), l.levels.data(), l.levels.size(), l.passes.data(), l.passes.size(), l.scratch.data(),
+                  l.scratch.size(), l.figures.data(), l.figures.size());
 }
 static void run_job(const Calls &c, const Given &g, Lent &l) { order_by(c.run, g, l); }
 static void reverse_job(const Calls &c, const Given &g, Lent &l) { order_by(c.reverse_cuthill_mckee, g, l); }
 static void measures_job(const Calls &c, const Given &g, Lent &l) {
-  l.answer = c.measures(data(g.starts), g.starts.size(), data(g.neighbours), g.neighbours.size(), data(g.numbering), g.numbering.size(),
-                        l.scratch.data(), l.scratch.size(), l.figures.data(), l.figures.size());
+  l.answer = c.measures(data(g.starts), g.starts.size(), data(g.neighbours), g.neighbours.size(), data(g.counts), g.counts.size(),
+                        data(g.numbering), g.numbering.size(), l.scratch.data(), l.scratch.size(), l.figures.data(), l.figures.size());
 }
 static void eliminate_job(const Calls &c, const Given &g, Lent &l) {
-  l.answer = c.eliminate(data(g.starts), g.starts.size(), data(g.neighbours), g.neighbours.size(), data(g.numbering),
-                         g.numbering.size(), l.scratch.data(), l.scratch.size(), l.bytes.data(), l.bytes.size(), l.figures.data(),
-                         l.figures.size());
+  l.answer = c.eliminate(data(g.starts), g.starts.size(), data(g.neighbours), g.neighbours.size(), data(g.counts), g.counts.size(),
+                         data(g.numbering), g.numbering.size(), l.scratch.data(), l.scratch.size(), l.bytes.data(), l.bytes.size(),
+                         l.figures.data(), l.figures.size());
 }
 
 static std::string mesh_name;
 
-// The job by every program on equal buffers, which must end equal, with the answer wanted. Returns what the proved library left.
-static Lent agreed(const char *call, const Job &job, const Given &given, const Lent &lent, u16 wanted) {
+static u64 now() {
+  timespec t;
+  clock_gettime(CLOCK_THREAD_CPUTIME_ID, &t);
+  return u64(t.tv_sec) * 1000000000 + u64(t.tv_nsec);
+}
+
+// The job by every program on equal buffers, which must end equal, with the answer wanted. Returns what the proved library left. `times`, if any,
+// gets the nanoseconds of each.
+static Lent agreed(const std::string &call, const Job &job, const Given &given, const Lent &lent, u16 wanted,
+                   std::vector<u64> *times = nullptr) {
   std::vector<Lent> ends;
   for (const Calls &program : PROGRAMS) {
     ends.push_back(lent);
+    const u64 begin = now();
     job(program, given, ends.back());
+    if (times) times->push_back(now() - begin);
     if (!(ends.back() == ends[0]) || ends[0].answer != wanted) {
-      printf("%s, %s: the proved library answers %u, program %zu %u, wanted %u; buffers %s\n", mesh_name.c_str(), call, ends[0].answer,
-             ends.size(), ends.back().answer, wanted, ends.back() == ends[0] ? "agree" : "differ");
+      printf("%s, %s: the proved library answers %u, program %zu %u, wanted %u; buffers %s\n", mesh_name.c_str(), call.c_str(),
+             ends[0].answer, ends.size(), ends.back().answer, wanted, ends.back() == ends[0] ? "agree" : "differ");
       exit(1);
     }
   }
@@ -155,6 +184,15 @@ static void try_refusals(const Given &good, size_t byte_count) {
     refused(job, 5, [n](Given &, Lent &l) { l.passes.resize(n - 1); });
     refused(job, 5, [n](Given &, Lent &l) { l.scratch.resize(6 * n - 1); });
     refused(job, 5, [](Given &, Lent &l) { l.figures.resize(6); });
+  }
+  for (const Job &job : {Job(run_job), Job(reverse_job), Job(measures_job), Job(eliminate_job)}) {
+    refused(job, 15, [](Given &g, Lent &) { g.counts.pop_back(); });
+    refused(job, 15, [](Given &g, Lent &) { g.counts.push_back(1); });
+    refused(job, 15, [](Given &g, Lent &) { g.counts[0] = 0; });
+    refused(job, 15, [n](Given &g, Lent &) { g.counts[n - 1] = 7; });
+    // 15 comes after 5 and before 7
+    refused(job, 5, [](Given &g, Lent &l) { g.counts.clear(), l.figures.clear(); });
+    refused(job, 15, [](Given &g, Lent &) { g.counts.clear(), g.numbering[0] = 0; });
   }
   for (const Job &job : {Job(measures_job), Job(eliminate_job)}) {
     refused(job, 7, [](Given &g, Lent &) { g.numbering.pop_back(); });
@@ -216,12 +254,6 @@ static void try_order(const Given &given, const Lent &made) {
   agreed("elimination", eliminate_job, g, Lent(g.n, (made.figures[3] + 7) / 8), 0);
 }
 
-static u64 now() {
-  timespec t;
-  clock_gettime(CLOCK_THREAD_CPUTIME_ID, &t);
-  return u64(t.tv_sec) * 1000000000 + u64(t.tv_nsec);
-}
-
 typedef std::function<void()> Step;
 
 // Medians in nanoseconds. A short step is repeated until the clock's own time doesn't count. The steps take turns.
@@ -251,12 +283,12 @@ static std::vector<double> medians(const std::vector<Step> &steps, bool quick) {
 }
 
 // Times the job by every program and, last, the bare stage.
-static void time_job(const char *call, const Job &job, const Given &given, const Lent &lent, const Step &bare, bool quick) {
+static void time_job(const std::string &call, const Job &job, const Given &given, const Lent &lent, const Step &bare, bool quick) {
   std::vector<Lent> lents(std::size(PROGRAMS), lent);
   std::vector<Step> steps;
   for (size_t i = 0; i < lents.size(); i++) steps.push_back([&, i] { job(PROGRAMS[i], given, lents[i]); });
   steps.push_back(bare);
-  printf("time\t%s", call);
+  printf("time\t%s", call.c_str());
   for (double t : medians(steps, quick)) printf("\t%.0f", t);
   printf("\n");
 }
@@ -274,32 +306,47 @@ static Words words_of(const std::string &path) {
   return words;
 }
 
-// The lists of a mesh, its nodes numbered as given, and what the run, the measures and reverse Cuthill-McKee make of it.
-struct Case {
-  Given given;
-  Lent ran, measured, turned;
-};
-
-// Compares the calls that make the case, and prints its figures.
-static Case compare(const Words &file) {
-  Given g = {file[1], Words(file.begin() + 3, file.end()), {}, {}, {}, 1};
+// The lists of a mesh, its nodes numbered as given.
+static Given lists_of(const Words &file) {
+  Given g = {file[1], Words(file.begin() + 3, file.end()), {}, {}, {}, {}, 1};
   const long n = file[1];
   const Lent lists = agreed("mesh", mesh_job, g, Lent(g.n), 0);
   g.starts.assign(lists.starts.begin(), lists.starts.begin() + n + 1);
   g.neighbours.assign(lists.neighbours.begin(), lists.neighbours.begin() + long(lists.figures[0]));
   for (long p = 1; p <= n; p++) g.numbering.push_back(u16(p));
   agreed("adjacency test", test_job, g, Lent(g.n), 0);
-  const Lent ran = agreed("whole run", run_job, g, Lent(g.n), 0), measured = agreed("measures", measures_job, g, Lent(g.n), 0);
-  const Lent turned = agreed("reverse Cuthill-McKee", reverse_job, g, Lent(g.n), 0);
-  const auto &f = ran.figures, &m = measured.figures, &r = turned.figures;
-  printf("mesh\t%s\t%ld\t%zu\t%lu\n", mesh_name.c_str(), n, g.neighbours.size(), f[1]);
+  return g;
+}
+
+// A mesh with its counts, and what the run, the measures and reverse Cuthill-McKee make of it.
+struct Case {
+  Given given;
+  Lent ran, measured, turned;
+};
+
+// Compares the calls that take counts.
+static Case compare(const Given &lists, const Sort &sort) {
+  const Given g = with_unknowns(lists, sort);
+  const std::string said = sort.said;
+  const Case c = {g, agreed("whole run" + said, run_job, g, Lent(g.n), 0), agreed("measures" + said, measures_job, g, Lent(g.n), 0),
+                  agreed("reverse Cuthill-McKee" + said, reverse_job, g, Lent(g.n), 0)};
+  const size_t bytes = (c.measured.figures[1] + 7) / 8;
+  try_order(g, c.ran);
+  try_order(g, c.turned);
+  agreed("elimination, numbers as given" + said, eliminate_job, g, Lent(g.n, bytes), 0);
+  if (g.n < 1500 && bytes < 2000000) try_refusals(g, bytes);  // larger ones take long and tell no more
+  return c;
+}
+
+static void print_figures(const Case &c) {
+  const auto &f = c.ran.figures, &m = c.measured.figures, &r = c.turned.figures;
+  printf("mesh\t%s\t%zu\t%zu\t%lu\n", mesh_name.c_str(), c.given.n, c.given.neighbours.size(), f[1]);
   printf("figures\tas given\t%lu\t%lu\t%lu\n", m[0], m[1], m[2]);
   printf("figures\twhole run\t%lu\t%lu\t%lu\n", f[2], f[3], f[4]);
   printf("figures\treverse Cuthill-McKee\t%lu\t%lu\t%lu\n", r[2], r[3], r[4]);
-  return {g, ran, measured, turned};
 }
 
-// The calls that take no numbering.
+// The calls that take neither counts nor a numbering.
 static void time_lists(const Given &g, bool quick) {
   const u16 *starts = data(g.starts), *neighbours = data(g.neighbours);
   const u32 n = u32(g.n);
@@ -310,54 +357,88 @@ static void time_lists(const Given &g, bool quick) {
            [&] { bare_rooted(starts, neighbours, n, g.root, own.levels.data(), own.sizes.data(), own.figures.data()); }, quick);
   time_job("mesh", mesh_job, g, Lent(n),
            [&] { bare_mesh(n, data(g.elements), g.elements.size(), own.starts.data(), own.neighbours.data(), own.figures.data()); }, quick);
-  time_job("whole run", run_job, g, Lent(n),
-           [&] {
-             bare_run(starts, neighbours, n, own.numbers.data(), own.levels.data(), own.passes.data(), own.scratch.data(), own.figures.data());
-           },
-           quick);
-  time_job("reverse Cuthill-McKee", reverse_job, g, Lent(n),
-           [&] {
-             bare_reverse_cuthill_mckee(starts, neighbours, n, own.numbers.data(), own.levels.data(), own.passes.data(), own.scratch.data(),
-                                        own.figures.data());
-           },
-           quick);
+}
+
+// The calls that make a numbering.
+static void time_orders(const Given &g, const std::string &said, bool quick) {
+  const u32 n = u32(g.n);
+  Lent own(n);
+  const auto bare = [&](decltype(&this_processor::bare_run) stage) {
+    stage(data(g.starts), data(g.neighbours), data(g.counts), n, own.numbers.data(), own.levels.data(), own.passes.data(),
+          own.scratch.data(), own.figures.data());
+  };
+  time_job("whole run" + said, run_job, g, Lent(n), [&] { bare(this_processor::bare_run); }, quick);
+  time_job("reverse Cuthill-McKee" + said, reverse_job, g, Lent(n), [&] { bare(this_processor::bare_reverse_cuthill_mckee); }, quick);
 }
 
 // The calls that take a numbering, of this profile.
-static void time_numbered(const Given &g, u64 profile, const std::string &which, bool quick) {
-  const u16 *starts = data(g.starts), *neighbours = data(g.neighbours), *numbering = data(g.numbering);
+static void time_numbered(const Given &g, u64 profile, const std::string &said, bool quick) {
+  const u16 *starts = data(g.starts), *neighbours = data(g.neighbours), *counts = data(g.counts), *numbering = data(g.numbering);
   const u32 n = u32(g.n);
   const size_t bytes = (profile + 7) / 8;
   const Lent lent(n, bytes);
   Lent own = lent;
   using namespace this_processor;
-  time_job(("measures" + which).c_str(), measures_job, g, lent,
-           [&] { bare_measures(starts, neighbours, n, numbering, own.scratch.data(), own.figures.data()); }, quick);
-  time_job(("elimination" + which).c_str(), eliminate_job, g, lent,
-           [&] { bare_eliminate(starts, neighbours, n, numbering, own.scratch.data(), own.bytes.data(), bytes, own.figures.data()); }, quick);
+  time_job("measures" + said, measures_job, g, lent,
+           [&] { bare_measures(starts, neighbours, counts, n, numbering, own.scratch.data(), own.figures.data()); }, quick);
+  time_job("elimination" + said, eliminate_job, g, lent,
+           [&] {
+             bare_eliminate(starts, neighbours, counts, n, numbering, own.scratch.data(), own.bytes.data(), bytes, own.figures.data());
+           },
+           quick);
 }
 
+// The largest store of all meshes, in unknowns.
+struct Store {
+  std::string mesh;
+  Given given;
+  u64 profile;
+
+  void keep_larger(const Case &c) {
+    if (c.measured.figures[1] > profile) *this = {mesh_name, c.given, c.measured.figures[1]};
+  }
+
+  // Once by each program.
+  void eliminate() const {
+    mesh_name = mesh;
+    std::vector<u64> times;
+    const size_t bytes = (profile + 7) / 8;
+    const Lent left = agreed("the largest store", eliminate_job, given, Lent(given.n, bytes), 0, &times);
+    u64 unknowns = 0;
+    for (u16 count : given.counts) unknowns += count;
+    printf("store\t%s\t%lu\t%zu\t%lu", mesh.c_str(), unknowns, bytes, left.figures[0]);
+    for (u64 t : times) printf("\t%lu", t);
+    printf("\n");
+  }
+};
+
 // One mesh: all calls agree, then all are timed, then the other programs.
-static void bench(const std::string &path, bool quick) {
+static void bench(const std::string &path, bool quick, Store &largest) {
   mesh_name = path.substr(path.find_last_of('/') + 1);
   mesh_name.resize(mesh_name.size() - 4);
-  const Case c = compare(words_of(path));
-  const size_t n = c.given.n;
-  try_collapsed(c.given);
-  try_roots(c.given);
-  try_order(c.given, c.ran);
-  try_order(c.given, c.turned);
-  if (n < 1500) try_refusals(c.given, (c.measured.figures[1] + 7) / 8);  // larger ones take long and tell no more
-  time_lists(c.given, quick);
-  time_numbered(numbered_by(c.given, c.ran), c.ran.figures[3], "", quick);
-  agreed("elimination", eliminate_job, c.given, Lent(n, (c.measured.figures[1] + 7) / 8), 0);
-  time_numbered(c.given, c.measured.figures[1], ", numbers as given", quick);
+  const Given lists = lists_of(words_of(path));
+  try_collapsed(lists);
+  try_roots(lists);
+  for (const Sort &sort : SORTS) {
+    const Case c = compare(lists, sort);
+    largest.keep_larger(c);
+    const bool first = &sort == SORTS;
+    if (first) {
+      print_figures(c);
+      time_lists(c.given, quick);
+    }
+    time_orders(c.given, sort.said, quick);
+    time_numbered(numbered_by(c.given, c.ran), c.ran.figures[3], sort.said, quick);
+    if (first) time_numbered(c.given, c.measured.figures[1], ", numbers as given", quick);
+  }
   fflush(stdout);
-  if (!quick) time_peers(c.given.starts, c.given.neighbours);
+  if (!quick) time_peers(lists.starts, lists.neighbours);
 }
 
 int main(int argc, char **argv) {
   const bool quick = argc > 1 && std::string(argv[1]) == "--quick";
-  for (int i = quick ? 2 : 1; i < argc; i++) bench(argv[i], quick);
+  Store largest = {};
+  for (int i = quick ? 2 : 1; i < argc; i++) bench(argv[i], quick, largest);
+  largest.eliminate();
   return 0;
 }

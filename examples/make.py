@@ -29,8 +29,8 @@ CORNERS = {TRIANGLE_6: 3, QUADRILATERAL_8: 4, TETRAHEDRON_10: 4}
 
 # From a drawing to a mesh. A drawing is a list of (kind, points); points are tuples of whole numbers.
 
-def numbered(drawing):
-    """The mesh with nodes numbered as a mesh tool does."""
+def numbered(drawing, unknowns=None):
+    """The mesh with nodes numbered as a mesh tool does; unknowns gives the count of a point, where nodes have other counts than one."""
     corners, meets = set(), {}
     for kind, points in drawing:
         corners.update(points[:CORNERS.get(kind, len(points))])
@@ -38,7 +38,8 @@ def numbered(drawing):
             meets[point] = meets.get(point, 0) + 1
     order = sorted(meets, key=lambda point: (point not in corners, meets[point], point))
     number = {point: i for i, point in enumerate(order, 1)}
-    return grd.Mesh(len(order), [(kind, [number[point] for point in points]) for kind, points in drawing])
+    return grd.Mesh(len(order), [(kind, [number[point] for point in points]) for kind, points in drawing],
+                    [unknowns(point) for point in order] if unknowns else None)
 
 
 def doubled(point):
@@ -178,6 +179,19 @@ def two_parts():
     return plate + rim + pin
 
 
+HINGE = 6
+
+
+def hinged_plates():
+    """Two plates, each with a notch, that a row of hinges joins: the lattice of examples/c/hinge.c."""
+    return [(QUADRILATERAL, square(x, y)) for x in range(12) for y in range(4) if (x, y) not in ((2, 0), (9, 3))]
+
+
+def hinged_unknowns(point):
+    """A hinge has its three displacements, a plate's node three rotations too."""
+    return 3 if point[0] == HINGE else 6
+
+
 def hanger():
     """A small one, for the picture of a store: a flange, a plate around a hole, and a tab."""
     plate = [(x, y) for x in (1, 2) for y in (1, 2, 3) if (x, y) != (1, 2)]
@@ -197,12 +211,12 @@ MESHES = [
 
 PAGE = '''# Examples
 
-Seven small meshes, their listings and their pictures. `make.py` makes them all, this page too; `make.py --check` says whether they are what it makes.
-Old numbers are given as a mesh tool gives them: corners first, then edges, then the inside, middle nodes last.
+Seven small meshes with one unknown a node, one with more, their listings and their pictures. `make.py` makes them all, this page too; `make.py --check`
+says whether they are what it makes. Old numbers are given as a mesh tool gives them: corners first, then edges, then the inside, middle nodes last.
 
 | Mesh | What it is | Nodes | Elements | Bandwidth | Profile | Front | Parts | Levels | Width |
 |---|---|---|---|---|---|---|---|---|---|
-%s
+%(table)s
 
 Bandwidth, profile and front are before → after the renumbering. `NAME.grd` is the mesh, `NAME.txt` the listing that the program must print
 for it, and `NAME.svg` the matrix before and after. The listings come from `tests/reference`, the independent program.
@@ -221,35 +235,63 @@ an element counts once, so the graph and the listing are those of the same plate
 `tools/README.md` says how a picture is made, and how meshes come from other formats. [`docs/MEMORY.md`](../docs/MEMORY.md) says how full the stores of
 these meshes get by each order; `memory.py` makes it.
 
+## Unknowns per node
+
+`hinged_plates` is a file of version 2: two plates that a row of hinges joins. A plate's node has six unknowns, three displacements and three
+rotations; a hinge passes no moment on and has its three displacements alone. Nodes are numbered as ever, by the rows of the listing; bandwidth,
+profile, front and width count unknowns.
+
+| Mesh | What it is | Nodes | Unknowns | Elements | Bandwidth | Profile | Front | Parts | Levels | Width |
+|---|---|---|---|---|---|---|---|---|---|---|
+%(counted)s
+
+    $ tools/grd.py examples/hinged_plates.grd
+    examples/hinged_plates.grd: %(summary)s
+
+`c/hinge.c` builds the stiffness of such plates out of beams, factors it in the store of the unknowns and solves it, and a dense solve must give the
+same. It also sees that no place is filled that the elimination call left unmarked.
+
+## Callers
+
 `c`, `fortran` and `rust` have callers of the library: `bracket` renumbers a mesh file, says how many passes the search for the ends of each part
-took and in which level, counted from the node with number 1, it is thickest, eliminates by the new numbers and opens the store. It also says what
-reverse Cuthill-McKee would give. In `c`, `grd.c` reads such a file and makes its graph, refused as the program refuses it, `renumber.c` prints its
-listing, and `orders.c` prints both orders side by side: old number, number by the run, number by reverse Cuthill-McKee. For `bracket` and
-`encoder_plate` the two are the same; for `hub_sector` the second has bandwidth 148 and profile 39329.
+took and in which level, counted from the node with number 1, it is thickest, eliminates by the new numbers and opens the store, which has a row for
+each unknown. It also says what reverse Cuthill-McKee would give. In `c`, `grd.c` reads such a file, of either version, and makes its graph, refused
+as the program refuses it, `renumber.c` prints its listing, and `orders.c` prints both orders side by side: old number, number by the run, number by
+reverse Cuthill-McKee. For `bracket` and `encoder_plate` the two are the same; for `hub_sector` the second has bandwidth 148 and profile 39329.
 '''
 
 
 def table_row(name, what, mesh, listed):
-    before = figures.figures(grd.neighbours(mesh))
+    before = figures.figures(figures.graph(mesh))
     after = listed.figures
     changes = ['%d → %d' % pair for pair in zip(before, (after.bandwidth, after.profile, after.front))]
-    cells = ['[`%s`](%s.svg)' % (name, name), what, mesh.n, len(mesh.elements)] + changes + [after.parts, after.levels, after.width]
+    sizes = [mesh.n] + ([] if mesh.counts is None else [sum(mesh.counts)]) + [len(mesh.elements)]
+    cells = ['[`%s`](%s.svg)' % (name, name), what] + sizes + changes + [after.parts, after.levels, after.width]
     return '| %s |' % ' | '.join(str(cell) for cell in cells)
+
+
+def example(name, what, mesh):
+    """The files of one mesh, pairs of a name and bytes, and its row of the table."""
+    data = grd.write(mesh)
+    text = program.text_for(data)
+    listed = result.read(text.decode('ascii').splitlines())
+    picture.test_match(mesh, listed)
+    files = [(name + '.grd', data), (name + '.txt', text), (name + '.svg', picture.svg(name, mesh, listed).encode('utf-8'))]
+    return files, table_row(name, what, mesh, listed)
 
 
 def all_files():
     """Pairs of a file name and its bytes."""
     files, rows, meshes = [], [], []
     for name, drawing, what in MESHES:
-        mesh = numbered(drawing())
-        data = grd.write(mesh)
-        text = program.text_for(data)
-        listed = result.read(text.decode('ascii').splitlines())
-        picture.test_match(mesh, listed)
-        files += [(name + '.grd', data), (name + '.txt', text), (name + '.svg', picture.svg(name, mesh, listed).encode('utf-8'))]
-        rows.append(table_row(name, what, mesh, listed))
-        meshes.append((name, mesh))
-    return files + [('README.md', (PAGE % '\n'.join(rows)).encode('utf-8'))] + memory.files(meshes, numbered(hanger()))
+        meshes.append((name, numbered(drawing())))
+        made, row = example(name, what, meshes[-1][1])
+        files += made
+        rows.append(row)
+    plates = numbered(hinged_plates(), hinged_unknowns)
+    made, row = example('hinged_plates', 'two plates that a row of hinges joins; quadrilaterals', plates)
+    page = PAGE % {'table': '\n'.join(rows), 'counted': row, 'summary': grd.summary(plates)}
+    return files + made + [('README.md', page.encode('utf-8'))] + memory.files(meshes, numbered(hanger()))
 
 
 def stands(name, data):

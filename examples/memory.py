@@ -1,7 +1,7 @@
 """How full a store gets: docs/MEMORY.md with its table, and its picture docs/store.svg.
 
-make.py hands over the meshes and writes both. The numbers are those of tests/reference, what elimination joins is that of tools/fill.py. Rows
-are neighbours by number with place 0 unused, as everywhere in tools.
+make.py hands over the meshes, of one unknown a node, and writes both. The numbers are those of tests/reference, what elimination joins is that of
+tools/fill.py. A graph is one of tools/figures.py: its rows are neighbours by number, with place 0 unused.
 """
 
 from collections import namedtuple
@@ -17,7 +17,7 @@ import parts
 # The places of a store, how many are joined at first, and how many at the end.
 Count = namedtuple('Count', 'places first last')
 
-# The rows by each order: the old numbers, the run's, reverse Cuthill-McKee as the call gives it, and before its turning.
+# The graph by each order: the old numbers, the run's, reverse Cuthill-McKee as the call gives it, and before its turning.
 Orders = namedtuple('Orders', 'old run cuthill unturned')
 
 
@@ -28,7 +28,7 @@ def numbers_by(call, rows):
     n = len(rows) - 1
     graph = calls.from_edges(n, [(p, q) for p in range(1, n + 1) for q in rows[p]])
     numbers = [0] * n
-    call(*graph, numbers, [0] * n, [0] * n, [0] * calls.scratch_words(n))
+    call(*graph, calls.ones(n), numbers, [0] * n, [0] * n, [0] * calls.scratch_words(n))
     return [0] + numbers
 
 
@@ -43,15 +43,15 @@ def turned(rows, numbers):
 
 
 def orders(mesh):
-    rows = grd.neighbours(mesh)
-    cuthill = numbers_by(calls.reverse_cuthill_mckee, rows)
-    numberings = range(len(rows)), numbers_by(calls.whole_run, rows), cuthill, turned(rows, cuthill)
-    return Orders(*(figures.renumbered(rows, numbers) for numbers in numberings))
+    graph = figures.graph(mesh)
+    cuthill = numbers_by(calls.reverse_cuthill_mckee, graph.rows)
+    numberings = range(len(graph.rows)), numbers_by(calls.whole_run, graph.rows), cuthill, turned(graph.rows, cuthill)
+    return Orders(*(figures.renumbered(graph, numbers) for numbers in numberings))
 
 
-def count(rows):
-    last, new = fill.counts(rows)
-    return Count(figures.profile(rows), last - new, last)
+def count(graph):
+    last, new = fill.counts(graph)
+    return Count(figures.profile(graph), last - new, last)
 
 
 # The table.
@@ -173,12 +173,12 @@ BELOW = 52
 OUTLINE = 'fill="none" stroke="%s" stroke-width=".09"' % matrix.ENTRY
 
 
-def cells(rows, last):
+def cells(graph, last):
     """By row, sets of columns below the diagonal: all, the places of the store, those joined by now, and those joined at first."""
-    every = [set(range(row)) for row in range(len(rows) - 1)]
-    places = [set(range(f - 1, q - 1)) for q, f in enumerate(figures.firsts(rows))][1:]
-    first = [{p - 1 for p in rows[q] if p < q} for q in range(1, len(rows))]
-    return every, places, fill.dark_cells(rows, 1) if last else first, first
+    every = [set(range(row)) for row in range(len(graph.rows) - 1)]
+    places = [set(range(f - 1, q - 1)) for q, f in enumerate(figures.firsts(graph))][1:]
+    first = [{p - 1 for p in graph.rows[q] if p < q} for q in range(1, len(graph.rows))]
+    return every, places, fill.dark_cells(graph, 1) if last else first, first
 
 
 def idle_path(row, column):
@@ -187,10 +187,10 @@ def idle_path(row, column):
     return 'M%s %sh.66v.66h-.66zl.66 .66' % (x, y)
 
 
-def panel(left, top, title, rows, last):
+def panel(left, top, title, graph, last):
     """A store at one time: title, figures in the empty half, cells, and the numbers along the diagonal."""
-    n, counted = len(rows) - 1, count(rows)
-    layers = cells(rows, last)
+    n, counted = figures.size(graph), count(graph)
+    layers = cells(graph, last)
     used = counted.last if last else counted.first
     scale = '<g transform="translate(%d %d) scale(%s)">' % (left, top, ('%.6f' % (ink.SIDE / n)).rstrip('0').rstrip('.'))
     lines = [ink.text(left, top - 10, title, 13), scale, '<g shape-rendering="crispEdges">']
@@ -239,10 +239,10 @@ def svg(mesh):
     height = HEAD + 2 * (ABOVE + ink.SIDE) + BETWEEN + BELOW
     words = 'a hanger: flange, plate around a hole, tab; %s' % grd.counted(mesh.n, 'node')
     lines = ['<rect width="%d" height="%d" fill="#ffffff"/>' % (ink.WIDTH, height)] + ink.heading('A store before and after elimination', words)
-    for left, title, rows in zip(ink.COLUMNS, ("the run's order", "Cuthill-McKee's order before its turning"), (by.run, by.unturned)):
+    for left, title, graph in zip(ink.COLUMNS, ("the run's order", "Cuthill-McKee's order before its turning"), (by.run, by.unturned)):
         lines.append(ink.text(left, HEAD - 8, title, 15, ink.INK, ' font-weight="bold"'))
-        lines += panel(left, HEAD + ABOVE, 'before the first elimination', rows, False)
-        lines += panel(left, HEAD + 2 * ABOVE + ink.SIDE + BETWEEN, 'after the last elimination', rows, True)
+        lines += panel(left, HEAD + ABOVE, 'before the first elimination', graph, False)
+        lines += panel(left, HEAD + 2 * ABOVE + ink.SIDE + BETWEEN, 'after the last elimination', graph, True)
     return ink.framed('a store before the first and after the last elimination, by two orders', height, lines + legend(height - 18))
 
 

@@ -1,4 +1,4 @@
-"""CalculiX and Abaqus .inp files: the keywords *NODE and *ELEMENT, and the files that *INCLUDE takes in.
+"""CalculiX and Abaqus .inp files: the keywords *NODE and *ELEMENT, the files that *INCLUDE takes in, and node sets where one is asked for.
 
 Every other keyword must be known to join nothing: a misspelt *ELEMENT is refused, not passed over.
 """
@@ -11,6 +11,7 @@ import grd
 import known
 from model import Fault, Model, Stop, integer, line_name, squeezed
 from places import point, turned
+from sets import Sets, node_named, nodes_within
 
 # Element types by GRD kind. Letters behind the last digit (R, I, H, M, T ..) stand for no further node and are left out here.
 TYPES = {
@@ -67,10 +68,14 @@ Block = namedtuple('Block', 'line name parameters data')
 
 def read(source, ignore=()):
     """The model of the file and of those that it takes in."""
-    model, seen, once, moved, members = Model(ignore), {}, set(), False, {}
+    model, seen, once, moved, members, scope = Model(ignore), {}, set(), False, {}, ''
+    model.sets = Sets()
     for block in blocks(source):
         with source.each():
             name = squeezed(block.name)
+            # a part's sets and the assembly's may have the same names
+            scope = {'PART': 'part', 'ENDPART': ''}.get(name, scope)
+            note_set(block, model, scope)
             # a system of its own for the nodes that follow
             moved = bool(block.data) if name == 'SYSTEM' else moved
             if name in ('PART', 'INSTANCE'):
@@ -106,6 +111,44 @@ def test_once(block, once):
     once.add(block.name)
     if 'LIBRARY' in block.parameters:
         raise Stop(block.line, '*%s takes another model, and GRD has no place for that' % block.name)
+
+
+# Node sets.
+
+def note_set(block, model, scope):
+    """The set that the nodes of *NODE go to, or that *NSET gives."""
+    set_name = block.parameters.get('NSET')
+    if set_name and block.name == 'NODE':
+        model.sets.add(set_name, block.line, lambda: first_numbers(block), scope)
+    elif set_name and block.name == 'NSET':
+        model.sets.add(set_name, block.line, lambda: set_numbers(block, model, set_name), scope)
+
+
+def first_numbers(block):
+    return {integer(text.split(',')[0], line, 'node number') for line, text in block.data}
+
+
+def set_numbers(block, model, name):
+    """The nodes of a *NSET: numbers and names of other sets, or ranges."""
+    if 'ELSET' in block.parameters:
+        raise Stop(block.line, 'set %s is made of a set of elements, and that is not read' % name)
+    found = set()
+    for line, text in block.data:
+        words = [word.strip().strip('"\'') for word in text.split(',') if word.strip()]
+        if 'GENERATE' in block.parameters:
+            found |= generated(words, line, model, name)
+            continue
+        for word in words:
+            found |= {node_named(model, int(word), line, name)} if MEMBER.fullmatch(word) else model.sets.named(word)
+    return found
+
+
+def generated(words, line, model, name):
+    """First, last and step of a range, which may have gaps."""
+    numbers = [integer(word, line, 'set %s' % name) for word in words] + [1] * (len(words) == 2)
+    if len(numbers) != 3 or numbers[2] < 1:
+        raise Fault(line, 'set %s: a range has first, last and step' % name)
+    return nodes_within(model, *numbers)
 
 
 # Keywords.

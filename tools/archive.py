@@ -17,6 +17,7 @@ import subprocess
 import sys
 import tempfile
 
+import counts
 import figures
 import fill
 import grd
@@ -40,6 +41,18 @@ the new numbers of the nodes that share an element with it. s_q is the sum of r 
 p < q has place s_q + p - f_q, counted from 0, where p is at least f_q; otherwise it is zero and has no place. Diagonal coefficients are
 kept apart. mesh.grd: the letters GRD, then 16-bit words, low byte first: 1, the count of nodes, the count of elements, and for each element
 its kind and its nodes (kinds 1 to 10 have 2, 3, 4, 4, 5, 6, 8, 6, 8, 10 nodes). SHA256SUMS is for the command sha256sum -c.
+'''
+
+# The same for a mesh with counts of unknowns.
+COUNTED_OPENING = '''
+How the store is opened, without any program of ours. listing.txt has a line for each node: its number in mesh.grd, its new number, its
+level. nodes.txt has a line for each node: its number in mesh.grd, its number in the mesh file. The nodes have the counts of unknowns that
+mesh.grd says. Unknowns are numbered from 1 on: those of the node with new number 1, then those of the node with new number 2, and so on. Two
+unknowns of one node adjoin, and so do those of two nodes that share an element. For an unknown q, f_q is the least of q and the unknowns that
+it adjoins. s_q is the sum of r - f_r over all r below q. The coefficient of the unknowns p < q has place s_q + p - f_q, counted from 0, where
+p is at least f_q; otherwise it is zero and has no place. Diagonal coefficients are kept apart. mesh.grd: the letters GRD, then 16-bit words,
+low byte first: 2, the count of nodes, the count of elements, the count of unknowns of each node, and for each element its kind and its nodes
+(kinds 1 to 10 have 2, 3, 4, 4, 5, 6, 8, 6, 8, 10 nodes). SHA256SUMS is for the command sha256sum -c.
 '''
 
 
@@ -112,15 +125,14 @@ def listed(text):
 
 def about(name, reading, found, text, stores):
     """The page of the archive: facts, a line each, then how the store is opened."""
-    rows = grd.neighbours(found.mesh)
-    answer = listed(text)
-    total, new = fill.counts(figures.renumbered(rows, answer.numbers))
+    graph = figures.graph(found.mesh)
+    total, new = fill.counts(figures.renumbered(graph, listed(text).numbers))
     facts = [('made', datetime.datetime.now(datetime.timezone.utc).strftime('%Y-%m-%d')), ('mesh', name), ('read', reading)] + program_facts()
     facts += [('figures', text.decode('ascii').split('\n')[0]),
-              ('before', 'bandwidth %d profile %d front %d' % figures.figures(rows)),
+              ('before', 'bandwidth %d profile %d front %d' % figures.figures(graph)),
               ('elimination', 'marks %d new %d' % (total, new))]
     facts += [('store', '%s, %s' % (store, grd.counted(size, 'byte'))) for store, size in stores]
-    return '\n'.join([FIRST, ''] + ['%s: %s' % fact for fact in facts]) + '\n' + OPENING
+    return '\n'.join([FIRST, ''] + ['%s: %s' % fact for fact in facts]) + '\n' + (OPENING if found.mesh.counts is None else COUNTED_OPENING)
 
 
 def reading_words(options):
@@ -128,7 +140,7 @@ def reading_words(options):
     words = ['--from', options.format] if options.format else []
     for name in options.ignore:
         words += ['--ignore', name]
-    return shlex.join(words + ['--drop-inner'] * options.drop_inner)
+    return shlex.join(words + ['--drop-inner'] * options.drop_inner + counts.words(options))
 
 
 def reading_options(text):

@@ -278,7 +278,7 @@ def bar_legend(colours, first, last):
     return made
 
 
-def level_legend(colours, thickest):
+def level_legend(mesh, colours, thickest):
     """The band of the levels, and under it what the rings mark."""
     band = bar_legend(colours, 'level 1', str(len(colours)))
 
@@ -286,7 +286,7 @@ def level_legend(colours, thickest):
         if not thickest:
             return band(left, y)
         ring = '<circle cx="%d" cy="%d" r="5" fill="#ffffff" stroke="%s" stroke-width="1.2"/>' % (left + 6, y + 25, INK)
-        return band(left, y) + [ring, text(left + 18, y + 29, thickness.in_short(thickest), 12, FAINT)]
+        return band(left, y) + [ring, text(left + 18, y + 29, thickness.in_short(mesh, thickest), 12, FAINT)]
     return made
 
 
@@ -319,7 +319,7 @@ def panels(mesh, listed, numbers):
             Panel('after: new numbers', {p: by_rank(listed.numbers[p], n) for p in every}, {p: listed.numbers[p] for p in every},
                   bar_legend(scale, '1', str(n))),
             Panel('levels', {p: levels[listed.levels[p] - 1] for p in every}, {p: listed.levels[p] for p in every},
-                  level_legend(levels, thickest), {p for one in thickest for p in one.nodes}),
+                  level_legend(mesh, levels, thickest), {p for one in thickest for p in one.nodes}),
             Panel('parts', {p: by_part(part[p]) for p in every}, {p: part[p] for p in every}, part_legend([len(nodes) for nodes in found]))]
 
 

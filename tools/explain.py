@@ -9,7 +9,6 @@ import sys
 
 import faults
 import figures
-import grd
 import parts
 import result
 import source
@@ -24,9 +23,16 @@ FIRST = 'In words (the answer is proved, this help is not):'
 
 
 def gained(mesh, after):
-    """Bandwidth, profile and front under the old numbers, and as the program reports them."""
-    before = figures.figures(grd.neighbours(mesh))
-    return ['%s %d before, %d after' % (name, old, getattr(after, name)) for name, old in zip(NAMES, before)]
+    """Bandwidth, profile and front under the old numbers, and as the program reports them, in unknowns where the mesh counts them."""
+    before = figures.figures(figures.graph(mesh))
+    unit = '' if mesh.counts is None else ', in unknowns'
+    return ['%s %d before, %d after%s' % (name, old, getattr(after, name), unit) for name, old in zip(NAMES, before)]
+
+
+def units(mesh):
+    """What the program's figures count, where that is not nodes alone."""
+    if mesh.counts is not None:
+        yield 'nodes, parts, levels, passes and the rows of the listing count nodes; bandwidth, profile, front and width count unknowns'
 
 
 def listed(first, others):
@@ -40,8 +46,8 @@ def listed(first, others):
 def accepted(found, lines):
     """What is in the mesh, what was gained, where each part is thickest, and what may be wrong with it, in the source's own numbers."""
     listed = result.read(lines)
-    return ([source.summary(found)] + gained(found.mesh, listed.figures) + thickness.words(found.mesh, listed, found.numbers)
-            + parts.warnings(found.mesh, found.numbers))
+    return ([source.summary(found), *units(found.mesh)] + gained(found.mesh, listed.figures)
+            + thickness.words(found.mesh, listed, found.numbers) + parts.warnings(found.mesh, found.numbers))
 
 
 def explained(path, lines):

@@ -1,5 +1,6 @@
 """All faults of a mesh file: of a GRD file, where the first is the one that the program refuses it by, and of the other formats."""
 
+import counts
 import grd
 from files import Source
 from grd import Refusal
@@ -20,7 +21,13 @@ def of_grd(data):
     found = []
     if n == 0 or n > grd.MOST_NODES:
         found.append(Refusal(1, 'the file says %d nodes' % n))
-    elements, at = [], grd.HEADER_BYTES
+    try:
+        unknowns = grd.counts_in(data, n)
+    except Refusal as refusal:
+        # no element follows
+        return found + [refusal]
+    found += grd.count_refusals(unknowns)
+    elements, at = [], grd.elements_at(n, unknowns)
     for position in range(1, count + 1):
         name = 'element %d (byte %d)' % (position, at)
         try:
@@ -70,6 +77,7 @@ def of_source(path, options):
     """A list of faults; the first is the one that a conversion ends by."""
     found = []
     try:
+        counts.counter(options)
         model = model_of(Source(path, found), options.format, options.ignore)
     except Fault as fault:
         # what follows can't be told
@@ -84,7 +92,7 @@ def of_model(model, options, whole):
         found += attempted(test_element, model, element)
     if not options.compact:
         found += attempted(test_gaps, model, sorted(model.nodes))
-    return found or attempted(mesh_of, model, options.compact, options.drop_inner) if whole else found
+    return found or attempted(mesh_of, model, options.compact, options.drop_inner, counts.counter(options)) if whole else found
 
 
 def attempted(test, *words):

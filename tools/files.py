@@ -10,7 +10,7 @@ from model import Fault, Line, Stop
 
 # A kind of output: its name in a message, and a pattern of bytes that the whole of such a file fits.
 Kind = namedtuple('Kind', 'name pattern')
-GRD = Kind('a GRD file', re.compile(rb'GRD\x01\x00.*', re.DOTALL))
+GRD = Kind('a GRD file', re.compile(rb'GRD[\x01\x02]\x00.*', re.DOTALL))
 NODES = Kind('a map of node numbers', re.compile(rb'1 [0-9]+\n([0-9]+ [0-9]+\n)*'))
 CARDS = Kind('a file of SEQGP cards alone', re.compile(rb'(SEQGP[ ,][-0-9 ,]*\n)+'))
 

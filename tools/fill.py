@@ -1,4 +1,13 @@
-"""Elimination, by document 01: which pairs of new numbers are joined after the last one."""
+"""Elimination, by document 01: which pairs of unknowns are joined after the last one.
+
+Any two unknowns of a node adjoin the same others, and are joined. So eliminating unknowns joins all those of two nodes or none, and joins just the
+nodes that eliminating nodes would join: that is done here, and the unknowns are counted in the end.
+"""
+
+from bisect import bisect_right
+from itertools import combinations
+
+import figures
 
 
 def joined(rows):
@@ -23,22 +32,38 @@ def bits(word):
     return bin(word).count('1')
 
 
-def counts(rows):
-    """Pairs joined at the end, and those of them that were not joined at first."""
-    total = sum(bits(word) for word in joined(rows))
-    return total, total - sum(len(row) for row in rows) // 2
+def by_count(counts):
+    """For each count of unknowns the nodes that have it, as bits."""
+    masks = {count: 0 for count in set(counts[1:])}
+    for p, count in list(enumerate(counts))[1:]:
+        masks[count] |= 1 << p
+    return masks
 
 
-def dark_cells(rows, step):
-    """Cells below the diagonal, by row of cells, with a pair joined at the end; a cell is `step` rows and columns."""
-    count = -(-(len(rows) - 1) // step)
-    cells, mask = [set() for _ in range(count)], (1 << step) - 1
-    for i, word in enumerate(joined(rows)):
-        column = (i - 1) // step
-        word >>= 1
-        # the row of cells of pair (i, q), i < q, is that of q
+def counts(graph):
+    """Pairs of unknowns joined at the end, and those of them that were not joined at first."""
+    rows, count = graph
+    masks = by_count(count)
+    last = sum(count[p] * c * bits(word & mask) for p, word in enumerate(joined(rows)) for c, mask in masks.items())
+    first = sum(count[p] * count[q] for p in range(1, len(rows)) for q in rows[p] if p < q)
+    return last + sum(c * (c - 1) // 2 for c in count), last - first
+
+
+def dark_cells(graph, step):
+    """Cells below the diagonal, by row of cells, with a pair joined at the end; a cell is `step` rows and columns of unknowns."""
+    last = figures.lasts(graph)
+    cells = [set() for _ in range(-(-last[-1] // step))]
+    # the last node that ends in each cell or before it
+    ended = [bisect_right(last, (cell + 1) * step) - 1 for cell in range(len(cells))]
+    for p, word in list(enumerate(joined(graph.rows)))[1:]:
+        columns = range(last[p - 1] // step, (last[p] - 1) // step + 1)
+        for left, right in combinations(range(last[p - 1], last[p]), 2):
+            cells[right // step].add(left // step)
         while word:
-            row = ((word & -word).bit_length() - 1) // step
-            cells[row].add(column)
-            word &= ~(mask << row * step)
+            q = (word & -word).bit_length() - 1
+            final = (last[q] - 1) // step
+            for row in range(last[q - 1] // step, final + 1):
+                cells[row].update(columns)
+            # the others that end in these cells are drawn with it
+            word = word >> ended[final] + 1 << ended[final] + 1
     return cells

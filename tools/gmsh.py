@@ -1,9 +1,12 @@
-"""Gmsh .msh files, versions 2.2 and 4.1 as text."""
+"""Gmsh .msh files, versions 2.2 and 4.1 as text. Physical groups are sets of nodes, and looked at where one is asked for."""
+
+import re
 
 import grd
 import known
-from model import Fault, Model, integer, squeezed
+from model import Fault, Model, Stop, integer, squeezed
 from places import point
+from sets import Sets
 
 # Gmsh's element type: GRD kind and name. Node order within an element does not matter: all its nodes adjoin.
 TYPES = {1: (1, '2-node line'), 2: (2, '3-node triangle'), 3: (3, '4-node quadrangle'), 4: (4, '4-node tetrahedron'), 5: (7, '8-node hexahedron'),
@@ -27,6 +30,11 @@ TYPE.update((number, (None, shape, count, '%d-node %s' % (count, name)))
 
 # A point joins nothing.
 POINT = 15
+
+# The dimension of a kind with the same corners; all others are solids.
+DIMENSION = {1: 1, 2: 2, 3: 2, 8: 2, 9: 2}
+
+PHYSICAL_NAME = re.compile(r'([0-3])\s+(-?[0-9]+)\s+"(.*)"')
 
 
 class Lines:
@@ -70,8 +78,9 @@ class Lines:
 
 def read(source, ignore=()):
     """The model of the file."""
-    lines, model = Lines(source), Model(ignore)
-    readers = {}
+    lines, model, readers, kept = Lines(source), Model(ignore), {}, {}
+    model.sets, model.tagged = Sets(), {}
+    model.sets.add_late(lambda: add_groups(model, readers, kept))
     while not lines.ended():
         line = lines.take()
         if line == '$MeshFormat':
@@ -86,7 +95,10 @@ def read(source, ignore=()):
             else:
                 with lines.each():
                     test_section(lines, model, section)
+                start = lines.number
                 lines.skip(section)
+                # from its first line on
+                kept[section] = [(i, lines.lines[i - 1].strip()) for i in range(start, lines.number)]
         elif line:
             raise Fault(lines.number, 'a section was expected, such as $Nodes')
     if not readers:
@@ -143,7 +155,11 @@ def elements_22(lines, model):
         with lines.each():
             if words[2] < 0:
                 raise Fault(lines.number, 'element %d: %d tags' % (words[0], words[2]))
-            add_element(lines, model, words[1], words[0], words[3 + words[2]:])
+            nodes = words[3 + words[2]:]
+            add_element(lines, model, words[1], words[0], nodes)
+            # the first tag is the physical group, 0 for none
+            if words[2] > 0 and words[3]:
+                tag(lines, model, dimension(words[1]), words[3], nodes)
 
 
 # Version 4.1: blocks, one for each entity of the drawing.
@@ -173,11 +189,66 @@ def nodes_41(lines, model):
 
 
 def elements_41(lines, model):
-    for _, _, kind, count in blocks_41(lines, 'elements'):
+    for wide, entity, kind, count in blocks_41(lines, 'elements'):
         for _ in range(count):
             words = lines.integers('element number and nodes', 2)
             with lines.each():
                 add_element(lines, model, kind, words[0], words[1:])
+                tag(lines, model, wide, entity, words[1:])
+
+
+# Physical groups. A group is told by its dimension and its number.
+
+def dimension(kind):
+    """Of an element type; of one that is not known none."""
+    if kind == POINT:
+        return 0
+    return DIMENSION.get(TYPE[kind][1], 3) if kind in TYPE else None
+
+
+def tag(lines, model, wide, number, nodes):
+    """The nodes of an element belong to its group, or in version 4.1 to its entity of the drawing."""
+    model.tagged.setdefault((wide, abs(number)), (lines.number, set()))[1].update(nodes)
+
+
+def add_groups(model, readers, kept):
+    """The nodes of each group, under its name and under its number."""
+    if 'PartitionedEntities' in kept:
+        raise Stop(kept['PartitionedEntities'][0][0], 'the physical groups of a mesh in partitions are not read')
+    names = group_names(kept.get('PhysicalNames', []))
+    groups = model.tagged if readers is READERS['2.2'] else groups_41(model, kept.get('Entities', []))
+    for key in sorted(set(groups) | set(names)):
+        line, nodes = groups.get(key, (0, set()))
+        for place, name in ((line, str(key[1])),) + ((names[key],) if key in names else ()):
+            model.sets.add(name, place, lambda found=nodes: found, key)
+
+
+def group_names(lines):
+    """Line and name of each group that has one."""
+    names = {}
+    for line, text in lines[2:]:
+        match = PHYSICAL_NAME.fullmatch(text)
+        if not match:
+            raise Fault(line, 'dimension, number and name of a physical group expected')
+        names[int(match.group(1)), abs(int(match.group(2)))] = line, match.group(3)
+    return names
+
+
+def groups_41(model, lines):
+    """By the entities that belong to each group: a point has three coordinates before its groups, another entity six."""
+    groups = {}
+    counts = [integer(word, line, 'count of entities') for line, text in lines[1:2] for word in text.split()]
+    kinds = [wide for wide, count in enumerate(counts[:4]) for _ in range(count)]
+    for wide, (line, text) in zip(kinds, lines[2:]):
+        words = text.split()
+        at = 4 if wide == 0 else 7
+        if len(words) <= at:
+            raise Fault(line, 'an entity with its place and its physical groups expected')
+        entity = integer(words[0], line, 'entity')
+        for word in words[at + 1:at + 1 + integer(words[at], line, 'count of physical groups')]:
+            nodes = model.tagged.get((wide, entity), (line, set()))[1]
+            groups.setdefault((wide, abs(integer(word, line, 'physical group'))), (line, set()))[1].update(nodes)
+    return groups
 
 
 READERS = {'2.2': {'Nodes': nodes_22, 'Elements': elements_22},

@@ -1,5 +1,5 @@
 #!/usr/bin/env python3
-"""GRD files: reading with document 01's tests, writing, and each refusal in words.
+"""GRD files of both versions: reading with the documents' tests, writing, and each refusal in words.
 
   grd.py FILE.grd    say what is in the file, or why the program refuses it
 """
@@ -8,18 +8,20 @@ import sys
 from collections import namedtuple
 
 MARK = b'GRD'
-VERSION = 1
+# Version 2 has a count of unknowns for each node between the header and the elements; in version 1 each node has one.
+PLAIN, COUNTED = 1, 2
 HEADER_BYTES = 9
 MOST_BYTES = 65535
 MOST_NODES = 4096
 MOST_ENTRIES = 32768
+MOST_UNKNOWNS = 6
 
 # kind: its name and node count
 KINDS = {1: ('bar', 2), 2: ('triangle', 3), 3: ('quadrilateral', 4), 4: ('tetrahedron', 4), 5: ('pyramid', 5),
          6: ('wedge', 6), 7: ('brick', 8), 8: ('6-node triangle', 6), 9: ('8-node quadrilateral', 8), 10: ('10-node tetrahedron', 10)}
 
 # Document 01's table of refusals in plain words, but for a node that repeats within an element, which is legal and counts once. The program
-# answers 1, 9, 10, 11 and 12; the others are the libraries'.
+# answers 1, 9, 10, 11, 12 and 15; the others are the libraries'.
 MEANING = {
     1: 'there are no nodes, or more than 4,096',
     2: 'the start list is broken: it must begin with 0, never fall, and end with the length of the neighbour list, at most 32,768',
@@ -32,11 +34,12 @@ MEANING = {
     9: 'an element has an unknown kind, or runs past the end of the element list',
     10: 'an element has a node that is 0 or above n',
     11: 'the elements give more than 32,768 neighbour entries',
-    12: 'this is no GRD file of version 1: wrong first letters or version, more than 65,535 bytes or fewer than 9, or bytes missing or left over',
+    12: 'this is no GRD file of version 1 or 2: wrong first letters or version, more than 65,535 bytes or fewer than 9, or bytes missing or left over',
+    15: "a node's count of unknowns is not 1 to 6",
 }
 
-# elements: a list of (kind, nodes)
-Mesh = namedtuple('Mesh', 'n elements')
+# elements: a list of (kind, nodes); counts: the unknowns of each node, or None in version 1, where each has one
+Mesh = namedtuple('Mesh', 'n elements counts', defaults=(None,))
 
 
 class Refusal(Exception):
@@ -56,14 +59,18 @@ def read(data):
     n, count = word_at(data, 5), word_at(data, 7)
     if n == 0 or n > MOST_NODES:
         raise Refusal(1, 'the file says %d nodes' % n)
-    elements, at = [], HEADER_BYTES
+    counts = counts_in(data, n)
+    for refusal in count_refusals(counts):
+        raise refusal
+    elements, at = [], elements_at(n, counts)
     for position in range(1, count + 1):
         element, at = element_at(data, n, at, 'element %d (byte %d)' % (position, at))
         elements.append(element)
     if at < len(data):
         raise Refusal(12, 'bytes left over after the last element: %d' % (len(data) - at))
-    test_entries(Mesh(n, elements))
-    return Mesh(n, elements)
+    mesh = Mesh(n, elements, counts)
+    test_entries(mesh)
+    return mesh
 
 
 def word_at(data, at):
@@ -77,9 +84,40 @@ def test_header(data):
         raise Refusal(12, 'the file has only %d bytes' % len(data))
     if data[:3] != MARK:
         raise Refusal(12, 'the file does not begin with the letters GRD')
-    if word_at(data, 3) != VERSION:
+    if word_at(data, 3) not in (PLAIN, COUNTED):
         raise Refusal(12, 'the file has version %d' % word_at(data, 3))
 
+
+# Counts of unknowns.
+
+def counts_in(data, n):
+    """Those that the file has, or None in version 1."""
+    if word_at(data, 3) == PLAIN:
+        return None
+    there = (len(data) - HEADER_BYTES) // 2
+    if there < n:
+        raise Refusal(12, 'the file ends within the counts of unknowns, before that of node %d is whole' % (there + 1))
+    return [word_at(data, HEADER_BYTES + 2 * p) for p in range(n)]
+
+
+def count_refusals(counts):
+    """One for each node whose count is wrong."""
+    for p, count in enumerate(counts or (), 1):
+        if not 1 <= count <= MOST_UNKNOWNS:
+            yield Refusal(15, 'node %d has %s' % (p, counted(count, 'unknown')))
+
+
+def elements_at(n, counts):
+    """The byte at which the elements begin."""
+    return HEADER_BYTES + (0 if counts is None else 2 * n)
+
+
+def unknowns(mesh):
+    """How many unknowns each node has, by number; place 0 has none."""
+    return [0] + (mesh.counts or [1] * mesh.n)
+
+
+# Elements.
 
 def element_at(data, n, at, name):
     """The element that begins at this byte, and the byte after it."""
@@ -126,8 +164,8 @@ def element_bytes(kind):
 
 
 def write(mesh):
-    """The file's bytes. Nothing is tested here: read does that."""
-    words = [VERSION, mesh.n, len(mesh.elements)]
+    """The file's bytes, in version 2 where the mesh has counts. Nothing is tested here: read does that."""
+    words = [PLAIN if mesh.counts is None else COUNTED, mesh.n, len(mesh.elements)] + (mesh.counts or [])
     for kind, nodes in mesh.elements:
         words.append(kind)
         words.extend(nodes)
@@ -141,13 +179,21 @@ def counted(value, name):
     return '%s %s' % (format(value, ','), name if value == 1 else name + 's')
 
 
+def node_words(mesh):
+    """Such as '5 nodes', or '5 nodes, 21 unknowns (3 nodes with 3, 2 nodes with 6)' where the file has counts."""
+    if mesh.counts is None:
+        return counted(mesh.n, 'node')
+    by_count = ['%s with %d' % (counted(mesh.counts.count(count), 'node'), count) for count in sorted(set(mesh.counts))]
+    return '%s, %s (%s)' % (counted(mesh.n, 'node'), counted(sum(mesh.counts), 'unknown'), ', '.join(by_count))
+
+
 def summary(mesh):
-    """One line: nodes, elements, how many of each kind, and how many are collapsed."""
+    """One line: nodes, their unknowns, elements, how many of each kind, and how many are collapsed."""
     counts = {}
     for kind, _ in mesh.elements:
         counts[kind] = counts.get(kind, 0) + 1
     kinds = ', '.join('%s %d' % (KINDS[kind][0], counts[kind]) for kind in sorted(counts)) + collapsed(nodes for _, nodes in mesh.elements)
-    return '%s, %s%s' % (counted(mesh.n, 'node'), counted(len(mesh.elements), 'element'), ' (%s)' % kinds if kinds else '')
+    return '%s, %s%s' % (node_words(mesh), counted(len(mesh.elements), 'element'), ' (%s)' % kinds if kinds else '')
 
 
 def collapsed(lists):

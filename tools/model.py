@@ -73,6 +73,8 @@ class Model:
         self.unread = set()
         # elements taken out again, as others hold their nodes
         self.dropped = 0
+        # node sets by name, from a format that has them (sets.py)
+        self.sets = None
         # what the user lets be left out, and how often each was met
         self.ignored = {squeezed(name): 0 for name in ignore}
 
@@ -112,19 +114,22 @@ def integer(text, line, what):
 
 # From a model to a mesh.
 
-def mesh_of(model, compact, drop=False):
-    """The mesh, and the list of input numbers in the order of the mesh's 1 to n. Elements within others go where asked, or the file is too long."""
+def mesh_of(model, compact, drop=False, counter=None):
+    """The mesh, and the list of input numbers in the order of the mesh's 1 to n. Elements within others go where asked, or the file is too long;
+    the counter (counts.py) gives the unknowns of the nodes by the elements that the file has."""
     test_nodes(model)
     for element in model.elements:
         test_element(model, element)
     numbers = sorted(model.nodes)
     if not compact:
         test_gaps(model, numbers)
-    if drop or too_long(model):
+    counts = counter(model, numbers) if counter else None
+    start = grd.elements_at(len(numbers), counts)
+    if drop or too_long(model, start):
         drop_inner(model)
-    test_length(model)
+    test_length(model, start)
     place = {number: i for i, number in enumerate(numbers, 1)}
-    mesh = grd.Mesh(len(numbers), [(kind, [place[p] for p in nodes]) for e in model.elements for kind, nodes in records(e)])
+    mesh = grd.Mesh(len(numbers), [(kind, [place[p] for p in nodes]) for e in model.elements for kind, nodes in records(e)], counts)
     try:
         grd.test_entries(mesh)
     except grd.Refusal as refusal:
@@ -141,8 +146,9 @@ def length(element):
     return sum(grd.element_bytes(kind) for kind, _ in records(element))
 
 
-def too_long(model):
-    return grd.HEADER_BYTES + sum(length(element) for element in model.elements) > grd.MOST_BYTES
+def too_long(model, start):
+    """Whether the elements, from this byte on, run past the greatest length."""
+    return start + sum(length(element) for element in model.elements) > grd.MOST_BYTES
 
 
 def test_nodes(model):
@@ -153,8 +159,8 @@ def test_nodes(model):
         raise Fault(line, '%d nodes, and GRD has room for %d: this is the first too many' % (len(model.nodes), grd.MOST_NODES))
 
 
-def test_length(model):
-    size = grd.HEADER_BYTES
+def test_length(model, start):
+    size = start
     for element in model.elements:
         size += length(element)
         if size > grd.MOST_BYTES:

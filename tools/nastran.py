@@ -1,13 +1,16 @@
-"""NASTRAN bulk data: connection cards in free, small (8 columns) and large (16 columns) field, and the files that INCLUDE takes in.
+"""NASTRAN bulk data: connection cards in free, small (8 columns) and large (16 columns) field, the files that INCLUDE takes in, and sets of grid
+points where one is asked for: SET of the case control, SET1 and SET3.
 
 As in source document 004, a continuation stands right behind its parent card. Every other card must be known to join nothing.
 """
 
+import re
 from collections import namedtuple
 
 import known
 from model import Fault, Model, Stop, integer, line_name
 from places import point
+from sets import Sets, node_named, nodes_within
 from systems import KINDS, Systems
 
 # A card's nodes: their fields (field 1 is the element's number), how many of them it must have, and the GRD kind with the same corners.
@@ -63,14 +66,21 @@ WARPING = (17, 18)
 
 Card = namedtuple('Card', 'line name fields')
 
+# A set of the case control; a line that ends with a comma goes on.
+SET = re.compile(r'\s*SET\s+([0-9]+)\s*=(.*)', re.IGNORECASE)
+
 
 def read(source, ignore=()):
     """The model of the file and of those that it takes in. Without a GRID card the nodes are those that the elements name."""
     model, seen, systems = Model(ignore), {}, Systems()
-    for card in cards(bulk(source)):
+    model.sets = Sets()
+    control, data = parted(source)
+    note_control(control, model)
+    for card in cards(bulk(data)):
         with source.each():
             read_card(card, model, seen)
             note_place(card, systems)
+            note_set(card, model)
     systems.settle(model.places)
     if not model.nodes:
         model.nodes_from_elements()
@@ -93,11 +103,16 @@ def read_card(card, model, seen):
         model.leave_out(card.line, card.name, 'card %s is not known, and might join nodes' % card.name)
 
 
-def bulk(source):
-    """Lines of the bulk data with their numbers, without comments: after BEGIN BULK, if there is one, up to ENDDATA."""
+def parted(source):
+    """Lines with their numbers, without comments: those before BEGIN BULK, and those after it; all where there is none."""
     lines = list(with_included(source, source.lines()))
     begins = [i for i, (_, text) in enumerate(lines) if text.upper().split()[:2] == ['BEGIN', 'BULK']]
-    for line, text in lines[begins[0] + 1 if begins else 0:]:
+    return (lines[:begins[0]], lines[begins[0] + 1:]) if begins else ([], lines)
+
+
+def bulk(lines):
+    """The lines up to ENDDATA that hold something."""
+    for line, text in lines:
         # some programs write a checksum behind it
         if text.upper().split()[:1] == ['ENDDATA']:
             return
@@ -200,6 +215,59 @@ def split_free(text):
         return words[0], words[1:], ''
     words += [''] * (count + 2 - len(words))
     return words[0], words[1:count + 1], words[count + 1]
+
+
+# Sets.
+
+def note_control(lines, model):
+    """The sets of the case control. One that is given twice is two: each subcase has its own."""
+    place = 0
+    while place < len(lines):
+        line, text = lines[place]
+        match = SET.fullmatch(text)
+        while match and text.rstrip().endswith(',') and place + 1 < len(lines):
+            place += 1
+            text = text + lines[place][1]
+        if match:
+            words = SET.fullmatch(text).group(2).upper().replace(',', ' ').split()
+            add_set(model, match.group(1), line, words, 'case control, line %d' % line)
+        place += 1
+
+
+def note_set(card, model):
+    """A set that a card gives: SET1, or SET3 with what it is a set of before the numbers."""
+    if card.name == 'SET1':
+        add_set(model, field(card, 1), card.line, [word.upper() for word in card.fields[1:] if word], 'SET1')
+    elif card.name == 'SET3' and field(card, 2).upper() == 'GRID':
+        add_set(model, field(card, 1), card.line, [word.upper() for word in card.fields[2:] if word], 'SET3')
+
+
+def add_set(model, name, line, words, scope):
+    model.sets.add(name, line, lambda: set_numbers(model, words, line, name), scope)
+
+
+def set_numbers(model, words, line, name):
+    """Numbers, and ranges by THRU, which may have gaps; behind EXCEPT those of the range that are not in it, as long as they lie within it."""
+    if words == ['ALL']:
+        return set(model.nodes)
+    found, span, without, at = set(), None, False, 0
+    while at < len(words):
+        if words[at] == 'EXCEPT' and span:
+            without, at = True, at + 1
+            continue
+        number = integer(words[at], line, 'set %s' % name)
+        if words[at + 1:at + 2] == ['THRU']:
+            span, without = (number, integer(''.join(words[at + 2:at + 3]), line, 'set %s, behind THRU' % name)), False
+            found |= nodes_within(model, *span)
+            at += 3
+            continue
+        without = without and span[0] <= number <= span[1]
+        if without:
+            found.discard(number)
+        else:
+            found.add(node_named(model, number, line, name))
+        at += 1
+    return found
 
 
 # Nodes and elements from cards.

@@ -10,6 +10,7 @@ import os
 import re
 import sys
 
+import explain
 import figures
 import fill
 import grd
@@ -47,21 +48,29 @@ def table(head, rows):
 def before_and_after(mesh, listed):
     """Bandwidth, profile, front and elimination under the old and the new numbers."""
     sides = []
-    before = grd.neighbours(mesh)
-    for rows in (before, figures.renumbered(before, listed.numbers)):
-        total, new = fill.counts(rows)
-        sides.append(figures.figures(rows) + (total, new))
+    before = figures.graph(mesh)
+    for graph in (before, figures.renumbered(before, listed.numbers)):
+        total, new = fill.counts(graph)
+        sides.append(figures.figures(graph) + (total, new))
     names = ('bandwidth', 'profile: places of the store', 'front', 'places used at the end of elimination', '\u2003of them joined by elimination')
     return [(name, grouped(old), grouped(now), '%.1f %%' % (100 * now / old) if old else '') for name, old, now in zip(names, *sides)]
 
 
+PART = ('part', 'nodes', 'lowest node', 'new numbers', 'levels', 'width', 'thickest level')
+# the same where the mesh counts unknowns
+COUNTED_PART = ('part', 'nodes', 'unknowns', 'lowest node', 'new numbers', 'levels', 'width in unknowns', 'thickest level')
+
+
 def part_rows(mesh, listed, numbers):
-    """For each part its nodes, its lowest number in the source, the new numbers that it takes, its levels, their greatest count and where it is."""
+    """For each part its nodes, its unknowns where they are counted, its lowest number in the source, the new numbers that it takes, its levels,
+    their greatest count and where it is."""
     rows = []
     for i, part in enumerate(parts.parts_of(grd.neighbours(mesh)), 1):
         new = [listed.numbers[p] for p in part]
-        one = thickness.of_part(part, listed.levels)
-        rows.append((i, grouped(len(part)), numbers[part[0] - 1], '%d to %d' % (min(new), max(new)), len(one.sizes), len(one.nodes), one.level))
+        one = thickness.of_part(part, listed.levels, grd.unknowns(mesh))
+        unknowns = () if mesh.counts is None else (grouped(sum(one.sizes)),)
+        rows.append((i, grouped(len(part))) + unknowns + (numbers[part[0] - 1], '%d to %d' % (min(new), max(new)), len(one.sizes), max(one.sizes),
+                                                          one.level))
     return rows
 
 
@@ -72,8 +81,9 @@ def head(name, path, found, listed):
     lines = ['<h1>%s</h1>' % html.escape(name), '<p class="faint">%s</p>' % html.escape(words)]
     lines += told('warning', parts.warnings(found.mesh, found.numbers))
     lines += table(('', 'before', 'after', 'after / before'), before_and_after(found.mesh, listed))
+    lines += ['<p class="faint">%s.</p>' % html.escape(words) for words in explain.units(found.mesh)]
     rows = part_rows(found.mesh, listed, found.numbers)
-    lines += table(('part', 'nodes', 'lowest node', 'new numbers', 'levels', 'width', 'thickest level'), rows[:MOST_ROWS])
+    lines += table(PART if found.mesh.counts is None else COUNTED_PART, rows[:MOST_ROWS])
     if len(rows) > MOST_ROWS:
         lines.append('<p class="faint">and %s parts more</p>' % grouped(len(rows) - MOST_ROWS))
     lines += told('told', thickness.words(found.mesh, listed, found.numbers))

@@ -29,8 +29,9 @@ START = rb'<svg xmlns="http://www.w3.org/2000/svg" width="%d" height="[0-9]+" vi
 SVG = Kind('a picture of picture.py', re.compile(START % (WIDTH, FONT.encode('ascii')) + rb'.*</svg>\n', re.DOTALL))
 
 
-def counts(n, elements, listed):
-    return ', '.join(grd.counted(*pair) for pair in ((n, 'node'), (elements, 'element'), (listed.figures.parts, 'part')))
+def counts(mesh, elements, listed):
+    unknowns = [] if mesh.counts is None else [(sum(mesh.counts), 'unknown')]
+    return ', '.join(grd.counted(*pair) for pair in [(mesh.n, 'node')] + unknowns + [(elements, 'element'), (listed.figures.parts, 'part')])
 
 
 def ground(height):
@@ -40,8 +41,8 @@ def ground(height):
 def svg(name, mesh, listed, filled=False, head=HEAD, elements=None):
     """The matrix before and after; without room for a heading there is none. The source may have another count of elements than the mesh."""
     height = head + matrix.height(filled)
-    words = counts(mesh.n, elements or len(mesh.elements), listed)
-    lines = [matrix.clip(mesh.n), ground(height)] + heading(name, words) * bool(head) + matrix.lines(head, mesh, listed, filled)
+    words = counts(mesh, elements or len(mesh.elements), listed)
+    lines = [matrix.clip(mesh), ground(height)] + heading(name, words) * bool(head) + matrix.lines(head, mesh, listed, filled)
     return framed(name + ' before and after the renumbering', height, lines)
 
 
@@ -49,7 +50,7 @@ def mesh_svg(name, found, listed, head=HEAD):
     """The mesh in four colourings."""
     drawn = drawing.scene(found.model, found.numbers)
     height = head + drawing.height(drawn)
-    words = counts(found.mesh.n, source.elements(found), listed)
+    words = counts(found.mesh, source.elements(found), listed)
     lines = [ground(height)] + heading(name, words) * bool(head) + drawing.lines(head, found.mesh, listed, found.numbers, drawn)
     return framed(name + ' by number, level and part', height, lines)
 
@@ -60,7 +61,7 @@ def both_svg(name, found, listed):
     drawn = drawing.scene(found.model, found.numbers)
     top = HEAD + drawing.height(drawn)
     height = top + matrix.height(True)
-    lines = [matrix.clip(mesh.n), ground(height)] + heading(name, counts(mesh.n, source.elements(found), listed))
+    lines = [matrix.clip(mesh), ground(height)] + heading(name, counts(mesh, source.elements(found), listed))
     lines += drawing.lines(HEAD, mesh, listed, found.numbers, drawn) + matrix.lines(top, mesh, listed, True)
     return framed(name + ' before and after the renumbering', height, lines)
 
@@ -87,7 +88,7 @@ def test_match(mesh, listed):
     """The listing must be this mesh's: same nodes, and its figures those of its numbers."""
     if listed.figures.nodes != mesh.n:
         raise Fault(0, 'the listing has %d nodes, the mesh %d: they do not belong together' % (listed.figures.nodes, mesh.n))
-    after = figures.figures(figures.renumbered(grd.neighbours(mesh), listed.numbers))
+    after = figures.figures(figures.renumbered(figures.graph(mesh), listed.numbers))
     if after != (listed.figures.bandwidth, listed.figures.profile, listed.figures.front):
         raise Fault(0, "the listing's figures are not those of its numbers on this mesh: they do not belong together")
 

@@ -6,6 +6,8 @@
   to_grd.py --compact IN -o OUT.grd    close gaps in the node numbers; OUT.nodes has the map
   to_grd.py --ignore NAME ..           leave out what may join nodes and is not read: a keyword, card, section or element type
   to_grd.py --drop-inner ..            leave out elements whose nodes all lie in another one
+  to_grd.py --unknowns N ..            a file of version 2: N unknowns to each node; KIND=N for the elements of a kind
+  to_grd.py --unknowns-set NAME=N ..   N unknowns to each node of a set
 """
 
 import argparse
@@ -13,6 +15,7 @@ import os
 import sys
 
 import abaqus
+import counts
 import gmsh
 import grd
 import nastran
@@ -49,9 +52,10 @@ def model_of(source, form=None, ignore=()):
 
 
 def convert(arguments):
+    counter = counts.counter(arguments)
     source = Source(arguments.input)
     model = model_of(source, arguments.format, arguments.ignore)
-    mesh, numbers = mesh_of(model, arguments.compact, arguments.drop_inner)
+    mesh, numbers = mesh_of(model, arguments.compact, arguments.drop_inner, counter)
     outputs = [Output(arguments.output, grd.write(mesh), GRD)]
     if arguments.compact:
         outputs.append(Output(map_path(arguments.output), map_bytes(numbers), NODES))
@@ -73,11 +77,11 @@ def changed(ignore, model):
     """What the mesh has otherwise than the file, or hasn't."""
     covered = [element for element in model.elements if not element.kind]
     if covered:
-        counts = {len(element.nodes): 0 for element in covered}
+        met = {len(element.nodes): 0 for element in covered}
         for element in covered:
-            counts[len(element.nodes)] += 1
+            met[len(element.nodes)] += 1
         yield ('elements that GRD has no kind for, written as others that make the same nodes adjoin: %d (%s)'
-               % (len(covered), ', '.join('%d-node %d' % pair for pair in sorted(counts.items()))))
+               % (len(covered), ', '.join('%d-node %d' % pair for pair in sorted(met.items()))))
     if model.points:
         yield 'one-node elements left out, as they join nothing: %d' % model.points
     if model.dropped:
@@ -92,6 +96,7 @@ def main(words):
     parser.add_argument('--compact', action='store_true', help='renumber nodes by rising number; OUT.nodes has the map')
     parser.add_argument('--ignore', action='append', default=[], metavar='NAME', help='leave out this keyword, card, section or element type')
     parser.add_argument('--drop-inner', action='store_true', help='leave out elements whose nodes all lie in another one')
+    counts.add_options(parser)
     parser.add_argument('input', metavar='IN')
     add_output_options(parser, 'OUT.grd')
     arguments = parser.parse_args(words)

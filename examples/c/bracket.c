@@ -1,17 +1,21 @@
 /* Renumbers a mesh file, says what another order would give, how many passes each part took and where it is thickest, eliminates by the new
-   numbers and opens the store: examples/bracket.grd, or the file named.
+   numbers and opens the store, which is laid out in unknowns: examples/bracket.grd, or the file named.
    cc -Iinclude examples/c/bracket.c examples/c/grd.c target/staticlib/libcapi.a */
 #include <stdio.h>
 #include <stdlib.h>
 #include "grd.h"
 
-enum { NODES = WAGONEPOCH_NODES };
+enum { NODES = WAGONEPOCH_NODES, MOST_UNKNOWNS = 6 * NODES };
 
 static struct graph g;
 static uint16_t numbers[NODES], levels[NODES], passes[NODES], rooted[NODES], sizes[NODES], scratch[6 * NODES];
 
-/* The store: row q has the places from[q] on, for the numbers first[q] to q - 1. */
-static size_t first[NODES + 1], from[NODES + 2];
+/* Unknowns take consecutive numbers in the order of their nodes: node p has those from begin[p - 1] on, as many as its count says. There are
+   `unknowns` of them. */
+static size_t begin[NODES], unknowns;
+
+/* The store: row q has the places from[q] on, for the unknowns first[q] to q - 1. */
+static size_t first[MOST_UNKNOWNS + 1], from[MOST_UNKNOWNS + 2];
 
 static void stop_if(unsigned refusal, const char *call)
 {
@@ -21,19 +25,35 @@ static void stop_if(unsigned refusal, const char *call)
     }
 }
 
-/* f_q, the least of q and its neighbours by new numbers, and s_q, where row q starts. */
+/* The unknowns of each node, by the new numbers of the nodes. */
+static void number_unknowns(void)
+{
+    static size_t at[NODES + 1];
+    size_t p, q, next = 1;
+    for (p = 0; p < g.n; p++)
+        at[numbers[p]] = p;
+    for (q = 1; q <= g.n; q++) {
+        begin[at[q]] = next;
+        next += g.counts[at[q]];
+    }
+    unknowns = next - 1;
+}
+
+/* f_q, the least of q and the unknowns that it adjoins, and s_q, where row q starts. All unknowns of a node adjoin one another, and those of its
+   neighbours: so they have the same f. */
 static void map_store(void)
 {
-    size_t p, q, i;
+    size_t p, q, i, least;
     for (p = 0; p < g.n; p++) {
-        q = numbers[p];
-        first[q] = q;
+        least = begin[p];
         for (i = g.starts[p]; i < g.starts[p + 1]; i++)
-            if (numbers[g.neighbours[i] - 1] < first[q])
-                first[q] = numbers[g.neighbours[i] - 1];
+            if (begin[g.neighbours[i] - 1] < least)
+                least = begin[g.neighbours[i] - 1];
+        for (i = 0; i < g.counts[p]; i++)
+            first[begin[p] + i] = least;
     }
     from[1] = 0;
-    for (q = 1; q <= g.n; q++)
+    for (q = 1; q <= unknowns; q++)
         from[q + 1] = from[q] + q - first[q];
 }
 
@@ -47,25 +67,37 @@ static int marked(const uint8_t *bytes, size_t p, size_t q)
     return bytes[t / 8] >> (t % 8) & 1;
 }
 
-/* Counts the marks, and the edges that are marked. */
+/* How many pairs of an unknown of one node and a later one of another, or of the same, are marked. */
+static size_t marked_pairs(const uint8_t *bytes, size_t one, size_t other)
+{
+    size_t p, q, pairs = 0;
+    for (p = begin[one]; p < begin[one] + g.counts[one]; p++)
+        for (q = begin[other]; q < begin[other] + g.counts[other]; q++)
+            if (p < q)
+                pairs += (size_t)marked(bytes, p, q);
+    return pairs;
+}
+
+/* Counts the marks, and those of pairs that adjoin: of two neighbours, or of one node. */
 static void open_store(const uint8_t *bytes)
 {
     size_t p, q, i, ones = 0, edges = 0;
-    for (q = 1; q <= g.n; q++)
+    for (q = 1; q <= unknowns; q++)
         for (p = first[q]; p < q; p++)
             ones += (size_t)marked(bytes, p, q);
-    for (p = 0; p < g.n; p++)
+    for (p = 0; p < g.n; p++) {
+        edges += marked_pairs(bytes, p, p);
         for (i = g.starts[p]; i < g.starts[p + 1]; i++)
-            if (numbers[p] < numbers[g.neighbours[i] - 1])
-                edges += (size_t)marked(bytes, numbers[p], numbers[g.neighbours[i] - 1]);
-    printf("store: places %zu marked %zu edges %zu\n", from[g.n + 1], ones, edges);
+            edges += marked_pairs(bytes, p, (size_t)g.neighbours[i] - 1);
+    }
+    printf("store: places %zu marked %zu edges %zu\n", from[unknowns + 1], ones, edges);
 }
 
 static void print_measures(const char *when, const uint16_t *numbering)
 {
     uint64_t f[WAGONEPOCH_MEASURES_FIGURES];
-    stop_if(wagonepoch_measures(g.starts, g.n + 1, g.neighbours, g.entries, numbering, g.n, scratch, g.n, f, WAGONEPOCH_MEASURES_FIGURES),
-            "measures");
+    stop_if(wagonepoch_measures(g.starts, g.n + 1, g.neighbours, g.entries, g.counts, g.n, numbering, g.n, scratch, g.n, f,
+                                WAGONEPOCH_MEASURES_FIGURES), "measures");
     printf("%s: bandwidth %llu profile %llu front %llu\n", when, (unsigned long long)f[0], (unsigned long long)f[1], (unsigned long long)f[2]);
 }
 
@@ -74,8 +106,9 @@ static void print_reverse(void)
 {
     static uint16_t reverse[NODES], from_end[NODES], of_search[NODES];
     uint64_t f[WAGONEPOCH_REVERSE_CUTHILL_MCKEE_FIGURES];
-    stop_if(wagonepoch_reverse_cuthill_mckee(g.starts, g.n + 1, g.neighbours, g.entries, reverse, g.n, from_end, g.n, of_search, g.n,
-                                             scratch, 6 * g.n, f, WAGONEPOCH_REVERSE_CUTHILL_MCKEE_FIGURES), "reverse Cuthill-McKee");
+    stop_if(wagonepoch_reverse_cuthill_mckee(g.starts, g.n + 1, g.neighbours, g.entries, g.counts, g.n, reverse, g.n, from_end, g.n,
+                                             of_search, g.n, scratch, 6 * g.n, f, WAGONEPOCH_REVERSE_CUTHILL_MCKEE_FIGURES),
+            "reverse Cuthill-McKee");
     print_measures("reverse Cuthill-McKee", reverse);
 }
 
@@ -110,12 +143,14 @@ int main(int argc, char **argv)
     size_t length, p;
     uint8_t *bytes;
     stop_if(read_graph(argc > 1 ? argv[1] : "examples/bracket.grd", &g), "mesh");
-    printf("mesh: nodes %zu entries %zu\n", g.n, g.entries);
     for (p = 0; p < g.n; p++)
         numbers[p] = (uint16_t)(p + 1);
+    number_unknowns();
+    printf("mesh: nodes %zu unknowns %zu entries %zu\n", g.n, unknowns, g.entries);
     print_measures("before", numbers);
-    stop_if(wagonepoch_run(g.starts, g.n + 1, g.neighbours, g.entries, numbers, g.n, levels, g.n, passes, g.n, scratch, 6 * g.n, f,
-                           WAGONEPOCH_RUN_FIGURES), "run");
+    stop_if(wagonepoch_run(g.starts, g.n + 1, g.neighbours, g.entries, g.counts, g.n, numbers, g.n, levels, g.n, passes, g.n,
+                           scratch, 6 * g.n, f, WAGONEPOCH_RUN_FIGURES), "run");
+    number_unknowns();
     /* the run's profile says how many bytes the marks need */
     length = (size_t)(f[3] + 7) / 8;
     print_measures("after", numbers);
@@ -125,7 +160,7 @@ int main(int argc, char **argv)
     bytes = malloc(length + 1);
     if (bytes == NULL)
         return 2;
-    stop_if(wagonepoch_eliminate(g.starts, g.n + 1, g.neighbours, g.entries, numbers, g.n, scratch, g.n, bytes, length, f,
+    stop_if(wagonepoch_eliminate(g.starts, g.n + 1, g.neighbours, g.entries, g.counts, g.n, numbers, g.n, scratch, g.n, bytes, length, f,
                                  WAGONEPOCH_ELIMINATE_FIGURES), "eliminate");
     printf("elimination: marked %llu new %llu\n", (unsigned long long)f[0], (unsigned long long)f[1]);
     map_store();

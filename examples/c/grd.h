@@ -1,4 +1,5 @@
-/* A mesh file (GRD, version 1) and its graph, for a C caller: the file's words handed to wagonepoch_mesh. */
+/* A mesh file (GRD, version 1 or 2), its graph and the unknowns of its nodes, for a C caller: the words of the elements handed to
+   wagonepoch_mesh. */
 #ifndef GRD_H
 #define GRD_H
 
@@ -6,7 +7,8 @@
 
 struct graph {
     size_t n, entries;
-    uint16_t starts[WAGONEPOCH_NODES + 1], neighbours[WAGONEPOCH_ENTRIES];
+    /* counts: how many unknowns each node has, 1 to 6 */
+    uint16_t starts[WAGONEPOCH_NODES + 1], neighbours[WAGONEPOCH_ENTRIES], counts[WAGONEPOCH_NODES];
 };
 
 /* Makes the graph of the named file. Answers 0, or what ./renumber refuses the file by; ends the program with status 2 where it can't be read. */

@@ -1,5 +1,6 @@
 /* Prints both orders of a mesh file, the run's and reverse Cuthill-McKee: a line of figures for each, then a row for each node, its old number and
-   its number by the one and by the other: examples/bracket.grd, or the file named. Status 0 printed, 1 refused, 2 neither.
+   its number by the one and by the other: examples/bracket.grd, or the file named. The figures are in unknowns, the numbers are of nodes.
+   Status 0 printed, 1 refused, 2 neither.
    cc -Iinclude examples/c/orders.c examples/c/grd.c target/staticlib/libcapi.a */
 #include <stdio.h>
 #include "grd.h"
@@ -17,11 +18,11 @@ static struct order by_run, by_reverse;
 static uint16_t scratch[6 * NODES];
 
 /* The two calls have the same parameters and as many figures. */
-static unsigned put_in_order(uint16_t (*call)(const uint16_t *, size_t, const uint16_t *, size_t, uint16_t *, size_t, uint16_t *, size_t,
-                                              uint16_t *, size_t, uint16_t *, size_t, uint64_t *, size_t), struct order *o)
+static unsigned put_in_order(uint16_t (*call)(const uint16_t *, size_t, const uint16_t *, size_t, const uint16_t *, size_t, uint16_t *, size_t,
+                                              uint16_t *, size_t, uint16_t *, size_t, uint16_t *, size_t, uint64_t *, size_t), struct order *o)
 {
-    return call(g.starts, g.n + 1, g.neighbours, g.entries, o->numbers, NODES, o->levels, NODES, o->passes, NODES, scratch, 6 * NODES,
-                o->figures, FIGURES);
+    return call(g.starts, g.n + 1, g.neighbours, g.entries, g.counts, g.n, o->numbers, NODES, o->levels, NODES, o->passes, NODES,
+                scratch, 6 * NODES, o->figures, FIGURES);
 }
 
 static void print_figures(const char *name, const struct order *o)

@@ -34,7 +34,7 @@ int main(int argc, char **argv)
     uint64_t figures[FIGURES];
     unsigned refusal = read_graph(argc > 1 ? argv[1] : "examples/bracket.grd", &g);
     if (refusal == 0)
-        refusal = wagonepoch_run(g.starts, g.n + 1, g.neighbours, g.entries, numbers, NODES, levels, NODES, passes, NODES,
+        refusal = wagonepoch_run(g.starts, g.n + 1, g.neighbours, g.entries, g.counts, g.n, numbers, NODES, levels, NODES, passes, NODES,
                                  scratch, 6 * NODES, figures, FIGURES);
     if (refusal == 0)
         print_listing(figures);

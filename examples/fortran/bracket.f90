@@ -1,18 +1,20 @@
 ! Renumbers a mesh file, says what another order would give, how many passes each part took and where it is thickest, eliminates by the new
-! numbers and opens the store: examples/bracket.grd, or the file named.
+! numbers and opens the store, which is laid out in unknowns: examples/bracket.grd, or the file named.
 ! gfortran examples/fortran/wagonepoch.f90 examples/fortran/bracket.f90 target/staticlib/libcapi.a
 program bracket
   use, intrinsic :: iso_c_binding, only: c_int16_t, c_int64_t, c_int8_t, c_size_t
   use wagonepoch
   implicit none
 
-  integer(c_int16_t) :: elements(32763), starts(max_nodes + 1), neighbours(max_entries)
+  integer(c_int16_t) :: elements(32763), starts(max_nodes + 1), neighbours(max_entries), counts(max_nodes)
   integer(c_int16_t) :: numbers(max_nodes), levels(max_nodes), passes(max_nodes), rooted(max_nodes), sizes(max_nodes)
   integer(c_int16_t) :: scratch(6 * max_nodes)
   integer(c_int8_t), allocatable :: bytes(:)
   integer(c_int64_t) :: figures(7)
-  ! the store: row q has the places from(q) on, for the numbers first(q) to q - 1
-  integer :: first(max_nodes), from(max_nodes + 1)
+  ! unknowns take consecutive numbers in the order of their nodes: node p has those from begin(p) on, as many as its count says
+  integer :: begin(max_nodes), unknowns
+  ! the store: row q has the places from(q) on, for the unknowns first(q) to q - 1
+  integer :: first(max_unknowns), from(max_unknowns + 1)
   integer :: p, parts
   integer(c_size_t) :: n, words, entries, length
 
@@ -20,11 +22,13 @@ program bracket
   call stop_if(wagonepoch_mesh(n, elements, words, starts, size(starts, kind=c_size_t), neighbours, &
                                size(neighbours, kind=c_size_t), scratch, size(scratch, kind=c_size_t), figures, 1_c_size_t), 'mesh')
   entries = figures(1)
-  print '(a,i0,a,i0)', 'mesh: nodes ', n, ' entries ', entries
   numbers(1:n) = [(int(p, c_int16_t), p = 1, int(n))]
+  call number_unknowns()
+  print '(a,i0,a,i0,a,i0)', 'mesh: nodes ', n, ' unknowns ', unknowns, ' entries ', entries
   call print_measures('before', numbers)
-  call stop_if(wagonepoch_run(starts, n + 1, neighbours, entries, numbers, n, levels, n, passes, n, scratch, 6 * n, figures, &
-                              7_c_size_t), 'run')
+  call stop_if(wagonepoch_run(starts, n + 1, neighbours, entries, counts, n, numbers, n, levels, n, passes, n, scratch, 6 * n, &
+                              figures, 7_c_size_t), 'run')
+  call number_unknowns()
   parts = int(figures(2))
   length = (figures(4) + 7) / 8
   call print_measures('after', numbers)
@@ -33,8 +37,8 @@ program bracket
   print '(a,*(1x,i0))', 'passes:', passes(1:parts)
   call print_thickest()
   allocate (bytes(length))
-  call stop_if(wagonepoch_eliminate(starts, n + 1, neighbours, entries, numbers, n, scratch, n, bytes, length, figures, &
-                                    2_c_size_t), 'eliminate')
+  call stop_if(wagonepoch_eliminate(starts, n + 1, neighbours, entries, counts, n, numbers, n, scratch, n, bytes, length, &
+                                    figures, 2_c_size_t), 'eliminate')
   print '(a,i0,a,i0)', 'elimination: marked ', figures(1), ' new ', figures(2)
   call map_store()
   call open_store()
@@ -49,7 +53,8 @@ contains
     stop 1
   end subroutine
 
-  ! The file's words after its header of 9 bytes, low byte first, as this machine has them; n is the second word of the header.
+  ! The file's words after its header of 9 bytes, low byte first, as this machine has them; n is the second word of the header. In version 2 the
+  ! counts of unknowns come before the elements, in version 1 each node has one.
   subroutine read_mesh()
     character(len=255) :: name
     character(len=3) :: mark
@@ -61,11 +66,18 @@ contains
     inquire (unit, size=bytes_in_all)
     call stop_unless(bytes_in_all >= 9 .and. bytes_in_all <= 65535 .and. mod(bytes_in_all, 2) == 1, name)
     read (unit) mark, head
-    call stop_unless(mark == 'GRD' .and. head(1) == 1, name)
+    call stop_unless(mark == 'GRD' .and. (head(1) == 1 .or. head(1) == 2), name)
     n = word(head(2))
     words = (bytes_in_all - 9) / 2
+    counts = 1
+    if (head(1) == 2) then
+      call stop_unless(n <= max_nodes .and. n <= words, name)
+      read (unit) counts(1:n)
+      words = words - n
+    end if
     read (unit) elements(1:words)
     close (unit)
+    call stop_unless(all(counts >= 1 .and. counts <= 6), name)
     call stop_unless(elements_read() == word(head(3)), name)
   end subroutine
 
@@ -95,15 +107,16 @@ contains
   subroutine print_measures(when, numbering)
     character(*), intent(in) :: when
     integer(c_int16_t), intent(in) :: numbering(*)
-    call stop_if(wagonepoch_measures(starts, n + 1, neighbours, entries, numbering, n, scratch, n, figures, 3_c_size_t), 'measures')
+    call stop_if(wagonepoch_measures(starts, n + 1, neighbours, entries, counts, n, numbering, n, scratch, n, figures, &
+                                     3_c_size_t), 'measures')
     print '(a,a,i0,a,i0,a,i0)', when, ': bandwidth ', figures(1), ' profile ', figures(2), ' front ', figures(3)
   end subroutine
 
   ! The order for a solver that expects reverse Cuthill-McKee, with lists of its own.
   subroutine print_reverse()
     integer(c_int16_t) :: reverse(n), from_end(n), of_search(n)
-    call stop_if(wagonepoch_reverse_cuthill_mckee(starts, n + 1, neighbours, entries, reverse, n, from_end, n, of_search, n, &
-                                                  scratch, 6 * n, figures, 7_c_size_t), 'reverse Cuthill-McKee')
+    call stop_if(wagonepoch_reverse_cuthill_mckee(starts, n + 1, neighbours, entries, counts, n, reverse, n, from_end, n, &
+                                                  of_search, n, scratch, 6 * n, figures, 7_c_size_t), 'reverse Cuthill-McKee')
     call print_measures('reverse Cuthill-McKee', reverse)
   end subroutine
 
@@ -117,18 +130,31 @@ contains
     print '(a,i0,a,i0,a,i0,a,i0)', 'levels: root ', root, ' depth ', figures(1), ' thickest ', thickest, ' nodes ', sizes(thickest)
   end subroutine
 
-  ! f_q, the least of q and its neighbours by new numbers, and s_q, where row q starts.
-  subroutine map_store()
-    integer :: q, i
+  ! The unknowns of each node, by the new numbers of the nodes.
+  subroutine number_unknowns()
+    integer :: at(n), q
     do p = 1, int(n)
-      q = numbers(p)
-      first(q) = q
+      at(numbers(p)) = p
+    end do
+    unknowns = 0
+    do q = 1, int(n)
+      begin(at(q)) = unknowns + 1
+      unknowns = unknowns + counts(at(q))
+    end do
+  end subroutine
+
+  ! f_q, the least of q and the unknowns that it adjoins, and s_q, where row q starts. All unknowns of a node have the same f.
+  subroutine map_store()
+    integer :: q, i, least
+    do p = 1, int(n)
+      least = begin(p)
       do i = word(starts(p)) + 1, word(starts(p + 1))
-        first(q) = min(first(q), int(numbers(neighbours(i))))
+        least = min(least, begin(neighbours(i)))
       end do
+      first(begin(p):begin(p) + counts(p) - 1) = least
     end do
     from(1) = 0
-    do q = 1, int(n)
+    do q = 1, unknowns
       from(q + 1) = from(q) + q - first(q)
     end do
   end subroutine
@@ -143,22 +169,34 @@ contains
     marked = ibits(int(bytes(t / 8 + 1)), mod(t, 8), 1)
   end function
 
-  ! Counts the marks, and the edges that are marked.
+  ! How many pairs of an unknown of one node and a later one of another, or of the same, are marked.
+  integer function marked_pairs(one, other)
+    integer, intent(in) :: one, other
+    integer :: i, j
+    marked_pairs = 0
+    do i = begin(one), begin(one) + counts(one) - 1
+      do j = max(i + 1, begin(other)), begin(other) + counts(other) - 1
+        marked_pairs = marked_pairs + marked(i, j)
+      end do
+    end do
+  end function
+
+  ! Counts the marks, and those of pairs that adjoin: of two neighbours, or of one node.
   subroutine open_store()
     integer :: q, i, ones, edges
     ones = 0
     edges = 0
-    do q = 1, int(n)
+    do q = 1, unknowns
       do p = first(q), q - 1
         ones = ones + marked(p, q)
       end do
     end do
     do p = 1, int(n)
+      edges = edges + marked_pairs(p, p)
       do i = word(starts(p)) + 1, word(starts(p + 1))
-        q = numbers(neighbours(i))
-        if (numbers(p) < q) edges = edges + marked(int(numbers(p)), q)
+        edges = edges + marked_pairs(p, int(neighbours(i)))
       end do
     end do
-    print '(a,i0,a,i0,a,i0)', 'store: places ', from(n + 1), ' marked ', ones, ' edges ', edges
+    print '(a,i0,a,i0,a,i0)', 'store: places ', from(unknowns + 1), ' marked ', ones, ' edges ', edges
   end subroutine
 end program

@@ -4,7 +4,7 @@ module wagonepoch
   use, intrinsic :: iso_c_binding, only: c_int16_t, c_int64_t, c_int8_t, c_size_t
   implicit none
 
-  integer, parameter :: max_nodes = 4096, max_entries = 32768
+  integer, parameter :: max_nodes = 4096, max_entries = 32768, max_unknowns = 6 * max_nodes
 
   interface
     function wagonepoch_rooted_levels(starts, starts_len, neighbours, neighbours_len, root, levels, levels_len, sizes, sizes_len, &
@@ -18,45 +18,47 @@ module wagonepoch
       integer(c_int16_t) :: answer
     end function
 
-    function wagonepoch_measures(starts, starts_len, neighbours, neighbours_len, numbering, numbering_len, scratch, scratch_len, &
-                                 figures, figures_len) bind(C) result(answer)
+    function wagonepoch_measures(starts, starts_len, neighbours, neighbours_len, counts, counts_len, numbering, numbering_len, &
+                                 scratch, scratch_len, figures, figures_len) bind(C) result(answer)
       import
-      integer(c_int16_t), intent(in) :: starts(*), neighbours(*), numbering(*)
+      integer(c_int16_t), intent(in) :: starts(*), neighbours(*), counts(*), numbering(*)
       integer(c_int16_t), intent(inout) :: scratch(*)
       integer(c_int64_t), intent(inout) :: figures(*)
-      integer(c_size_t), value :: starts_len, neighbours_len, numbering_len, scratch_len, figures_len
+      integer(c_size_t), value :: starts_len, neighbours_len, counts_len, numbering_len, scratch_len, figures_len
       integer(c_int16_t) :: answer
     end function
 
-    function wagonepoch_run(starts, starts_len, neighbours, neighbours_len, numbers, numbers_len, levels, levels_len, passes, &
-                            passes_len, scratch, scratch_len, figures, figures_len) bind(C) result(answer)
+    function wagonepoch_run(starts, starts_len, neighbours, neighbours_len, counts, counts_len, numbers, numbers_len, levels, &
+                            levels_len, passes, passes_len, scratch, scratch_len, figures, figures_len) bind(C) result(answer)
       import
-      integer(c_int16_t), intent(in) :: starts(*), neighbours(*)
+      integer(c_int16_t), intent(in) :: starts(*), neighbours(*), counts(*)
       integer(c_int16_t), intent(inout) :: numbers(*), levels(*), passes(*), scratch(*)
       integer(c_int64_t), intent(inout) :: figures(*)
-      integer(c_size_t), value :: starts_len, neighbours_len, numbers_len, levels_len, passes_len, scratch_len, figures_len
+      integer(c_size_t), value :: starts_len, neighbours_len, counts_len, numbers_len, levels_len, passes_len, scratch_len, &
+                                  figures_len
       integer(c_int16_t) :: answer
     end function
 
-    function wagonepoch_reverse_cuthill_mckee(starts, starts_len, neighbours, neighbours_len, numbers, numbers_len, levels, &
-                                              levels_len, passes, passes_len, scratch, scratch_len, figures, figures_len) &
-                                              bind(C) result(answer)
+    function wagonepoch_reverse_cuthill_mckee(starts, starts_len, neighbours, neighbours_len, counts, counts_len, numbers, &
+                                              numbers_len, levels, levels_len, passes, passes_len, scratch, scratch_len, &
+                                              figures, figures_len) bind(C) result(answer)
       import
-      integer(c_int16_t), intent(in) :: starts(*), neighbours(*)
+      integer(c_int16_t), intent(in) :: starts(*), neighbours(*), counts(*)
       integer(c_int16_t), intent(inout) :: numbers(*), levels(*), passes(*), scratch(*)
       integer(c_int64_t), intent(inout) :: figures(*)
-      integer(c_size_t), value :: starts_len, neighbours_len, numbers_len, levels_len, passes_len, scratch_len, figures_len
+      integer(c_size_t), value :: starts_len, neighbours_len, counts_len, numbers_len, levels_len, passes_len, scratch_len, &
+                                  figures_len
       integer(c_int16_t) :: answer
     end function
 
-    function wagonepoch_eliminate(starts, starts_len, neighbours, neighbours_len, numbering, numbering_len, scratch, scratch_len, &
-                                  bytes, bytes_len, figures, figures_len) bind(C) result(answer)
+    function wagonepoch_eliminate(starts, starts_len, neighbours, neighbours_len, counts, counts_len, numbering, numbering_len, &
+                                  scratch, scratch_len, bytes, bytes_len, figures, figures_len) bind(C) result(answer)
       import
-      integer(c_int16_t), intent(in) :: starts(*), neighbours(*), numbering(*)
+      integer(c_int16_t), intent(in) :: starts(*), neighbours(*), counts(*), numbering(*)
       integer(c_int16_t), intent(inout) :: scratch(*)
       integer(c_int8_t), intent(inout) :: bytes(*)
       integer(c_int64_t), intent(inout) :: figures(*)
-      integer(c_size_t), value :: starts_len, neighbours_len, numbering_len, scratch_len, bytes_len, figures_len
+      integer(c_size_t), value :: starts_len, neighbours_len, counts_len, numbering_len, scratch_len, bytes_len, figures_len
       integer(c_int16_t) :: answer
     end function
 

@@ -1,5 +1,5 @@
 //! Renumbers a mesh file, says what another order would give, how many passes each part took and where it is thickest, eliminates by the new
-//! numbers and opens the store: examples/bracket.grd, or the file named.
+//! numbers and opens the store, which is laid out in unknowns: examples/bracket.grd, or the file named.
 //! rustc --edition 2021 -L target/staticlib -l static=capi examples/rust/bracket.rs
 mod wagonepoch;
 
@@ -16,53 +16,87 @@ fn elements_in(words: &[u16]) -> Option<usize> {
     (at == words.len()).then_some(count)
 }
 
-/// The file's words after its header of 9 bytes, low byte first; n is the second word of the header. The third says how many elements there are:
-/// they are counted here, as the mesh call knows no such number.
-fn read_mesh(name: &str) -> Result<(usize, Vec<u16>), String> {
-    let file = std::fs::read(name).map_err(|e| format!("{name}: {e}"))?;
-    let word = |b: &[u8]| u16::from_le_bytes([b[0], b[1]]);
-    let words: Vec<u16> = file.get(9..).unwrap_or(&[]).chunks_exact(2).map(word).collect();
-    let whole = file.len() >= 9 && file.len() <= 65535 && file.len() % 2 == 1 && file.starts_with(b"GRD\x01\x00");
-    if !whole || elements_in(&words) != Some(word(&file[7..]).into()) {
-        return Err(format!("{name} is no mesh"));
-    }
-    Ok((word(&file[5..]).into(), words))
+/// What a file has: the number of nodes, how many unknowns each has, and the words of the elements.
+struct Mesh {
+    n: usize,
+    counts: Vec<u16>,
+    elements: Vec<u16>,
 }
 
-/// A graph by its two lists.
+/// The file's words after its header of 9 bytes, low byte first; n is the second word of the header. The third says how many elements there are:
+/// they are counted here, as the mesh call knows no such number. In version 2 the counts of unknowns come before the elements, in version 1 each
+/// node has one.
+fn read_mesh(name: &str) -> Result<Mesh, String> {
+    let file = std::fs::read(name).map_err(|e| format!("{name}: {e}"))?;
+    let word = |b: &[u8]| u16::from_le_bytes([b[0], b[1]]);
+    let broken = || format!("{name} is no mesh");
+    if file.len() < 9 || file.len() > 65535 || file.len() % 2 == 0 || !file.starts_with(b"GRD") || !(1..=2).contains(&word(&file[3..])) {
+        return Err(broken());
+    }
+    let n = usize::from(word(&file[5..]));
+    let mut counts: Vec<u16> = file[9..].chunks_exact(2).map(word).collect();
+    let elements = if word(&file[3..]) == 2 { (n <= counts.len()).then(|| counts.split_off(n)).ok_or_else(broken)? } else { counts.split_off(0) };
+    counts.resize(n, 1);
+    if elements_in(&elements) != Some(word(&file[7..]).into()) || counts.iter().any(|count| !(1..=6).contains(count)) {
+        return Err(broken());
+    }
+    Ok(Mesh { n, counts, elements })
+}
+
+/// A graph by its two lists, and the unknowns of its nodes.
 struct Graph {
     starts: Vec<u16>,
     neighbours: Vec<u16>,
+    counts: Vec<u16>,
 }
 
 impl Graph {
     fn row(&self, p: usize) -> &[u16] {
         &self.neighbours[self.starts[p - 1].into()..self.starts[p].into()]
     }
+
+    /// The unknowns of each node, by new numbers: they take consecutive numbers in the order of their nodes. Place 0 is unused.
+    fn unknowns(&self, numbers: &[u16]) -> Vec<std::ops::Range<usize>> {
+        let mut order: Vec<usize> = (1..=numbers.len()).collect();
+        order.sort_by_key(|&p| numbers[p - 1]);
+        let (mut found, mut next) = (vec![0..0; numbers.len() + 1], 1);
+        for p in order {
+            let end = next + usize::from(self.counts[p - 1]);
+            found[p] = next..end;
+            next = end;
+        }
+        found
+    }
 }
 
-/// The store: row q has the places from `from[q]` on, for the numbers `first[q]` to q - 1.
+/// The store: row q has the places from `from[q]` on, for the unknowns `first[q]` to q - 1.
 struct Store {
+    unknowns: Vec<std::ops::Range<usize>>,
     first: Vec<usize>,
     from: Vec<usize>,
     bytes: Vec<u8>,
 }
 
 impl Store {
-    /// f_q, the least of q and its neighbours by new numbers, and s_q, where row q starts.
+    /// f_q, the least of q and the unknowns that it adjoins, and s_q, where row q starts. All unknowns of a node have the same f.
     fn new(graph: &Graph, numbers: &[u16], bytes: Vec<u8>) -> Store {
-        let n = numbers.len();
-        let mut first = vec![0; n + 1];
-        for p in 1..=n {
-            let q = numbers[p - 1];
-            let least = graph.row(p).iter().map(|&r| numbers[usize::from(r) - 1]).min();
-            first[usize::from(q)] = least.map_or(q, |f| f.min(q)).into();
+        let unknowns = graph.unknowns(numbers);
+        let size = unknowns.iter().map(|of_node| of_node.len()).sum::<usize>();
+        let mut first = vec![0; size + 1];
+        for p in 1..unknowns.len() {
+            let least = graph.row(p).iter().map(|&r| unknowns[usize::from(r)].start).fold(unknowns[p].start, usize::min);
+            first[unknowns[p].clone()].fill(least);
         }
-        let mut from = vec![0; n + 2];
-        for q in 1..=n {
+        let mut from = vec![0; size + 2];
+        for q in 1..=size {
             from[q + 1] = from[q] + q - first[q];
         }
-        Store { first, from, bytes }
+        Store { unknowns, first, from, bytes }
+    }
+
+    /// How many rows it has.
+    fn size(&self) -> usize {
+        self.first.len() - 1
     }
 
     /// The mark of the pair p < q.
@@ -73,10 +107,16 @@ impl Store {
         let t = self.from[q] + p - self.first[q];
         self.bytes[t / 8] >> (t % 8) & 1 == 1
     }
+
+    /// How many pairs of an unknown of one node and a later one of another, or of the same, are marked.
+    fn marked_pairs(&self, one: usize, other: usize) -> usize {
+        let later = |p: usize| self.unknowns[other].clone().filter(move |&q| p < q && self.marked(p, q)).count();
+        self.unknowns[one].clone().map(later).sum()
+    }
 }
 
 fn print_measures(when: &str, graph: &Graph, numbers: &[u16]) -> Result<(), String> {
-    let [bandwidth, profile, front] = wagonepoch::measures(&graph.starts, &graph.neighbours, numbers)?;
+    let [bandwidth, profile, front] = wagonepoch::measures(&graph.starts, &graph.neighbours, &graph.counts, numbers)?;
     println!("{when}: bandwidth {bandwidth} profile {profile} front {front}");
     Ok(())
 }
@@ -96,32 +136,32 @@ fn print_thickest(graph: &Graph, numbers: &[u16]) -> Result<(), String> {
     Ok(())
 }
 
-fn open_store(graph: &Graph, numbers: &[u16], store: &Store) {
-    let n = numbers.len();
-    let ones: usize = (1..=n).map(|q| (store.first[q]..q).filter(|&p| store.marked(p, q)).count()).sum();
-    let new = |p: usize| usize::from(numbers[p - 1]);
-    let later = |p: usize, r: &u16| new(p) < new((*r).into()) && store.marked(new(p), new((*r).into()));
-    let edges: usize = (1..=n).map(|p| graph.row(p).iter().filter(|r| later(p, r)).count()).sum();
-    println!("store: places {} marked {ones} edges {edges}", store.from[n + 1]);
+/// Counts the marks, and those of pairs that adjoin: of two neighbours, or of one node.
+fn open_store(graph: &Graph, store: &Store) {
+    let size = store.size();
+    let ones: usize = (1..=size).map(|q| (store.first[q]..q).filter(|&p| store.marked(p, q)).count()).sum();
+    let near = |p: usize| graph.row(p).iter().map(|&r| r.into()).chain([p]).map(move |r| store.marked_pairs(p, r)).sum::<usize>();
+    let edges: usize = (1..=graph.counts.len()).map(near).sum();
+    println!("store: places {} marked {ones} edges {edges}", store.from[size + 1]);
 }
 
 fn run() -> Result<(), String> {
     let name = std::env::args().nth(1).unwrap_or("examples/bracket.grd".into());
-    let (n, elements) = read_mesh(&name)?;
+    let Mesh { n, counts, elements } = read_mesh(&name)?;
     let (starts, neighbours) = wagonepoch::mesh(n, &elements)?;
-    println!("mesh: nodes {n} entries {}", neighbours.len());
-    let graph = Graph { starts, neighbours };
+    println!("mesh: nodes {n} unknowns {} entries {}", counts.iter().map(|&count| u64::from(count)).sum::<u64>(), neighbours.len());
+    let graph = Graph { starts, neighbours, counts };
     let before: Vec<u16> = (1..=n as u16).collect();
     print_measures("before", &graph, &before)?;
-    let run = wagonepoch::run(&graph.starts, &graph.neighbours)?;
+    let run = wagonepoch::run(&graph.starts, &graph.neighbours, &graph.counts)?;
     print_measures("after", &graph, &run.numbers)?;
-    let reverse = wagonepoch::reverse_cuthill_mckee(&graph.starts, &graph.neighbours)?;
+    let reverse = wagonepoch::reverse_cuthill_mckee(&graph.starts, &graph.neighbours, &graph.counts)?;
     print_measures("reverse Cuthill-McKee", &graph, &reverse.numbers)?;
     print_passes(&run.passes);
     print_thickest(&graph, &run.numbers)?;
-    let (bytes, [marked, new]) = wagonepoch::eliminate(&graph.starts, &graph.neighbours, &run.numbers, run.figures[3])?;
+    let (bytes, [marked, new]) = wagonepoch::eliminate(&graph.starts, &graph.neighbours, &graph.counts, &run.numbers, run.figures[3])?;
     println!("elimination: marked {marked} new {new}");
-    open_store(&graph, &run.numbers, &Store::new(&graph, &run.numbers, bytes));
+    open_store(&graph, &Store::new(&graph, &run.numbers, bytes));
     Ok(())
 }
 

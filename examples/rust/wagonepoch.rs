@@ -6,22 +6,23 @@ mod c {
             levels: *mut u16, levels_len: usize, sizes: *mut u16, sizes_len: usize, figures: *mut u64, figures_len: usize,
         ) -> u16;
         pub fn wagonepoch_measures(
-            starts: *const u16, starts_len: usize, neighbours: *const u16, neighbours_len: usize, numbering: *const u16, numbering_len: usize,
-            scratch: *mut u16, scratch_len: usize, figures: *mut u64, figures_len: usize,
+            starts: *const u16, starts_len: usize, neighbours: *const u16, neighbours_len: usize, counts: *const u16, counts_len: usize,
+            numbering: *const u16, numbering_len: usize, scratch: *mut u16, scratch_len: usize, figures: *mut u64, figures_len: usize,
         ) -> u16;
         pub fn wagonepoch_run(
-            starts: *const u16, starts_len: usize, neighbours: *const u16, neighbours_len: usize, numbers: *mut u16, numbers_len: usize,
-            levels: *mut u16, levels_len: usize, passes: *mut u16, passes_len: usize, scratch: *mut u16, scratch_len: usize,
-            figures: *mut u64, figures_len: usize,
+            starts: *const u16, starts_len: usize, neighbours: *const u16, neighbours_len: usize, counts: *const u16, counts_len: usize,
+            numbers: *mut u16, numbers_len: usize, levels: *mut u16, levels_len: usize, passes: *mut u16, passes_len: usize,
+            scratch: *mut u16, scratch_len: usize, figures: *mut u64, figures_len: usize,
         ) -> u16;
         pub fn wagonepoch_reverse_cuthill_mckee(
-            starts: *const u16, starts_len: usize, neighbours: *const u16, neighbours_len: usize, numbers: *mut u16, numbers_len: usize,
-            levels: *mut u16, levels_len: usize, passes: *mut u16, passes_len: usize, scratch: *mut u16, scratch_len: usize,
-            figures: *mut u64, figures_len: usize,
+            starts: *const u16, starts_len: usize, neighbours: *const u16, neighbours_len: usize, counts: *const u16, counts_len: usize,
+            numbers: *mut u16, numbers_len: usize, levels: *mut u16, levels_len: usize, passes: *mut u16, passes_len: usize,
+            scratch: *mut u16, scratch_len: usize, figures: *mut u64, figures_len: usize,
         ) -> u16;
         pub fn wagonepoch_eliminate(
-            starts: *const u16, starts_len: usize, neighbours: *const u16, neighbours_len: usize, numbering: *const u16, numbering_len: usize,
-            scratch: *mut u16, scratch_len: usize, bytes: *mut u8, bytes_len: usize, figures: *mut u64, figures_len: usize,
+            starts: *const u16, starts_len: usize, neighbours: *const u16, neighbours_len: usize, counts: *const u16, counts_len: usize,
+            numbering: *const u16, numbering_len: usize, scratch: *mut u16, scratch_len: usize, bytes: *mut u8, bytes_len: usize,
+            figures: *mut u64, figures_len: usize,
         ) -> u16;
         pub fn wagonepoch_mesh(
             n: usize, elements: *const u16, elements_len: usize, starts: *mut u16, starts_len: usize, neighbours: *mut u16, neighbours_len: usize,
@@ -75,20 +76,20 @@ pub fn rooted_levels(starts: &[u16], neighbours: &[u16], root: u16) -> Result<Ro
     Ok(rooted)
 }
 
-/// Bandwidth, profile and front.
-pub fn measures(starts: &[u16], neighbours: &[u16], numbering: &[u16]) -> Result<[u64; 3], String> {
+/// Bandwidth, profile and front, in unknowns; counts has how many each node has, 1 to 6.
+pub fn measures(starts: &[u16], neighbours: &[u16], counts: &[u16], numbering: &[u16]) -> Result<[u64; 3], String> {
     let (mut scratch, mut figures) = (vec![0; nodes(starts)], [0; 3]);
     refused("measures", unsafe {
         c::wagonepoch_measures(
-            starts.as_ptr(), starts.len(), neighbours.as_ptr(), neighbours.len(), numbering.as_ptr(), numbering.len(),
-            scratch.as_mut_ptr(), scratch.len(), figures.as_mut_ptr(), figures.len(),
+            starts.as_ptr(), starts.len(), neighbours.as_ptr(), neighbours.len(), counts.as_ptr(), counts.len(),
+            numbering.as_ptr(), numbering.len(), scratch.as_mut_ptr(), scratch.len(), figures.as_mut_ptr(), figures.len(),
         )
     })?;
     Ok(figures)
 }
 
 /// What the whole run gives, and reverse Cuthill-McKee: new number and level of each node; the passes of each part, parts by lowest node; nodes,
-/// parts, bandwidth, profile, front, levels, width.
+/// parts, bandwidth, profile, front, levels, width, where bandwidth, profile, front and width count unknowns.
 pub struct Order {
     pub numbers: Vec<u16>,
     #[allow(dead_code)]
@@ -99,39 +100,41 @@ pub struct Order {
 
 /// Either call; they have the same parameters.
 type OrderCall = unsafe extern "C" fn(
-    *const u16, usize, *const u16, usize, *mut u16, usize, *mut u16, usize, *mut u16, usize, *mut u16, usize, *mut u64, usize,
+    *const u16, usize, *const u16, usize, *const u16, usize, *mut u16, usize, *mut u16, usize, *mut u16, usize, *mut u16, usize,
+    *mut u64, usize,
 ) -> u16;
 
-fn order_by(name: &str, call: OrderCall, starts: &[u16], neighbours: &[u16]) -> Result<Order, String> {
+fn order_by(name: &str, call: OrderCall, starts: &[u16], neighbours: &[u16], counts: &[u16]) -> Result<Order, String> {
     let n = nodes(starts);
     let mut scratch = vec![0; 6 * n];
     let mut made = Order { numbers: vec![0; n], levels: vec![0; n], passes: vec![0; n], figures: [0; 7] };
     refused(name, unsafe {
         call(
-            starts.as_ptr(), starts.len(), neighbours.as_ptr(), neighbours.len(), made.numbers.as_mut_ptr(), n,
-            made.levels.as_mut_ptr(), n, made.passes.as_mut_ptr(), n, scratch.as_mut_ptr(), scratch.len(), made.figures.as_mut_ptr(),
-            made.figures.len(),
+            starts.as_ptr(), starts.len(), neighbours.as_ptr(), neighbours.len(), counts.as_ptr(), counts.len(),
+            made.numbers.as_mut_ptr(), n, made.levels.as_mut_ptr(), n, made.passes.as_mut_ptr(), n, scratch.as_mut_ptr(), scratch.len(),
+            made.figures.as_mut_ptr(), made.figures.len(),
         )
     })?;
     made.passes.truncate(made.figures[1] as usize);
     Ok(made)
 }
 
-pub fn run(starts: &[u16], neighbours: &[u16]) -> Result<Order, String> {
-    order_by("run", c::wagonepoch_run, starts, neighbours)
+pub fn run(starts: &[u16], neighbours: &[u16], counts: &[u16]) -> Result<Order, String> {
+    order_by("run", c::wagonepoch_run, starts, neighbours, counts)
 }
 
-pub fn reverse_cuthill_mckee(starts: &[u16], neighbours: &[u16]) -> Result<Order, String> {
-    order_by("reverse Cuthill-McKee", c::wagonepoch_reverse_cuthill_mckee, starts, neighbours)
+pub fn reverse_cuthill_mckee(starts: &[u16], neighbours: &[u16], counts: &[u16]) -> Result<Order, String> {
+    order_by("reverse Cuthill-McKee", c::wagonepoch_reverse_cuthill_mckee, starts, neighbours, counts)
 }
 
 /// The mark bytes, for a numbering of this profile; the marks that are 1, and the newly joined pairs.
-pub fn eliminate(starts: &[u16], neighbours: &[u16], numbering: &[u16], profile: u64) -> Result<(Vec<u8>, [u64; 2]), String> {
+pub fn eliminate(starts: &[u16], neighbours: &[u16], counts: &[u16], numbering: &[u16], profile: u64) -> Result<(Vec<u8>, [u64; 2]), String> {
     let (mut scratch, mut bytes, mut figures) = (vec![0; nodes(starts)], vec![0; (profile as usize + 7) / 8], [0; 2]);
     refused("eliminate", unsafe {
         c::wagonepoch_eliminate(
-            starts.as_ptr(), starts.len(), neighbours.as_ptr(), neighbours.len(), numbering.as_ptr(), numbering.len(),
-            scratch.as_mut_ptr(), scratch.len(), bytes.as_mut_ptr(), bytes.len(), figures.as_mut_ptr(), figures.len(),
+            starts.as_ptr(), starts.len(), neighbours.as_ptr(), neighbours.len(), counts.as_ptr(), counts.len(),
+            numbering.as_ptr(), numbering.len(), scratch.as_mut_ptr(), scratch.len(), bytes.as_mut_ptr(), bytes.len(),
+            figures.as_mut_ptr(), figures.len(),
         )
     })?;
     Ok((bytes, figures))

@@ -5,7 +5,7 @@ import os
 import re
 
 from drawing_cases import PLATE
-from grd_cases import SAMPLE
+from grd_cases import HINGE, SAMPLE
 from harness import run
 
 import archive
@@ -77,6 +77,22 @@ def made(c):
     status, checked, out, err, kept = worked(['make', '--ignore', 'TIE', '--from', 'abaqus', 'a.txt', '-o', 'kept'],
                                              {'a.txt': deck, 'b.txt': '*NODE\n1\n2\n'})
     c.equal('archive: files taken in, and options', (status, checked, err, 'b.txt' in kept), (0, 0, '', True))
+    unknowns(c)
+
+
+def unknowns(c):
+    """Counts are kept, in mesh.grd and in how the mesh was read; the page tells the store in unknowns."""
+    words = ['make', '--unknowns', '3', '--unknowns', 'CQUAD4=6', '--unknowns-set', '7=2', 'a.bdf', '-o', 'kept']
+    status, checked, out, err, kept = worked(words, {'a.bdf': PLATE + 'SET1,7,70,90\n'})
+    c.equal('archive: with counts', (status, checked, err, out.splitlines()[-1]), (0, 0, '', 'kept: 8 hold, 0 do not'))
+    mesh = grd.read(kept['mesh.grd'])
+    c.equal('archive: the counts', mesh.counts, [6] * 6 + [2, 3, 2])
+    about = kept['ABOUT.txt'].decode('ascii')
+    c.holds('archive: how it was read', "\nread: --unknowns 3 --unknowns CQUAD4=6 --unknowns-set 7=2\n" in about)
+    c.equal('archive: every line under 145 letters, with counts', [line for line in about.split('\n') if len(line) > 145], [])
+    places(c, kept, about)
+    status, checked, out, err, kept = worked(['make', 'a.grd', '-o', 'kept'], {'a.grd': HINGE})
+    c.equal('archive: a GRD file with counts', (status, checked, err, kept['a.grd'] == kept['mesh.grd'] == HINGE), (0, 0, '', True))
 
 
 def places(c, kept, about):
@@ -85,10 +101,16 @@ def places(c, kept, about):
     rows = [[int(word) for word in line.split()] for line in kept['listing.txt'].decode('ascii').splitlines()[1:]]
     new = {old: number for old, number, _ in rows}
     mesh = grd.read(kept['mesh.grd'])
-    first = {q: q for q in new.values()}
+    first, of_node, last = {}, {}, 0
+    for p in sorted(new, key=lambda p: new[p]):
+        count = mesh.counts[p - 1] if mesh.counts else 1
+        of_node[p] = range(last + 1, last + count + 1)
+        last += count
+        first.update({q: of_node[p][0] for q in of_node[p]})
     for _, nodes in mesh.elements:
         for p in nodes:
-            first[new[p]] = min([first[new[p]]] + [new[q] for q in nodes])
+            for q in of_node[p]:
+                first[q] = min([first[q]] + [of_node[other][0] for other in nodes])
     found = sorted(sum(r - first[r] for r in range(1, q)) + p - first[q] for q in first for p in range(first[q], q))
     c.equal('archive: places', found, list(range(int(kept['listing.txt'].split()[7]))))
 

@@ -215,7 +215,8 @@ def largest(c):
         quads = ['CQUAD4,%d,1,%d,%d,%d,%d' % (r * side + q + 1, r * side + q + 1, r * side + q + 2, (r + 1) * side + q + 2, (r + 1) * side + q + 1)
                  for r in range(side - 1) for q in range(side - 1)]
         rows = [set()] + [{q for q in near(p, side)} for p in range(1, side * side + 1)]
-        head = 'nodes 4096 parts 1 bandwidth %d profile %d front %d levels 64 width 64 passes 1\n' % figures.figures(rows)
+        head = 'nodes 4096 parts 1 bandwidth %d profile %d front %d levels 64 width 64 passes 1\n' % figures.figures(
+            figures.Graph(rows, [0] + [1] * side * side))
         listing = head + ''.join('%d %d %d\n' % (p, p, (p + 63) // 64) for p in range(1, 4097))
         status, _, err, made = run(picture.main, ['--both', 'a.bdf', 'a.txt', '-o', 'a.svg'],
                                    {'a.bdf': '\n'.join(grid + quads) + '\n', 'a.txt': listing})

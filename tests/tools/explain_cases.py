@@ -23,9 +23,10 @@ def cases(c):
 def in_grd(c):
     """The first fault is the refusal of tests/reference, on every damaged file; and all of them are told."""
     draw = random.Random(5)
-    whole = grd_file(9, (7, 1, 2, 3, 4, 5, 6, 7, 8), (2, 1, 2, 9), (3, 4, 5, 6, 9), (1, 3, 9))
+    elements = (7, 1, 2, 3, 4, 5, 6, 7, 8), (2, 1, 2, 9), (3, 4, 5, 6, 9), (1, 3, 9)
     got, wanted = [], []
-    for _ in range(400):
+    for i in range(600):
+        whole = grd_file(9, *elements, counts=[1, 2, 3, 4, 5, 6, 6, 3, 1] if i % 2 else None)
         data = bytearray(whole[:draw.randint(0, len(whole))] if draw.random() < 0.2 else whole + b'\1' * (draw.random() < 0.1))
         for _ in range(draw.randint(0, 3)):
             if data:
@@ -34,13 +35,20 @@ def in_grd(c):
         got.append(b'refused %d\n' % found[0].number if found else b'nodes')
         wanted.append(program.text_for(bytes(data))[:len(got[-1])])
     c.equal('faults: the first is the refusal of tests/reference', got, wanted)
-    c.holds('faults: of every kind', {b'nodes', b'refused 1\n', b'refused 9\n', b'refused 10\n', b'refused 12\n'} <= set(got))
+    c.holds('faults: of every kind', {b'nodes', b'refused 1\n', b'refused 9\n', b'refused 10\n', b'refused 12\n', b'refused 15\n'} <= set(got))
     many = grd_file(4, (2, 1, 0, 7), (1, 3, 3), (3, 1, 2, 3, 4), (1, 5, 5)) + b'\0'
     c.equal('faults: all of them', [(refusal.number, refusal.where) for refusal in faults.of_grd(many)],
             [(10, 'element 1 (byte 9), a triangle, has node 0, and the nodes are 1 to 4'),
              (10, 'element 1 (byte 9), a triangle, has node 7, and the nodes are 1 to 4'),
              (10, 'element 4 (byte 33), a bar, has node 5, and the nodes are 1 to 4'),
              (12, 'bytes left over after the last element: 1')])
+    counts = grd_file(4, (2, 1, 2, 5), (1, 3, 3), counts=[6, 0, 7, 1]) + b'\0'
+    c.equal('faults: all of them, counts too', [(refusal.number, refusal.where) for refusal in faults.of_grd(counts)],
+            [(15, 'node 2 has 0 unknowns'), (15, 'node 3 has 7 unknowns'),
+             (10, 'element 1 (byte 17), a triangle, has node 5, and the nodes are 1 to 4'), (12, 'bytes left over after the last element: 1')])
+    cut = grd_file(5000, (1, 1, 2), counts=[9, 9])
+    c.equal('faults: too many nodes, and cut within the counts', [(refusal.number, refusal.where) for refusal in faults.of_grd(cut)],
+            [(1, 'the file says 5000 nodes'), (12, 'the file ends within the counts of unknowns, before that of node 6 is whole')])
     c.equal('faults: too many nodes, and an unknown kind',
             [refusal.number for refusal in faults.of_grd(grd_file(5000, (1, 1, 5000), (11, 1), (1, 2, 2)))], [1, 9])
 
@@ -54,6 +62,15 @@ def in_words(c):
     c.equal('explain: the refusal first', lines,
             ['refused 10: %s; element 1 (byte 9), a triangle, has node 4, and the nodes are 1 to 3' % grd.MEANING[10],
              'also: element 2 (byte 17), a bar, has node 0, and the nodes are 1 to 3 (10)'])
+    c.equal('explain: a wrong count', told(grd_file(2, (1, 1, 3), counts=[6, 9])),
+            ['refused 15: %s; node 2 has 9 unknowns' % grd.MEANING[15],
+             'also: element 1 (byte 13), a bar, has node 3, and the nodes are 1 to 2 (10)'])
+    # a hinge between two shells; unknowns 1 to 6, 7 to 9 and 10 to 15, with f 1, 1 and 7
+    c.equal('explain: in unknowns', told(grd_file(3, (1, 1, 2), (1, 2, 3), counts=[6, 3, 6])),
+            ['3 nodes, 15 unknowns (1 node with 3, 2 nodes with 6), 2 elements (bar 2)',
+             'nodes, parts, levels, passes and the rows of the listing count nodes; bandwidth, profile, front and width count unknowns',
+             'bandwidth 8 before, 8 after, in unknowns', 'profile 69 before, 69 after, in unknowns', 'front 9 before, 9 after, in unknowns',
+             'thickest at combined level 1 of 3, 6 unknowns at 1 node, the first of 2 such: 1', '  unknowns in each level: [6] 3 6'])
     lines = told(grd_file(3, *[(1, 2, 4)] * 60))
     c.equal('explain: no more than fifty besides', (len(lines), lines[-1]), (52, 'and 9 faults more'))
     c.equal('explain: a mesh in parts', told(grd_file(6, (1, 1, 3), (1, 2, 5)))[-4:],
@@ -67,14 +84,14 @@ def in_words(c):
 
 def in_sources(c):
     """The first is the fault that the conversion ends by; then the others."""
-    def found(name, text, wanted, compact=False, ignore=()):
-        options = Namespace(format=None, ignore=list(ignore), drop_inner=False, compact=compact)
+    def found(name, text, wanted, compact=False, ignore=(), unknowns=()):
+        options = Namespace(format=None, ignore=list(ignore), drop_inner=False, compact=compact, unknowns=list(unknowns), unknowns_set=[])
         got = []
 
         def work(words):
             got.extend(fault.message(name) for fault in faults.of_source(name, options))
-            first = to_grd.main(['--compact'] * compact + [word for i in ignore for word in ('--ignore', i)] + [name, '-o', 'a.grd'])
-            return first
+            given = [word for i in ignore for word in ('--ignore', i)] + [word for i in unknowns for word in ('--unknowns', i)]
+            return to_grd.main(['--compact'] * compact + given + [name, '-o', 'a.grd'])
         status, _, err, _ = run(work, [], {name: text})
         c.equal('faults: ' + text[:30], got, [name + words for words in wanted])
         c.equal('faults: the conversion ends by the first: ' + text[:30], (bool(status), err),
@@ -88,6 +105,8 @@ def in_sources(c):
     found('a.bdf', 'GRID,1\nGRID,2\nCROD,1,1,1,2\nCROD,2,1,2,3\nCROD,3,1,3,4\n',
           [':4: element 2 (CROD): there is no node 3', ':5: element 3 (CROD): there is no node 3'])
     found('a.bdf', 'GRID,1\nGRID,2\nCROD,1,1,1,2\n', [])
+    found('a.bdf', 'GRID,1\nGRID,2\nCROD,1,1,1,2\n', [], unknowns=['CROD=3'])
+    found('a.bdf', 'GRID,1\nGRID,2\nCROD,1,1,1,2\n', [': no element is of kind S4; there are: CROD, bar'], unknowns=['S4=3'])
     found('a.inp', '*NODE\n1,0,0\n2,1,0\nx,1,1\n*ELEMNT, TYPE=T3D2\n1,1,2\n*ELEMENT, TYPE=T3D2\n2,1\n3,1,2\n*TIE\nA,B\n',
           [":4: node number: 'x' is no whole number", ':5: *ELEMNT is not known, and might join nodes; --ignore ELEMNT leaves it out',
            ':8: element 2 (T3D2): 1 nodes, and it needs 2; a line that goes on ends with a comma',

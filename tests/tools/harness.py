@@ -39,9 +39,10 @@ def words(*values):
     return b''.join(bytes([value % 256, value // 256]) for value in values)
 
 
-def grd_file(n, *elements):
-    """A GRD file of the elements, each a kind and its nodes."""
-    return b'GRD' + words(1, n, len(elements)) + b''.join(words(*element) for element in elements)
+def grd_file(n, *elements, counts=None):
+    """A GRD file of the elements, each a kind and its nodes; of version 2 where there are counts of unknowns."""
+    head = words(1 if counts is None else 2, n, len(elements), *(counts or ()))
+    return b'GRD' + head + b''.join(words(*element) for element in elements)
 
 
 def data(name):

@@ -43,9 +43,15 @@ def meshes(c):
         c.equal('output: ' + name, after(to_grd.main, words, files), (status, message, wanted))
     deck = {'a.bdf': DECK.encode('ascii')}
     ends('an older mesh', ['a.bdf', '-o', 'b.grd'], dict(deck, **{'b.grd': OTHER}), 0, '', b_grd=MESH)
+    ends('an older mesh with counts', ['a.bdf', '-o', 'b.grd'], dict(deck, **{'b.grd': grd_file(3, (2, 1, 2, 3), counts=[6, 6, 3])}), 0, '',
+         b_grd=MESH)
+    ends('counts over an older mesh', ['--unknowns', '6', 'a.bdf', '-o', 'b.grd'], dict(deck, **{'b.grd': OTHER}), 0, '',
+         b_grd=grd_file(2, (1, 1, 2), counts=[6, 6]))
+    ends('a count that is none', ['--unknowns', '7', 'a.bdf', '-o', 'b.grd'], dict(deck, **{'b.grd': OTHER}), 2,
+         '--unknowns 7: a node has 1 to 6 unknowns\n')
     ends('an empty file', ['a.bdf', '-o', 'b.grd'], dict(deck, **{'b.grd': b''}), 0, '', b_grd=MESH)
     ends('another deck', ['a.bdf', '-o', 'b.bdf'], dict(deck, **{'b.bdf': b'GRID,1\n'}), 2, STANDS % ('b.bdf', 'a GRD file'))
-    ends('another version', ['a.bdf', '-o', 'b.grd'], dict(deck, **{'b.grd': b'GRD\2\0'}), 2, STANDS % ('b.grd', 'a GRD file'))
+    ends('another version', ['a.bdf', '-o', 'b.grd'], dict(deck, **{'b.grd': b'GRD\3\0'}), 2, STANDS % ('b.grd', 'a GRD file'))
     ends('another deck, forced', ['--force', 'a.bdf', '-o', 'b.bdf'], dict(deck, **{'b.bdf': b'GRID,1\n'}), 0, '', b_bdf=MESH)
     ends('its input', ['a.bdf', '-o', 'a.bdf'], deck, 2, 'a.bdf: is an input (a.bdf), and stays as it is\n')
     ends('its input, forced', ['--force', 'a.bdf', '-o', './a.bdf'], deck, 2, './a.bdf: is an input (a.bdf), and stays as it is\n')

@@ -5,7 +5,7 @@ import re
 import xml.etree.ElementTree as tree
 
 from harness import grd_file, run
-from grd_cases import SAMPLE
+from grd_cases import HINGE, ONES, SAMPLE
 from seqgp_cases import SAMPLE as LISTING
 
 import calls
@@ -19,20 +19,32 @@ import program
 SVG = '{http://www.w3.org/2000/svg}'
 
 
-def random_mesh(source, n):
-    return grd.Mesh(n, [(1, source.sample(range(1, n + 1), 2)) for _ in range(source.randrange(2 * n))])
+def random_mesh(source, n, counts=None):
+    return grd.Mesh(n, [(1, source.sample(range(1, n + 1), 2)) for _ in range(source.randrange(2 * n))], counts)
+
+
+def random_counts(source, n):
+    """None, ones, or any."""
+    return source.choice((None, [1] * n, [source.randint(1, 6) for _ in range(n)]))
 
 
 def reference_figures(mesh, numbers):
     """Bandwidth, profile and front as tests/reference has them."""
+    return calls.measures(*reference_lists(mesh), numbers, [0] * mesh.n)[1]
+
+
+def reference_lists(mesh):
+    """The two lists of the mesh's graph, and the counts."""
     rows = grd.neighbours(mesh)
-    starts, neighbours = calls.from_edges(mesh.n, [(p, q) for p in range(1, mesh.n + 1) for q in rows[p]])
-    return calls.measures(starts, neighbours, numbers, [0] * mesh.n)[1]
+    return (*calls.from_edges(mesh.n, [(p, q) for p in range(1, mesh.n + 1) for q in rows[p]]), mesh.counts or calls.ones(mesh.n))
 
 
 def cases(c):
     measured(c)
-    for name, mesh in (('sample', SAMPLE), ('one node', grd_file(1)), ('quads', quads(9)), ('several rows to a cell', quads(25))):
+    for name, mesh in (('sample', SAMPLE), ('one node', grd_file(1)), ('quads', quads(9)), ('several rows to a cell', quads(25)),
+                       ('a hinge', HINGE), ('one unknown each, counted', ONES), ('one node of six unknowns', grd_file(1, counts=[6])),
+                       ('quads in unknowns', quads(6, [1 + p % 6 for p in range(36)])),
+                       ('several unknowns to a cell', quads(9, [1 + p * p % 6 for p in range(81)]))):
         drawn(c, name, mesh)
     largest(c)
     filled(c)
@@ -42,9 +54,8 @@ def cases(c):
 
 def reference_marks(mesh, numbers):
     """Marks and new pairs as tests/reference has them."""
-    rows = grd.neighbours(mesh)
-    starts, neighbours = calls.from_edges(mesh.n, [(p, q) for p in range(1, mesh.n + 1) for q in rows[p]])
-    return calls.elimination(starts, neighbours, numbers, [0] * mesh.n, [0] * mesh.n ** 2)[1]
+    n = sum(mesh.counts or calls.ones(mesh.n))
+    return calls.elimination(*reference_lists(mesh), numbers, [0] * mesh.n, [0] * n ** 2)[1]
 
 
 def filled(c):
@@ -52,9 +63,10 @@ def filled(c):
     source = random.Random(8)
     got, wanted = [], []
     for _ in range(60):
-        mesh = random_mesh(source, source.randrange(2, 20))
+        n = source.randrange(2, 12)
+        mesh = random_mesh(source, n, random_counts(source, n))
         numbers = source.sample(range(1, mesh.n + 1), mesh.n)
-        got.append(fill.counts(figures.renumbered(grd.neighbours(mesh), [0] + numbers)))
+        got.append(fill.counts(figures.renumbered(figures.graph(mesh), [0] + numbers)))
         wanted.append(tuple(reference_marks(mesh, numbers)))
     c.equal('fill: as tests/reference has it', got, wanted)
     data = quads(9)
@@ -65,11 +77,27 @@ def filled(c):
     marks = [reference_marks(mesh, numbers) for numbers in (list(range(1, mesh.n + 1)), after)]
     c.equal('fill: cells joined, both sides', [cells(path) for path in sides], [total for total, _ in marks])
     c.equal('fill: what is written', ['joins %s more' % grd.counted(new, 'pair') in text for _, new in marks], [True, True])
-    step = 3
-    rows = grd.neighbours(mesh)
-    pairs = {(q, p) for p in range(1, mesh.n + 1) for q in range(1, mesh.n + 1) if q > p and fill.joined(rows)[p] >> q & 1}
-    wanted = {((q - 1) // step, (p - 1) // step) for q, p in pairs}
-    c.equal('fill: several rows to a cell', {(r, q) for r, row in enumerate(fill.dark_cells(rows, step)) for q in row}, wanted)
+    shared(c, source)
+
+
+def shared(c, source):
+    """Several rows to a cell: the cells of the entries and of the pairs that tests/reference joins, in nodes and in unknowns."""
+    got, wanted = [], []
+    for step in (1, 2, 3, 4, 7, 20):
+        for counts in (None, [source.randint(1, 6) for _ in range(9)]):
+            mesh = random_mesh(source, 9, counts)
+            lists, numbers = reference_lists(mesh), list(range(1, 10))
+            adjoins = calls.adjoining_of(*lists, numbers)
+            joined = calls.joined_after(*lists, numbers, len(adjoins))
+            graph = figures.graph(mesh)
+            got += [places(fill.dark_cells(graph, step)), places(matrix.dark_cells(graph, step))]
+            wanted += [{((q - 1) // step, (p - 1) // step) for p, q in joined},
+                       {((q - 1) // step, (p - 1) // step) for q in adjoins for p in adjoins[q] | {q}}]
+    c.equal('fill: several rows to a cell', got, wanted)
+
+
+def places(cells):
+    return {(row, column) for row, columns in enumerate(cells) for column in columns}
 
 
 def cells(path):
@@ -93,20 +121,20 @@ def overwritten(c):
 def measured(c):
     source = random.Random(7)
     got, wanted = [], []
-    for n in list(range(2, 20)) * 3:
-        mesh = random_mesh(source, n)
+    for n in list(range(1, 20)) * 5:
+        mesh = random_mesh(source, n, random_counts(source, n)) if n > 1 else grd.Mesh(1, [], [source.randint(1, 6)])
         numbers = source.sample(range(1, n + 1), n)
-        got.append(figures.figures(figures.renumbered(grd.neighbours(mesh), [0] + numbers)))
+        got.append(figures.figures(figures.renumbered(figures.graph(mesh), [0] + numbers)))
         wanted.append(tuple(reference_figures(mesh, numbers)))
     c.equal('figures: as tests/reference has them', got, wanted)
 
 
-def quads(side):
-    """A square of quadrilaterals, its nodes numbered in leaps."""
+def quads(side, counts=None):
+    """A square of quadrilaterals, its nodes numbered in leaps; with these counts of unknowns."""
     def number(r, column):
         return (r * side + column) * 1237 % (side * side) + 1
     return grd_file(side * side, *[(3, number(r, q), number(r, q + 1), number(r + 1, q + 1), number(r + 1, q))
-                                   for r in range(side - 1) for q in range(side - 1)])
+                                   for r in range(side - 1) for q in range(side - 1)], counts=counts)
 
 
 def drawn(c, name, data):
@@ -121,23 +149,28 @@ def drawn(c, name, data):
     head = listing.decode('ascii').split()
     before = reference_figures(mesh, list(range(1, mesh.n + 1)))
     c.equal('picture: %s: figures' % name, bold, [str(value) for value in before] + [head[5], head[7], head[9]])
-    if mesh.n <= matrix.MOST_CELLS:
+    adjoins = calls.adjoining_of(*reference_lists(mesh), list(range(1, mesh.n + 1)))
+    n = len(adjoins)
+    c.equal('picture: %s: unknowns told' % name, re.findall('>([^<]*), [^<]* elements?, [^<]* parts?<', text),
+            [grd.counted(mesh.n, 'node') + (', ' + grd.counted(n, 'unknown') if mesh.counts else '')])
+    if n <= matrix.MOST_CELLS:
         dark = cells(text)
-        entries = sum(len(row) for row in grd.neighbours(mesh))
-        c.equal('picture: %s: dark cells, both sides' % name, dark, 2 * (entries + mesh.n))
+        entries = sum(len(row) for row in adjoins.values())
+        c.equal('picture: %s: dark cells, both sides' % name, dark, 2 * (entries + n))
         areas = [area(path) for path in re.findall(r'd="(M0 0[^"]*)" fill="' + matrix.ENVELOPE, text)]
-        c.equal('picture: %s: envelope cells' % name, areas, [before[1] + mesh.n, int(head[7]) + mesh.n])
+        c.equal('picture: %s: envelope cells' % name, areas, [before[1] + n, int(head[7]) + n])
 
 
 def largest(c):
-    """4,096 nodes; the listing keeps the old numbers."""
-    data = quads(64)
-    head = 'nodes 4096 parts 1 bandwidth %d profile %d front %d levels 1 width 1 passes 1\n'
-    listing = head % figures.figures(grd.neighbours(grd.read(data))) + ''.join('%d %d 1\n' % (p, p) for p in range(1, 4097))
-    status, _, err, made = run(picture.main, ['a.grd', 'a.txt', '-o', 'a.svg'], {'a.grd': data, 'a.txt': listing})
-    text = made.get('a.svg', b'')
-    c.equal('picture: 4,096 nodes', (status, err, tree.fromstring(text).tag), (0, '', SVG + 'svg'))
-    c.holds('picture: 4,096 nodes: under 200,000 bytes', len(text) < 200000)
+    """4,096 nodes, of one unknown and of six; the listing keeps the old numbers."""
+    for name, counts in (('4,096 nodes', None), ('24,576 unknowns', [6] * 4096)):
+        data = quads(64, counts)
+        head = 'nodes 4096 parts 1 bandwidth %d profile %d front %d levels 1 width 1 passes 1\n'
+        listing = head % figures.figures(figures.graph(grd.read(data))) + ''.join('%d %d 1\n' % (p, p) for p in range(1, 4097))
+        status, _, err, made = run(picture.main, ['--fill', 'a.grd', 'a.txt', '-o', 'a.svg'], {'a.grd': data, 'a.txt': listing})
+        text = made.get('a.svg', b'')
+        c.equal('picture: ' + name, (status, err, tree.fromstring(text).tag), (0, '', SVG + 'svg'))
+        c.holds('picture: %s: under 200,000 bytes' % name, len(text) < 200000)
 
 
 def area(path):
@@ -165,5 +198,8 @@ def refused(c):
     fails('no listing', {'a.grd': SAMPLE}, 'a.txt: No such file or directory')
     fails('another mesh, by its nodes', {'a.grd': grd_file(4), 'a.txt': LISTING},
           'a.grd: the listing has 5 nodes, the mesh 4: they do not belong together')
+    more = grd_file(5, (1, 1, 2), (1, 1, 4), (1, 2, 3), (1, 3, 5), counts=[1, 1, 2, 1, 1])
+    fails('the same mesh with other counts', {'a.grd': more, 'a.txt': LISTING},
+          "a.grd: the listing's figures are not those of its numbers on this mesh: they do not belong together")
     fails('another mesh, by its figures', {'a.grd': grd_file(5), 'a.txt': LISTING},
           "a.grd: the listing's figures are not those of its numbers on this mesh: they do not belong together")

@@ -8,6 +8,7 @@ import abaqus_cases
 import archive_cases
 import collapsed_cases
 import command_cases
+import counts_cases
 import cover_cases
 import drawing_cases
 import explain_cases
@@ -27,7 +28,7 @@ import thickness_cases
 def main():
     counted = harness.Cases()
     for module in (grd_cases, cover_cases, gmsh_cases, abaqus_cases, nastran_cases, collapsed_cases, slip_cases, export_cases,
-                   command_cases, output_cases, seqgp_cases, picture_cases, drawing_cases, page_cases, thickness_cases, explain_cases,
+                   command_cases, counts_cases, output_cases, seqgp_cases, picture_cases, drawing_cases, page_cases, thickness_cases, explain_cases,
                    archive_cases, script_cases):
         try:
             module.cases(counted)

@@ -9,7 +9,7 @@ import tempfile
 import time
 
 from drawing_cases import PLATE
-from grd_cases import SAMPLE
+from grd_cases import HINGE, SAMPLE
 from harness import DATA, TOP, grd_file, run
 
 import page
@@ -69,7 +69,7 @@ class Place:
 
 
 def cases(c):
-    for part in (formats, strange, files_beside, explained, without_python, stale, progress):
+    for part in (formats, strange, files_beside, explained, unknowns, without_python, stale, progress):
         with tempfile.TemporaryDirectory() as folder:
             part(c, Place(folder))
 
@@ -123,7 +123,7 @@ def strange(c, place):
     lists = 'refused 12\n'.encode('ascii')
     for name, data in (('nothing', b''), ('prose', b'A mesh of CQUAD4 and GRID cards.\n'), ('a broken mark', b'gRD' + SAMPLE[3:]),
                        ('a broken mark, with words as of a keyword', b'gRD' + grd_file(90, (2, 10, 42, 65))[3:]),
-                       ('another version', b'GRD\2' + SAMPLE[4:]),
+                       ('another version', b'GRD\3' + SAMPLE[4:]),
                        ('the mark alone before keywords', b'GRD\n*NODE\n1,0,0\n'), ('a picture', b'<svg></svg>\n'), ('zeros', bytes(50))):
         c.equal('script: %s goes to the program' % name, place.run(given=data), (1, lists, ''))
     words = grd_file(90, (2, 10, 42, 65))
@@ -218,6 +218,29 @@ def explained(c, place):
             (1, b'refused 10\n', '  also: element 2 (byte 17), a bar, has node 0, and the nodes are 1 to 3 (10)'))
     c.equal('script: an option for the reader', place.run('--ignore', 'CWHAT', given=(DECK + 'CWHAT,1\n').encode('ascii')),
             (0, TRIANGLE, 'standard input: left out by --ignore CWHAT: 1\n'))
+
+
+def unknowns(c, place):
+    """Counts of unknowns: those of a GRD file, and those that the user gives for a mesh of another format."""
+    c.equal('script: a GRD file with counts', place.run(given=HINGE), (0, program.text_for(HINGE), ''))
+    wanted = program.text_for(grd_file(3, (2, 1, 2, 3), counts=[6, 3, 6]))
+    place.put('a.bdf', DECK + 'SET1,7,2\n')
+    words = ('--unknowns', 'CTRIA3=6', '--unknowns-set', '7=3')
+    c.equal('script: counts given', place.run(*words, 'a.bdf'), (0, wanted, ''))
+    c.equal('script: counts given for a deck on standard input', place.run('--unknowns', '6', given=DECK.encode('ascii')),
+            (0, program.text_for(grd_file(3, (2, 1, 2, 3), counts=[6] * 3)), ''))
+    status, out, err = place.run('--explain', '--picture', 'a.svg', *words, 'a.bdf')
+    c.equal('script: counts explained', (status, out, err.splitlines()[2]),
+            (0, wanted, '  3 nodes, 15 unknowns (1 node with 3, 2 nodes with 6), 1 element (triangle 1)'))
+    c.holds('script: counts drawn', b'3 nodes, 15 unknowns, 1 element, 1 part' in place.get('a.svg'))
+    own = 'a GRD file has its own counts of unknowns; --unknowns and --unknowns-set are for the other formats\n'
+    for word in words[::2]:
+        c.equal('script: %s for a GRD file' % word, place.run(word, 'a=3', given=HINGE), (2, b'', 'renumber: standard input: ' + own))
+    for word, message in (('7', '--unknowns 7: a node has 1 to 6 unknowns'), ('-3', "--unknowns -3: '-3' is no count of unknowns"),
+                          ('S4=3', 'a.bdf: no element is of kind S4; there are: CTRIA3, triangle')):
+        c.equal('script: --unknowns ' + word, place.run('--unknowns', word, 'a.bdf'), (2, b'', message + '\n'))
+    status, out, err = place.run('--unknowns')
+    c.equal('script: --unknowns alone', (status, out, 'needs a name behind it' in err), (2, b'', True))
 
 
 def without_python(c, place):

@@ -1,10 +1,12 @@
 """Where a part is thickest: the sizes of its levels by hand, in words, in the drawing, beside the matrix and on the page."""
 
+import random
 import re
 
 from drawing_cases import drawn
 from harness import grd_file, run
 from page_cases import Reader, made
+from picture_cases import random_mesh
 
 import explain
 import grd
@@ -23,6 +25,7 @@ BRICK = (''.join('GRID,%d,,%d.,%d.,%d.\n' % (p, x, y, z) for p, (x, y, z) in enu
 
 def cases(c):
     counted(c)
+    unknowns(c)
     in_words(c)
     long_parts(c)
     many_parts(c)
@@ -44,11 +47,36 @@ def listed(*levels):
 def counted(c):
     """Sizes in order; the first of those that are as thick; a level without a node has size 0."""
     level_of = [0, 2, 1, 2, 3, 3, 5]
-    c.equal('thickness: one part', thickness.of_part([1, 2, 3, 4, 5, 6], level_of), ([1, 2, 2, 0, 1], 2, [1, 3]))
-    c.equal('thickness: some nodes', thickness.of_part([2, 4, 5], level_of), ([1, 0, 2], 3, [4, 5]))
+    c.equal('thickness: one part', thickness.of_part([1, 2, 3, 4, 5, 6], level_of, [1] * 7), ([1, 2, 2, 0, 1], 2, [1, 3]))
+    c.equal('thickness: some nodes', thickness.of_part([2, 4, 5], level_of, [1] * 7), ([1, 0, 2], 3, [4, 5]))
     mesh = bars_of((1, 2), (5, 6))
     c.equal('thickness: two parts, and nodes alone left out', thickness.of_parts(mesh, listed(2, 1, 1, 1, 1, 2)),
             [([1, 1], 1, [2]), ([1, 1], 1, [5])])
+
+
+def unknowns(c):
+    """Sizes in unknowns: a level of few nodes may be the thickest."""
+    level_of = [0, 2, 1, 2, 3, 3, 5]
+    c.equal('thickness: in unknowns', thickness.of_part([1, 2, 3, 4, 5, 6], level_of, [0, 1, 6, 2, 3, 4, 5]), ([6, 3, 7, 0, 5], 3, [4, 5]))
+    c.equal('thickness: one node of many unknowns', thickness.of_part([1, 2, 3, 4, 5, 6], level_of, [0, 1, 6, 1, 1, 1, 1]), ([6, 2, 2, 0, 1], 1, [2]))
+    mesh, levels, tens = bars_of(*BULGE), listed(1, 2, 3, 3, 3, 4, 5), [10 * p for p in range(1, 8)]
+    c.equal('thickness: a bulge of hinges', thickness.words(mesh._replace(counts=[6, 6, 3, 3, 3, 6, 6]), levels, tens),
+            ['thickest at combined level 3 of 5, 9 unknowns at 3 nodes: 30, 40, 50', '  unknowns in each level: 6 6 [9] 6 6'])
+    c.equal('thickness: a bulge that is none', thickness.words(mesh._replace(counts=[6, 6, 1, 1, 1, 5, 6]), levels, tens),
+            ['thickest at combined level 1 of 5, 6 unknowns at 1 node, the first of 3 such: 10', '  unknowns in each level: [6] 6 3 5 6'])
+    two = bars_of((1, 2), (1, 3), (4, 5))._replace(counts=[6, 1, 2, 3, 3])
+    c.equal('thickness: two parts in unknowns', thickness.words(two, listed(1, 2, 2, 1, 2), tens),
+            ['part 1, 3 nodes with 9 unknowns, thickest at combined level 1 of 2, 6 unknowns at 1 node: 10', '  unknowns in each level: [6] 3',
+             'part 2, 2 nodes with 6 unknowns, thickest at combined level 1 of 2, 3 unknowns at 1 node, the first of 2 such: 40',
+             '  unknowns in each level: [3] 3'])
+    source, got, wanted = random.Random(6), [], []
+    for n in range(2, 30):
+        mesh = random_mesh(source, n, [source.randint(1, 6) for _ in range(n)])
+        answer = result.read(program.text_for(grd.write(mesh)).decode('ascii').splitlines())
+        # a part of one node has its own unknowns
+        got.append(max([max(one.sizes) for one in thickness.of_parts(mesh, answer)] + mesh.counts))
+        wanted.append(max(answer.figures.width, max(mesh.counts)))
+    c.equal('thickness: the greatest is the width of tests/reference', got, wanted)
 
 
 def in_words(c):
@@ -127,6 +155,11 @@ def bars(c):
     c.equal('bars: two parts', bar(8, (1, 1, 2), (1, 2, 3), (1, 2, 4), (1, 5, 6), (1, 6, 7), (1, 7, 8)),
             ['M473 84v100M473 284v50M482 540v12', 'thickest level of each part: at most 2 nodes'])
     c.equal('bars: no nodes joined', bar(2), [])
+    # 40 unknowns, 10 pixels each: two nodes of 6 before the three of 4, two of 6 after them, whichever end comes first; then a node alone
+    data = grd_file(8, (1, 1, 2), (1, 2, 3), (1, 2, 4), (1, 2, 5), (1, 3, 6), (1, 4, 6), (1, 5, 6), (1, 6, 7), counts=[6, 6, 4, 4, 4, 6, 6, 4])
+    text = run(picture.main, ['a.grd', 'a.txt', '-o', 'a.svg'], {'a.grd': data, 'a.txt': program.text_for(data)})[3]['a.svg'].decode('utf-8')
+    c.equal('bars: in unknowns', re.findall('<path d="([^"]*)" fill="none" stroke="#1d2b3a" stroke-width="4"/>', text)
+            + re.findall('>(thickest[^<]*)<', text), ['M473 204v120M482 540v12', 'thickest level: 3 of 5, 12 unknowns at 3 nodes'])
 
 
 def pages(c):
@@ -139,3 +172,12 @@ def pages(c):
     c.holds('page: the thickest level in words', '<p class="told">thickest at combined level 3 of 5, 3 nodes: 3 to 5\n'
             '  nodes in each level: 1 1 [3] 1 1</p>' in text)
     c.holds('page: the bar', 'thickest level: 3 of 5, 3 nodes<' in text)
+    data = grd_file(8, *[(1, p, q) for p, q in BULGE], counts=[6, 6, 3, 3, 3, 6, 6, 2])
+    text = made('a.grd', data, program.text_for(data))[3].decode('utf-8')
+    c.equal('page: the parts in unknowns', Reader(text).cells[-24:],
+            ['part', 'nodes', 'unknowns', 'lowest node', 'new numbers', 'levels', 'width in unknowns', 'thickest level',
+             '1', '7', '33', '1', '1 to 7', '5', '9', '3', '2', '1', '2', '8', '8 to 8', '1', '2', '1'])
+    for words in ('8 nodes, 35 unknowns (1 node with 2, 3 nodes with 3, 4 nodes with 6), 8 elements (bar 8), 2 parts; from a.grd',
+                  'bandwidth, profile, front and width count unknowns.', 'thickest at combined level 3 of 5, 9 unknowns at 3 nodes: 3 to 5',
+                  'thickest level: 3 of 5, 9 unknowns at 3 nodes<', 'after: new numbers, a row for each unknown<'):
+        c.holds('page: ' + words, words in text)
