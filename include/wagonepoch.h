@@ -13,13 +13,23 @@
    GRAPHS. `starts` has n + 1 words, the first 0, and `neighbours` as many as the last start says: the neighbours of node p are the words
    neighbours[starts[p - 1]] to neighbours[starts[p] - 1]. They rise, never hold p, and hold q exactly if the row of q holds p.
 
-   ANSWERS. 0, or the number of the first test that refuses. Tests run in this order:
+   UNKNOWNS. A node has one to six unknowns, a hinge node three and a shell node six, and the store is laid out in unknowns. `counts` has exactly
+   n words: how many unknowns each node has, by node. A caller with one unknown a node hands n ones, and gets what these calls gave before
+   version 1.6.0. The unknowns take consecutive numbers in the order of the new numbers of their nodes. Any two of one node adjoin, and any two of
+   two nodes that adjoin. There are at most 24,576. The five calls that number, measure, eliminate or report a part take the counts.
+     in unknowns   bandwidth, profile and front; the width of wagonepoch_run, wagonepoch_reverse_cuthill_mckee and wagonepoch_part_report; the
+                   places of the store, marks and joined pairs, and so the length of the mark bytes
+     in nodes      new numbers, parts, levels and passes; sizes and widths of wagonepoch_rooted_levels, wagonepoch_ends and
+                   wagonepoch_combined_levels; n, and so the length of every other list
+
+   ANSWERS. 0, or the number of the first test that refuses. Tests run in this order, 15 between 5 and 6:
 
      1   n is 0 or over 4,096, or `starts` is empty
      2   the first start is not 0, starts fall, or the last start is not the length of `neighbours` or is over 32,768
      3   a row leaves 1..n, holds its own node or does not rise
      4   a row's entry lacks its partner
      5   a lent list is short, `figures` too, the mark bytes excepted
+     15  a count is not 1 to 6, or `counts` has not n words
      6   the node given is 0 or above n
      7   the numbering given is not n words, each of 1..n once
      8   the mark bytes are short
@@ -27,15 +37,16 @@
      10  an element's node is 0 or above n
      11  over 32,768 neighbour entries result
 
-   12, a broken file, is the refusal of the program ./renumber alone: no call here is given a file. examples/c/grd.c reads one.
+   12, a broken file, is the refusal of the program ./renumber alone: no call here is given a file. examples/c/grd.c reads one. A file of version 2
+   has the n counts behind its element count, and then its elements; of version 1 it has no counts, and each node has one unknown.
 
    WHAT IS LEFT. Where a call answers 0 its figures stand in the front of `figures`, its results in the front of their lists, and the scratch
    words that it asks for are 0. A longer list keeps its excess. A refusal leaves every lent list as it was, but for the first n scratch words,
    which are 0 after 7, 8 and 11. Lent lists need not be cleared.
 
    ONE CALL AFTER ANOTHER. wagonepoch_mesh makes the two lists, wagonepoch_run or wagonepoch_reverse_cuthill_mckee the numbers of their nodes,
-   wagonepoch_eliminate the marks of the store by both. That these go together holds as long as nobody writes the two lists or the numbers between
-   the calls. */
+   wagonepoch_eliminate the marks of the store by both. That these go together holds as long as the last two are handed the same counts, and nobody
+   writes the two lists or the numbers between the calls. */
 
 #ifndef WAGONEPOCH_H
 #define WAGONEPOCH_H
@@ -48,12 +59,13 @@ extern "C" {
 #endif
 
 /* The version, that of the file VERSION, as a text and as 10000 a + 100 b + c for a.b.c; CHANGES.md says what each of the three numbers means. */
-#define WAGONEPOCH_VERSION "1.5.4"
-#define WAGONEPOCH_VERSION_NUMBER 10504
+#define WAGONEPOCH_VERSION "1.6.0"
+#define WAGONEPOCH_VERSION_NUMBER 10600
 
-/* The most nodes and neighbour entries. */
+/* The most nodes, neighbour entries and unknowns of a node. */
 #define WAGONEPOCH_NODES 4096
 #define WAGONEPOCH_ENTRIES 32768
+#define WAGONEPOCH_UNKNOWNS 6
 
 /* How many figures each call writes. */
 #define WAGONEPOCH_ROOTED_FIGURES 3
@@ -88,7 +100,7 @@ uint16_t wagonepoch_rooted_levels(const uint16_t *starts, size_t starts_len,
 
 /* Ends of the part that holds `node`, any node of it.
    Lent: scratch 6n, figures 6.
-   Figures: v, u, k (the depth from v), the width of the levels rooted at v, that at u, passes.
+   Figures: v, u, k (the depth from v), the width of the levels rooted at v, that at u, both in nodes, passes.
    Refusals: 1 to 6. */
 uint16_t wagonepoch_ends(const uint16_t *starts, size_t starts_len,
                          const uint16_t *neighbours, size_t neighbours_len,
@@ -98,7 +110,7 @@ uint16_t wagonepoch_ends(const uint16_t *starts, size_t starts_len,
 
 /* Combined levels of the part that holds `node`, before any change of the names of its ends; nodes of other parts get 0.
    Lent: levels n (by node), scratch 6n, figures 2.
-   Figures: k, the greatest count of a level.
+   Figures: k, the greatest count of nodes in a level.
    Refusals: 1 to 6. */
 uint16_t wagonepoch_combined_levels(const uint16_t *starts, size_t starts_len,
                                     const uint16_t *neighbours, size_t neighbours_len,
@@ -109,10 +121,11 @@ uint16_t wagonepoch_combined_levels(const uint16_t *starts, size_t starts_len,
 
 /* Measures under a numbering: `numbering` has the new number of each node.
    Lent: scratch n, figures 3.
-   Figures: bandwidth (without the diagonal), profile, front.
-   Refusals: 1 to 5, and 7, which leaves the first n scratch words 0. */
+   Figures: bandwidth (without the diagonal), profile, front, in unknowns. Of a lone node of c unknowns they are c - 1, c (c - 1) / 2 and c.
+   Refusals: 1 to 5, 15, and 7, which leaves the first n scratch words 0. */
 uint16_t wagonepoch_measures(const uint16_t *starts, size_t starts_len,
                              const uint16_t *neighbours, size_t neighbours_len,
+                             const uint16_t *counts, size_t counts_len,
                              const uint16_t *numbering, size_t numbering_len,
                              uint16_t *scratch, size_t scratch_len,
                              uint64_t *figures, size_t figures_len);
@@ -120,11 +133,12 @@ uint16_t wagonepoch_measures(const uint16_t *starts, size_t starts_len,
 /* Report of the part that holds `node`, any node of it: how the whole run numbers it.
    Lent: scratch 6n, figures 6.
    Figures: v and u, which change names where u has the lower degree, so that the numbering starts at v; k, the count of the part's levels; the
-   greatest count of nodes in a level; passes; direction, WAGONEPOCH_REVERSED where the part's numbers are turned end for end, which they are
-   exactly if that makes its profile less, else WAGONEPOCH_FORWARD.
-   Refusals: 1 to 6. */
+   greatest count of unknowns in a level; passes; direction, WAGONEPOCH_REVERSED where the part's numbers are turned end for end, which they are
+   exactly if that makes its profile, in unknowns, less, else WAGONEPOCH_FORWARD. Of these the counts touch width and direction alone.
+   Refusals: 1 to 5, 15, 6. */
 uint16_t wagonepoch_part_report(const uint16_t *starts, size_t starts_len,
                                 const uint16_t *neighbours, size_t neighbours_len,
+                                const uint16_t *counts, size_t counts_len,
                                 uint16_t node,
                                 uint16_t *scratch, size_t scratch_len,
                                 uint64_t *figures, size_t figures_len);
@@ -132,14 +146,17 @@ uint16_t wagonepoch_part_report(const uint16_t *starts, size_t starts_len,
 /* The whole run: every part renumbered.
    Lent: numbers n (the new number of each node), levels n (the combined level of each node), passes n (by part: word j - 1 is the count of the
    passes that the search for the ends of part j took, 0 after the last part), scratch 6n, figures 7.
-   Parts come in order of their lowest nodes, in the numbers too: those of part 1 are 1 to its size, and so on.
-   Figures: nodes, parts, bandwidth, profile, front, levels, width. Levels is the sum over the parts, width the greatest. A part has at least 1
-   pass and at most as many as it has levels.
-   The n numbers, without the excess of a longer list, are a numbering for wagonepoch_measures, which finds the same bandwidth, profile and
-   front, and for wagonepoch_eliminate, whose mark bytes the profile gives.
-   Refusals: 1 to 5. */
+   Parts come in order of their lowest nodes, in the numbers too: those of part 1 are 1 to its size, and so on. Of a part's numbers the counts
+   touch only whether they are turned end for end, and its levels and passes not at all.
+   Figures: nodes, parts, bandwidth, profile, front, levels, width. Levels is the sum over the parts, width w the greatest count of unknowns in a
+   level; bandwidth, profile and front are in unknowns too, and the bandwidth is at most 2w - 1. A part has at least 1 pass and at most as many as
+   it has levels.
+   The n numbers, without the excess of a longer list, are a numbering for wagonepoch_measures, which with the same counts finds the same
+   bandwidth, profile and front, and for wagonepoch_eliminate, whose mark bytes the profile gives.
+   Refusals: 1 to 5, 15. */
 uint16_t wagonepoch_run(const uint16_t *starts, size_t starts_len,
                         const uint16_t *neighbours, size_t neighbours_len,
+                        const uint16_t *counts, size_t counts_len,
                         uint16_t *numbers, size_t numbers_len,
                         uint16_t *levels, size_t levels_len,
                         uint16_t *passes, size_t passes_len,
@@ -151,33 +168,37 @@ uint16_t wagonepoch_run(const uint16_t *starts, size_t starts_len,
    they come level by level of the levels rooted at v. Then every part is turned end for end: v has the highest number of its part.
    Lent: as for wagonepoch_run: numbers n, levels n (the level of each node, rooted at the v of its part; levels are not turned, v has 1),
    passes n, scratch 6n, figures 7.
-   Figures: as of wagonepoch_run: nodes, parts, bandwidth, profile, front, levels, width, of these numbers and of these levels. In a part with two
-   or more nodes the bandwidth is at least the greatest count w of nodes in one of its levels, and at most 2w - 1.
+   Figures: as of wagonepoch_run: nodes, parts, bandwidth, profile, front, levels, width, of these numbers and of these levels, in the same units.
+   In a part with two or more nodes the bandwidth is at least the greatest count w of unknowns in one of its levels, and at most 2w - 1. The
+   counts touch the figures alone, not the numbers.
    The n numbers are a numbering for wagonepoch_measures and wagonepoch_eliminate, as those of the run are.
-   Refusals: 1 to 5. */
+   Refusals: 1 to 5, 15. */
 uint16_t wagonepoch_reverse_cuthill_mckee(const uint16_t *starts, size_t starts_len,
                                           const uint16_t *neighbours, size_t neighbours_len,
+                                          const uint16_t *counts, size_t counts_len,
                                           uint16_t *numbers, size_t numbers_len,
                                           uint16_t *levels, size_t levels_len,
                                           uint16_t *passes, size_t passes_len,
                                           uint16_t *scratch, size_t scratch_len,
                                           uint64_t *figures, size_t figures_len);
 
-/* Elimination under a numbering, as for the measures: which places of the store are ever used.
-   With f_q the least of q and the neighbours of q, by new numbers, the pair p < q with p >= f_q has place s_q + p - f_q, counted from 0, where
-   s_q is the sum of r - f_r over r < q. Place t is bit t % 8, bit 0 the lowest, of byte t / 8: 1 if the pair is joined in the end, by an edge
-   or by an elimination. Spare bits of the last byte used are 0.
-   Lent: scratch n, bytes (profile + 7) / 8, figures 2.
-   Figures: marks that are 1, newly joined pairs.
-   After a run, or after wagonepoch_reverse_cuthill_mckee, on the same two lists and with its n numbers as it left them, only a short list is
-   refused: 5, or 8 where the bytes are fewer than its profile asks for. The profile is its fourth figure, and the scratch may be the same. The
-   numbers are read and not written, so after 8 all that it gave still stands, and this call can be made again with bytes enough.
-   Marks that are 1 are at most the profile, and the profile less these marks are idle places. None is idle where every number but 1 has a
-   neighbour with a lower number: then the marks are the profile, and the bytes are full. Of one part, n + 1 less each number of
+/* Elimination under a numbering of the nodes, as for the measures: which places of the store are ever used.
+   Here p, q and r are unknowns by their numbers. With f_q the least of q and the unknowns that adjoin q, the pair p < q with p >= f_q has place
+   s_q + p - f_q, counted from 0, where s_q is the sum of r - f_r over r < q. Place t is bit t % 8, bit 0 the lowest, of byte t / 8: 1 if the pair
+   is joined in the end, at first or by an elimination. The pairs of one node's own unknowns are joined at first, as those of two nodes that adjoin
+   are: they have places and marks, and are never newly joined. Spare bits of the last byte used are 0.
+   Lent: scratch n, bytes (profile + 7) / 8, at most 37,747,200, figures 2.
+   Figures: marks that are 1, newly joined pairs, both of unknowns.
+   After a run, or after wagonepoch_reverse_cuthill_mckee, on the same two lists and counts and with its n numbers as it left them, only a short
+   list is refused: 5, or 8 where the bytes are fewer than its profile asks for. The profile is its fourth figure, and the scratch may be the same.
+   The numbers are read and not written, so after 8 all that it gave still stands, and this call can be made again with bytes enough.
+   Marks that are 1 are at most the profile, and the profile less these marks are idle places. With one unknown a node none is idle where every
+   number but 1 has a neighbour with a lower number: then the marks are the profile, and the bytes are full. Of one part, n + 1 less each number of
    wagonepoch_reverse_cuthill_mckee is such a numbering; docs/MEMORY.md says what it costs.
-   Refusals: 1 to 5, and 7 and 8, which leave the first n scratch words 0. */
+   Refusals: 1 to 5, 15, and 7 and 8, which leave the first n scratch words 0. */
 uint16_t wagonepoch_eliminate(const uint16_t *starts, size_t starts_len,
                               const uint16_t *neighbours, size_t neighbours_len,
+                              const uint16_t *counts, size_t counts_len,
                               const uint16_t *numbering, size_t numbering_len,
                               uint16_t *scratch, size_t scratch_len,
                               uint8_t *bytes, size_t bytes_len,
