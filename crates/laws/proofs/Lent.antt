@@ -8,6 +8,7 @@ use lib.ListN.{length, take, drop, replicate, length-replicate, drop-of-length-l
 use lib.Seq.{take-at, drop-at, getD-take}
 use lib.Dec.{eqb}
 use borrow.Author.Tests.{ne-eqb}
+use Rattle.basis.proofs.Logic.{or-neither}
 use Rattle.spec.specs.CallsLevels.{partScratch}
 use Rattle.spec.specs.Graph.{sizeOf}
 use Rattle.spec.specs.Lent.{accepted, refused, outcome, filled, zeroed, scratchAfter, wordsPerNode}
@@ -74,24 +75,31 @@ answer-accepted code a e = rw e
 pub filled-accepted : (code n : ℕ) (new old : List ℕ) → code ≡ 0 → length new ≡ n → new ++ drop n old ≡ filled code new old
 filled-accepted code n new old e l = sym (filled-none code new old e ∙ ap (λ (k : ℕ). new ++ drop k old) l)
 
+-- scratch that is 0 after the numbers that `used` passes, and untouched after the others
+module _ (used : ℕ → Bool) (n : ℕ) (W : List ℕ) {code c : ℕ} (e : code ≡ c) where
+  pub scratch-unused : used c ≡ false → W ≡ scratchAfter (used code) n W
+  unfolding scratchAfter
+  scratch-unused u = ap (λ (b : Bool). scratchAfter b n W) (sym (ap used e ∙ u))
+
+  pub scratch-used : used c ≡ true → zeroed n W ≡ scratchAfter (used code) n W
+  unfolding scratchAfter
+  scratch-used u = ap (λ (b : Bool). scratchAfter b n W) (sym (ap used e ∙ u))
+
 pub scratch-refused : (code c : ℕ) (S W : List ℕ) → code ≡ c → 1 ≤ c → W ≡ partScratch code S W
-unfolding partScratch scratchAfter
-scratch-refused zero c S W e l = absurd (omega arith)
-scratch-refused (suc d) c S W e l = rw (ne-eqb (suc d) 0 (λ q. omega arith))
+unfolding partScratch
+scratch-refused code c S W e l = scratch-unused (λ d. eqb d 0) (wordsPerNode * sizeOf S) W e (ne-eqb c 0 (omega arith))
 
 pub scratch-accepted : (code : ℕ) (S W : List ℕ) → code ≡ 0 → zeroed (wordsPerNode * sizeOf S) W ≡ partScratch code S W
-unfolding partScratch scratchAfter
-scratch-accepted code S W e = rw e
+unfolding partScratch
+scratch-accepted code S W e = scratch-used (λ d. eqb d 0) (wordsPerNode * sizeOf S) W e refl
 
 -- ---- the scratch of a call that is given a mesh: 11 is found after its words were used
 
 -- refused by another number: untouched
 pub scratch-kept : (code c n : ℕ) (W : List ℕ) → code ≡ c → 1 ≤ c → (c ≡ 11 → ⊥) → W ≡ scratchAfter (eqb code 0 || eqb code 11) n W
-unfolding scratchAfter
-scratch-kept code c n W e l other = rw (e, ne-eqb c 0 (omega arith), ne-eqb c 11 other)
+scratch-kept code c n W e l other = scratch-unused (λ d. eqb d 0 || eqb d 11) n W e (or-neither (ne-eqb c 0 (omega arith)) (ne-eqb c 11 other))
 
 -- by 11, or accepted: 0
 pub scratch-zeroed : (code : ℕ) (b : Bool) (n : ℕ) (W : List ℕ) → code ≡ refuse b 11 → zeroed n W ≡ scratchAfter (eqb code 0 || eqb code 11) n W
-unfolding scratchAfter
-scratch-zeroed code true n W e = rw e
-scratch-zeroed code false n W e = rw e
+scratch-zeroed code true n W e = scratch-used (λ d. eqb d 0 || eqb d 11) n W e refl
+scratch-zeroed code false n W e = scratch-used (λ d. eqb d 0 || eqb d 11) n W e refl

@@ -3,36 +3,28 @@
 use mathlib.Core.Path.{_≡_, refl, sym, ap, ap₂, _∙_}
 use mathlib.Core.Logic.{⊎-elim}
 use mathlib.Core.Bool.{Bool, true, false, _&&_}
-use mathlib.Core.List.{List, [], _∷_, map}
+use mathlib.Core.List.{List, map}
 use Prim.Native.Nat.{ℕ, zero, suc, _+_, _*_, _≤_, _<_}
 use native.Mathlib.Omega.{arith}
 use lib.Dec.{eqb, ltb}
 use borrow.Author.Tests.{eq-eqb, ne-eqb, eqb-true, lt-ltb, le-ltb, ltb-true}
-use Rattle.basis.specs.Lists.{bit, filterb, countb, memb, upFrom, sum}
-use Rattle.basis.proofs.Count.{bit-one, count-sum, count-times, count-every, count-none, count-cong, upFrom-once, filter-once}
-use Rattle.basis.proofs.Lists.{filter-in, filter-make, upFrom-in, upFrom-make, length-upFrom, sum-cong, sum-add, sum-shift}
+use Rattle.basis.specs.Lists.{bit, countb, memb, upFrom, sum}
+use Rattle.basis.proofs.Count.{bit-one, count-sum, count-times, count-every, count-none, count-cong, upFrom-once}
+use Rattle.basis.proofs.Lists.{upFrom-in, upFrom-make, length-upFrom, sum-cong, sum-add, sum-shift}
 use Rattle.basis.proofs.Logic.{by-test, clash, fails, and-split, and-make, lt-or-le, same, eqb-self}
-use Rattle.basis.proofs.Perm.{once-count, once-perm, perm-sum}
+use Rattle.basis.proofs.Perm.{once-count}
 use Rattle.spec.specs.Graph.{Graph, nodes, adjoins, ofNode}
 use Rattle.spec.specs.Store.{joined, markCount, newCount}
 use Rattle.spec.specs.Unknowns.{inUnknowns}
 use Rattle.laws.specs.Legal.{Node, LegalGraph}
 use Rattle.laws.specs.Unknowns.{unknownsBefore, Counted, Owns, triangle, lowerUnknowns, unknownEdges}
-use Rattle.laws.proofs.Legal.{row-once, to-row, of-row}
+use Rattle.laws.proofs.Legal.{row-once, row-sum, to-row, of-row}
 use Rattle.laws.proofs.Marks.{mark-count, mark-new}
 use Rattle.laws.proofs.UnknownJoins.{last-legal, last-size, joined-unknowns}
 use Rattle.laws.proofs.UnknownMeasures.{block, sum-blocks, sum-run}
 use Rattle.laws.proofs.Unknowns.{owns-less, touches-split, touches-same, touches-edge, unknowns-size, unknowns-make, unknowns-touch, unknowns-legal}
 
 -- ---- lists
-
--- a sum over what passes
-filtered : (f : ℕ → ℕ) (t : ℕ → Bool) (l : List ℕ) → sum (map f (filterb t l)) ≡ sum (map (λ x. bit (t x) * f x) l)
-filtered f t [] = refl
-filtered f t (x ∷ l) =
-    by-test (t x)
-    (λ e. rw e (omega (arith, filtered f t l)))
-    (λ e. rw e (omega (arith, filtered f t l)))
 
 -- the numbers below a + j among a, a + 1, ..
 below-count : (a j c : ℕ) → j ≤ c → countb (λ y. ltb y (a + j)) (upFrom a c) ≡ j
@@ -63,16 +55,6 @@ module _ {h : Graph} (H : LegalGraph h) {cs : List ℕ} (C : Counted (h .size) c
   owns-of p y N m =
       let w = upFrom-in (suc (unknownsBefore cs p)) (ofNode cs p) y m in
       record { low = N .low; high = omega (arith, N .high, C .size); after = w .0; upto = omega (arith, w .1) }
-
-  -- a sum over the neighbours of q
-  row-sum : (q : ℕ) (f : ℕ → ℕ) → sum (map f (h .row q)) ≡ sum (map (λ p. bit (adjoins h q p) * f p) (upFrom 1 (h .size)))
-  unfolding adjoins
-  row-sum q f =
-      perm-sum f (once-perm (h .row q) (filterb (adjoins h q) (upFrom 1 (h .size))) (row-once H q) (filter-once (adjoins h q) (upFrom 1 (h .size)) (upFrom-once 1 (h .size)))
-      (λ x. same _ _
-      (λ m. let N = H .inside q x m in filter-make (adjoins h q) (upFrom 1 (h .size)) x (upFrom-make 1 (h .size) x (N .low) (omega (arith, N .high))) m)
-      (λ m. filter-in (adjoins h q) (upFrom 1 (h .size)) x m .1)))
-      ∙ filtered f (adjoins h q) (upFrom 1 (h .size))
 
   module _ (q j : ℕ) (Q : Node h q) (l : j < ofNode cs q) where
     abbrev x : ℕ
@@ -127,7 +109,7 @@ module _ {h : Graph} (H : LegalGraph h) {cs : List ℕ} (C : Counted (h .size) c
 
     -- the unknowns of the lower neighbours, and those of the node itself that are lower
     lower-row : countb (λ y. ltb y x) (big .row x) ≡ lowerUnknowns h cs q + j
-    unfolding lowerUnknowns
+    unfolding lowerUnknowns nodes
     lower-row =
         once-count (λ y. ltb y x) lower (big .row x) (upFrom 1 (sum cs)) (row-once (unknowns-legal H cs) x) (upFrom-once 1 (sum cs))
         (λ y m e.
@@ -141,7 +123,7 @@ module _ {h : Graph} (H : LegalGraph h) {cs : List ℕ} (C : Counted (h .size) c
         ∙ sum-cong (block cs (λ y. bit (lower y))) share (upFrom 1 (h .size))
         (λ p m. let w = upFrom-in 1 (h .size) p m in sym (count-sum lower (ofs p)) ∙ of-node p (record { low = w .0; high = omega (arith, w .1) }))
         ∙ sum-add (λ p. bit (adjoins h q p) * (bit (ltb p q) * ofNode cs p)) (λ p. bit (eqb p q) * j) (upFrom 1 (h .size))
-        ∙ ap₂ _+_ (sym (row-sum q (λ p. bit (ltb p q) * ofNode cs p))) (count-times (λ p. eqb p q) j (upFrom 1 (h .size)) ∙ ap (λ (n : ℕ). n * j) (one-of (h .size) q (Q .low) (Q .high)) ∙ once j)
+        ∙ ap₂ _+_ (sym (row-sum H q (λ p. bit (ltb p q) * ofNode cs p))) (count-times (λ p. eqb p q) j (upFrom 1 (h .size)) ∙ ap (λ (n : ℕ). n * j) (one-of (h .size) q (Q .low) (Q .high)) ∙ once j)
       where
         once : (j : ℕ) → 1 * j ≡ j
         once j = omega arith

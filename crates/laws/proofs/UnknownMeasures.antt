@@ -11,10 +11,11 @@ use lib.ListN.{length}
 use lib.Dec.{leb, ltb}
 use borrow.Author.Tests.{le-leb, leb-true, lt-ltb, le-ltb}
 use Rattle.basis.specs.Lists.{bit, countb, memb, upFrom, greatest, sum}
-use Rattle.basis.proofs.Count.{bit-one, bit-none, count-sum, count-every, count-none, count-length}
+use Rattle.basis.proofs.Count.{count-sum, count-every, count-none, count-length}
 use Rattle.basis.proofs.Index.{greatest-memb, greatest-le}
 use Rattle.basis.proofs.Lists.{upFrom-in, length-upFrom, upFrom-append, map-append, sum-append, sum-cong, sum-add, sum-within, sum-none, sum-step, sum-shift}
 use Rattle.basis.proofs.Logic.{which, clash, fails, and-split, and-make, lt-or-le, eq-or-ne}
+use Rattle.basis.proofs.Sums.{term-all, term-none}
 use Rattle.spec.specs.Graph.{Graph, nodes, adjoins, ofNode}
 use Rattle.spec.specs.Measures.{firstIn, rowSpan, distance, bandwidth, profile, frontAt, fronts, front}
 use Rattle.spec.specs.Unknowns.{owners, inUnknowns}
@@ -98,12 +99,6 @@ triangle-is (suc (suc (suc (suc zero)))) h = refl
 triangle-is (suc (suc (suc (suc (suc zero))))) h = refl
 triangle-is (suc (suc (suc (suc (suc (suc zero)))))) h = refl
 triangle-is (suc (suc (suc (suc (suc (suc (suc c))))))) h = absurd (omega arith)
-
-one : (b : Bool) (c : ℕ) → b ≡ true → bit b * c ≡ c
-one b c e = ap (λ (k : ℕ). k * c) (bit-one b e) ∙ omega arith
-
-none : (b : Bool) (c : ℕ) → b ≡ false → bit b * c ≡ 0
-none b c e = ap (λ (k : ℕ). k * c) (bit-none b e) ∙ omega arith
 
 module _ {h : Graph} (H : LegalGraph h) {cs : List ℕ} (C : Counted (h .size) cs) where
   abbrev big : Graph
@@ -240,7 +235,7 @@ module _ {h : Graph} (H : LegalGraph h) {cs : List ℕ} (C : Counted (h .size) c
   block-most : (q r x : ℕ) → Owns cs q x → Node h r → countb (inFront x) (upFrom (suc (unknownsBefore cs r)) (ofNode cs r)) ≤ bit (nodeIn q r) * ofNode cs r
   block-most q r x o N =
       ⊎-elim
-      (λ e. omega (arith, count-length (inFront x) (upFrom (suc (unknownsBefore cs r)) (ofNode cs r)), length-upFrom (suc (unknownsBefore cs r)) (ofNode cs r), one (nodeIn q r) (ofNode cs r) e))
+      (λ e. omega (arith, count-length (inFront x) (upFrom (suc (unknownsBefore cs r)) (ofNode cs r)), length-upFrom (suc (unknownsBefore cs r)) (ofNode cs r), term-all (nodeIn q r) (ofNode cs r) e))
       (λ e. omega (arith, count-none (inFront x) (upFrom (suc (unknownsBefore cs r)) (ofNode cs r)) (λ y m. fails _ (λ t. clash (front-there q r x y o (in-block r y N m) t) e))))
       (which (nodeIn q r))
 
@@ -251,11 +246,11 @@ module _ {h : Graph} (H : LegalGraph h) {cs : List ℕ} (C : Counted (h .size) c
       (λ e.
       count-every (inFront (suc (unknownsBefore cs q))) (upFrom (suc (unknownsBefore cs r)) (ofNode cs r)) (λ y m. front-back q r y Q (in-block r y N m) e)
       ∙ length-upFrom (suc (unknownsBefore cs r)) (ofNode cs r)
-      ∙ sym (one (nodeIn q r) (ofNode cs r) e))
+      ∙ sym (term-all (nodeIn q r) (ofNode cs r) e))
       (λ e.
       count-none (inFront (suc (unknownsBefore cs q))) (upFrom (suc (unknownsBefore cs r)) (ofNode cs r))
       (λ y m. fails _ (λ t. clash (front-there q r (suc (unknownsBefore cs q)) y (first-owned C q (Q .low) (Q .high)) (in-block r y N m) t) e))
-      ∙ sym (none (nodeIn q r) (ofNode cs r) e))
+      ∙ sym (term-none (nodeIn q r) (ofNode cs r) e))
       (which (nodeIn q r))
 
   front-blocks : (x : ℕ) → frontAt big x ≡ sum (map (λ r. countb (inFront x) (upFrom (suc (unknownsBefore cs r)) (ofNode cs r))) (upFrom 1 (length cs)))
@@ -312,7 +307,7 @@ module _ {h : Graph} (H : LegalGraph h) {cs : List ℕ} (C : Counted (h .size) c
 
   passed : (k : ℕ) → k ≤ length cs → sum (map (λ r. bit (ltb r (suc k)) * ofNode cs r) (upFrom 1 k)) ≡ unknownsBefore cs (suc k)
   passed k l =
-      sum-cong (λ r. bit (ltb r (suc k)) * ofNode cs r) (ofNode cs) (upFrom 1 k) (λ r m. let w = upFrom-in 1 k r m in one (ltb r (suc k)) (ofNode cs r) (lt-ltb r (suc k) (omega (arith, w .1))))
+      sum-cong (λ r. bit (ltb r (suc k)) * ofNode cs r) (ofNode cs) (upFrom 1 k) (λ r m. let w = upFrom-in 1 k r m in term-all (ltb r (suc k)) (ofNode cs r) (lt-ltb r (suc k) (omega (arith, w .1))))
       ∙ upto k l
     where
       upto : (k : ℕ) → k ≤ length cs → sum (map (ofNode cs) (upFrom 1 k)) ≡ unknownsBefore cs (suc k)
@@ -332,7 +327,7 @@ module _ {h : Graph} (H : LegalGraph h) {cs : List ℕ} (C : Counted (h .size) c
       ∙ omega (
         arith,
         passed k l,
-        sum-cong f (λ r. 0) (upFrom (1 + k) (length cs - k)) (λ r m. let w = upFrom-in (1 + k) (length cs - k) r m in none (ltb r (suc k)) (ofNode cs r) (le-ltb r (suc k) (omega (arith, w .0)))),
+        sum-cong f (λ r. 0) (upFrom (1 + k) (length cs - k)) (λ r m. let w = upFrom-in (1 + k) (length cs - k) r m in term-none (ltb r (suc k)) (ofNode cs r) (le-ltb r (suc k) (omega (arith, w .0)))),
         sum-none (upFrom (1 + k) (length cs - k)),
       )
 

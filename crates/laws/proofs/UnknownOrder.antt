@@ -11,13 +11,14 @@ use lib.ListN.{length, getD, take, drop, List·getD-append, length-append, lengt
 use lib.Seq.{getD-take, getD-drop, take-append-le, take-append-add}
 use lib.Dec.{eqb, ltb}
 use borrow.Author.Tests.{eq-eqb, ne-eqb, lt-ltb, le-ltb}
-use Rattle.basis.specs.Lists.{filterb, memb, upFrom, sum, position}
+use Rattle.basis.specs.Lists.{memb, upFrom, sum, position}
 use Rattle.basis.specs.Perm.{Once}
 use Rattle.basis.proofs.Count.{count-append, memb-times}
 use Rattle.basis.proofs.Index.{getD-map, getD-right, getD-reverse, memb-getD, position-hit, greatest-memb, greatest-met}
-use Rattle.basis.proofs.Lists.{map-append, sum-append, sum-cong, sum-add, sum-mono, sum-none, upFrom-in, upFrom-make, memb-here}
-use Rattle.basis.proofs.Logic.{by-test, or-right, lt-or-le, eq-or-ne}
+use Rattle.basis.proofs.Lists.{map-append, sum-append, sum-cong, sum-add, sum-mono, sum-none, upFrom-in, upFrom-make}
+use Rattle.basis.proofs.Logic.{by-test, lt-or-le, eq-or-ne}
 use Rattle.basis.proofs.Perm.{perm-memb, perm-sum, perm-reverse}
+use Rattle.basis.proofs.Sums.{sum-filter-all}
 use Rattle.spec.specs.Graph.{Graph, nodes, adjoins, ofNode}
 use Rattle.spec.specs.Levels.{part}
 use Rattle.spec.specs.Measures.{inOrder, distance, bandwidth}
@@ -230,15 +231,7 @@ module _ {g : Graph} (G : LegalGraph g) (cs : List ℕ) {z k v u : ℕ} {ls : Li
       let f : ℕ → ℕ = λ x. cond (eqb (ofNode ls x) i) (ofNode cs x) 0 in
       perm-sum f (levels-perm G Z S r)
       ∙ ap (λ (l : List ℕ). sum (map f l)) (part-again g z)
-      ∙ filtered f (λ q. memb q (part g z)) (nodes g) (λ x m e. rw (ne-eqb (ofNode ls x) i (λ q. omega (arith, S .outside x (node-in g x m) e))))
-    where
-      filtered : (f : ℕ → ℕ) (t : ℕ → Bool) (l : List ℕ) → ((x : ℕ) → memb x l ≡ true → t x ≡ false → f x ≡ 0) → sum (map f (filterb t l)) ≡ sum (map f l)
-      filtered f t [] h = refl
-      filtered f t (x ∷ l) h =
-          let ih : sum (map f (filterb t l)) ≡ sum (map f l) = filtered f t l (λ y m e. h y (or-right (eqb y x) m) e) in
-          by-test (t x)
-          (λ e. rw e (ap (λ (n : ℕ). f x + n) ih))
-          (λ e. rw e (omega (arith, ih, h x (memb-here x l) e)))
+      ∙ sum-filter-all f (λ q. memb q (part g z)) (nodes g) (λ x m e. rw (ne-eqb (ofNode ls x) i (λ q. omega (arith, S .outside x (node-in g x m) e))))
 
   abbrev w : ℕ
   w = unknownWidth g cs k ls

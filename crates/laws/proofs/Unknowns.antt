@@ -12,6 +12,7 @@ use borrow.Author.Tests.{eq-eqb, ne-eqb, eqb-true, eqb-false, not-true}
 use Rattle.basis.specs.Lists.{sum}
 use Rattle.basis.proofs.Index.{getD-right}
 use Rattle.basis.proofs.Logic.{and-split, and-make, or-split, or-left, or-right, lt-or-le, eqb-sym, eqb-self}
+use Rattle.basis.proofs.Sums.{sum-take}
 use Rattle.spec.specs.Graph.{Graph, adjoins, graphBy, ofNode}
 use Rattle.spec.specs.Unknowns.{countsIn, ownersFrom, owners, touches, inUnknowns, orderUnknowns, renumberedUnknowns}
 use Rattle.spec.specs.Measures.{orderOf}
@@ -20,11 +21,6 @@ use Rattle.laws.specs.Unknowns.{unknownsBefore, Counted, Owns}
 use Rattle.laws.proofs.ByTest.{by-split, by-make, by-legal, order-legal}
 
 -- ---- counts one after another
-
-sum-take : (cs : List ℕ) (i : ℕ) → i < length cs → sum (take (suc i) cs) ≡ sum (take i cs) + getD cs i 0
-sum-take [] i h = absurd (omega arith)
-sum-take (c ∷ cs) zero h = omega arith
-sum-take (c ∷ cs) (suc i) h = omega (arith, sum-take cs i (omega arith))
 
 take-all : (cs : List ℕ) → sum (take (length cs) cs) ≡ sum cs
 take-all [] = refl
