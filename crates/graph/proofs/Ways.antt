@@ -3,7 +3,7 @@
 use mathlib.Core.Path.{_≡_, ap, _∙_}
 use mathlib.Core.Bool.{Bool, true, false}
 use mathlib.Core.List.{List, _++_}
-use Prim.Native.Nat.{ℕ, _*_, _≤_}
+use Prim.Native.Nat.{ℕ, zero, suc, _*_, _≤_}
 use native.Mathlib.Omega.{arith}
 use lib.ListN.{length, drop}
 use Rattle.spec.specs.CallsLevels.{partScratch}
@@ -11,6 +11,7 @@ use Rattle.spec.specs.Graph.{sizeOf, graphRefusal}
 use Rattle.spec.specs.Lent.{accepted, refused, outcome, filled, zeroed, wordsPerNode}
 use Rattle.spec.specs.Refusal.{refuse, _orElse_}
 use Rattle.laws.proofs.Lent.{answer-refused, filled-refused, scratch-refused, answer-accepted, filled-accepted, scratch-accepted}
+use Rattle.laws.proofs.Refused.{or-else-first, graph-refusal-most}
 use Rattle.graph.specs.Facts.{LegalLists, RefusedLists}
 use Rattle.graph.proofs.Answers.{refused-first, legal-next}
 
@@ -25,26 +26,58 @@ pub record Refuses (code c : ℕ) : Type 0 where
 pub record Accepts (code : ℕ) : Type 0 where
   pub is : code ≡ 0
 
--- its tests: 1 to 4, then 5 where `short`, then k where `last`
-pub record Tests (S N : List ℕ) (short last : Bool) (k code : ℕ) : Type 0 where
-  pub is : code ≡ graphRefusal S N orElse refuse short 5 orElse refuse last k
+-- tests in turn, each with its number
+pub data Turn : Type 0 where
+  last : Bool → ℕ → Turn
+  next : Bool → ℕ → Turn → Turn
 
-module _ {S N : List ℕ} {short last : Bool} {k code : ℕ} (T : Tests S N short last k code) where
+-- the number of the first that refuses
+abbrev pub inTurn : Turn → ℕ
+inTurn (last t k) = refuse t k
+inTurn (next t k ts) = refuse t k orElse inTurn ts
+
+-- the tests of a call: 1 to 4, then 5 where `short`, then the rest in turn
+pub record Tests (S N : List ℕ) (short : Bool) (rest : Turn) (code : ℕ) : Type 0 where
+  pub is : code ≡ graphRefusal S N orElse refuse short 5 orElse inTurn rest
+
+module _ {S N : List ℕ} {short : Bool} {rest : Turn} {code : ℕ} (T : Tests S N short rest code) where
   pub by-lists : {c : ℕ} → RefusedLists S N c → Refuses code c
   by-lists R = record { is = T .is ∙ refused-first R _; some = R .some }
 
   module _ (G : LegalLists S N) where
-    rest : code ≡ refuse short 5 orElse refuse last k
-    rest = T .is ∙ legal-next G _
-
     pub by-short : short ≡ true → Refuses code 5
-    by-short s = record { is = rest ∙ rw s; some = omega arith }
+    by-short s = record { is = T .is ∙ legal-next G _ ∙ rw s; some = omega arith }
 
-    pub by-last : short ≡ false → last ≡ true → 1 ≤ k → Refuses code k
-    by-last s l m = record { is = rest ∙ rw (s, l); some = m }
+    pub by-rest : short ≡ false → code ≡ inTurn rest
+    by-rest s = T .is ∙ legal-next G _ ∙ rw s
 
-    pub by-none : short ≡ false → last ≡ false → Accepts code
-    by-none s l = record { is = rest ∙ rw (s, l) }
+-- one is left: it refuses, or none does
+module _ {S N : List ℕ} {short t : Bool} {k code : ℕ} (T : Tests S N short (last t k) code) (G : LegalLists S N) (s : short ≡ false) where
+  pub by-last : t ≡ true → 1 ≤ k → Refuses code k
+  by-last e m = record { is = by-rest T G s ∙ rw e; some = m }
+
+  pub by-none : t ≡ false → Accepts code
+  by-none e = record { is = by-rest T G s ∙ rw e }
+
+-- more are left: the first refuses, or those after it decide
+module _ {S N : List ℕ} {short t : Bool} {k : ℕ} {ts : Turn} {code : ℕ} (T : Tests S N short (next t k ts) code) where
+  pub by-next : LegalLists S N → short ≡ false → t ≡ true → 1 ≤ k → Refuses code k
+  by-next G s e m = record { is = by-rest T G s ∙ ap (λ (b : Bool). refuse b k orElse inTurn ts) e ∙ or-else-first k (inTurn ts) m; some = m }
+
+  pub past-next : t ≡ false → Tests S N short ts code
+  past-next e = record { is = T .is ∙ ap (λ (b : Bool). graphRefusal S N orElse refuse short 5 orElse refuse b k orElse inTurn ts) e }
+
+-- what holds of 1 to 4 holds of the number that refuses the lists
+pub lists-have : {S N : List ℕ} {c : ℕ} → RefusedLists S N c → (P : ℕ → Type 0) → P 1 → P 2 → P 3 → P 4 → P c
+lists-have {S} {N} {c} R P one two three four = go c (R .some) (omega (arith, R .refusal, graph-refusal-most S N))
+  where
+    go : (c : ℕ) → 1 ≤ c → c ≤ 4 → P c
+    go zero l h = absurd (omega arith)
+    go (suc zero) l h = one
+    go (suc (suc zero)) l h = two
+    go (suc (suc (suc zero))) l h = three
+    go (suc (suc (suc (suc zero)))) l h = four
+    go (suc (suc (suc (suc (suc c))))) l h = absurd (omega arith)
 
 -- ---- what is answered and left
 

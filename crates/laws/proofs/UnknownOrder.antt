@@ -279,6 +279,10 @@ module _ {g : Graph} (G : LegalGraph g) (cs : List ℕ) {z k v u : ℕ} {ls : Li
 pub reaches-more : {g : Graph} {cs o : List ℕ} {d e : ℕ} → d ≤ e → Reaches g cs o d → Reaches g cs o e
 reaches-more h c = record { near = λ a b k l m. omega (arith, c .near a b k l m); own = λ a k. omega (arith, c .own a k) }
 
+-- where the place of a node goes in the order reversed
+pub turned-at : (o : List ℕ) (a b : ℕ) → b < length o → length o - suc b ≡ a → getD (reverse o) b 0 ≡ getD o a 0
+turned-at o a b h e = getD-reverse 0 o b h ∙ ap (λ (x : ℕ). getD o x 0) e
+
 -- ahead of a place in the order reversed, with its own unknowns: all but what stood ahead of it
 pub flipped : (cs o : List ℕ) (a : ℕ) → a < length o → ahead cs (reverse o) a + ofNode cs (getD o (length o - suc a) 0) + ahead cs o (length o - suc a) ≡ sum (map (ofNode cs) o)
 flipped cs o a h =

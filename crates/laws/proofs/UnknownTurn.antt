@@ -6,12 +6,11 @@ use Prim.Native.Nat.{ℕ, suc, _+_, _-_, _*_, _≤_, _<_}
 use native.Mathlib.Omega.{arith}
 use lib.ListN.{length, getD, length-reverse}
 use Rattle.basis.specs.Lists.{sum}
-use Rattle.basis.proofs.Index.{getD-reverse}
 use Rattle.spec.specs.Graph.{Graph, ofNode}
 use Rattle.spec.specs.Measures.{inOrder, firstIn}
 use Rattle.spec.specs.Unknowns.{countsIn}
 use Rattle.laws.specs.Unknowns.{unknownsBefore, triangle, nodeSpan, ahead}
-use Rattle.laws.proofs.UnknownOrder.{ahead-reverse, ahead-before, counts-at}
+use Rattle.laws.proofs.UnknownOrder.{ahead-reverse, ahead-before, counts-at, turned-at}
 
 module _ (g : Graph) (cs o : List ℕ) where
   -- in the order: a is the node's place, f that of the first of it and its neighbours, both from 0
@@ -28,9 +27,6 @@ module _ (g : Graph) (cs o : List ℕ) where
       let s : length o - b ≡ suc a = omega arith in
       ahead-before cs (reverse o) b ∙ omega (arith, ahead-reverse cs o b (omega arith), ap (ahead cs o) s)
 
-  turned-node : (a b : ℕ) → b < length o → length o - suc b ≡ a → getD (reverse o) b 0 ≡ getD o a 0
-  turned-node a b h e = getD-reverse 0 o b h ∙ ap (λ (x : ℕ). getD o x 0) e
-
   -- in the order reversed: l is the place of the last of the node and its neighbours
   pub span-turned : (a l b m : ℕ) → a < length o → l < length o → b ≡ length o - suc a → m ≡ length o - suc l → firstIn (inOrder g (reverse o)) (suc b) ≡ suc m
       → nodeSpan (inOrder g (reverse o)) (countsIn cs (reverse o)) (suc b)
@@ -38,7 +34,7 @@ module _ (g : Graph) (cs o : List ℕ) where
   unfolding nodeSpan
   span-turned a l b m h k eb em f =
       ap₂ (λ (c : ℕ) (d : ℕ). c * d + triangle c)
-      (counts-at cs (reverse o) b (omega (arith, length-reverse o)) ∙ ap (ofNode cs) (turned-node a b (omega arith) (omega arith)))
+      (counts-at cs (reverse o) b (omega (arith, length-reverse o)) ∙ ap (ofNode cs) (turned-at o a b (omega arith) (omega arith)))
       (ap₂ _-_ (turned-before a b h eb) (ap (unknownsBefore (countsIn cs (reverse o))) f ∙ turned-before l m k em)
       ∙ swap (sum (map (ofNode cs) o)) (ahead cs o (suc a)) (ahead cs o (suc l)) (most a h) (most l k))
     where
