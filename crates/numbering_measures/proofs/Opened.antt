@@ -1,39 +1,22 @@
 -- The unknowns of the nodes added up by their f: one node more. Assumes nothing.
 use mathlib.Core.Path.{_≡_, refl, sym, ap, ap₂, _∙_}
 use mathlib.Core.Logic.{_⊎_, inl, inr}
-use mathlib.Core.Bool.{Bool, true, false}
-use mathlib.Core.List.{List, [], _∷_, map}
+use mathlib.Core.List.{List}
 use Prim.Native.Nat.{ℕ, suc, _+_, _-_, _*_, _≤_, _<_}
 use native.Mathlib.Omega.{arith}
 use lib.ListN.{length, getD, set, length-map, length-set}
 use lib.Seq.{ext-getD, getD-set-same, getD-set-other}
 use lib.Dec.{eqb}
 use borrow.Author.Tests.{eq-eqb, ne-eqb}
-use Rattle.basis.specs.Lists.{bit, memb, sum, upFrom}
-use Rattle.basis.proofs.Count.{bit-one, bit-none}
+use Rattle.basis.specs.Lists.{bit, upFrom}
 use Rattle.basis.proofs.Index.{getD-map-upFrom}
-use Rattle.basis.proofs.Lists.{memb-here, length-upFrom, upFrom-in}
-use Rattle.basis.proofs.Logic.{eq-or-ne, or-right}
+use Rattle.basis.proofs.Lists.{length-upFrom, upFrom-in}
+use Rattle.basis.proofs.Logic.{eq-or-ne}
+use Rattle.basis.proofs.Sums.{term-all, term-none, term-most, sum-most}
 use Rattle.spec.specs.Graph.{Graph, ofNode}
 use Rattle.spec.specs.Measures.{renumbered, firstIn}
 use Rattle.graph_envelope.proofs.Folds.{sum-more}
 use Rattle.numbering_measures.specs.Fronts.{opens, opened}
-
--- a sum of numbers of at most 6
-pub sum-few : (f : ℕ → ℕ) (l : List ℕ) → ((x : ℕ) → memb x l ≡ true → f x ≤ 6) → sum (map f l) ≤ 6 * length l
-sum-few f [] h = omega arith
-sum-few f (x ∷ l) h = omega (arith, h x (memb-here x l), sum-few f l (λ y m. h y (or-right (eqb y x) m)))
-
--- all of c, or none of it
-pub weight-one : (b : Bool) (c : ℕ) → b ≡ true → bit b * c ≡ c
-weight-one b c e = ap (λ (k : ℕ). k * c) (bit-one b e) ∙ omega arith
-
-pub weight-none : (b : Bool) (c : ℕ) → b ≡ false → bit b * c ≡ 0
-weight-none b c e = ap (λ (k : ℕ). k * c) (bit-none b e) ∙ omega arith
-
-pub weight-most : (b : Bool) (c : ℕ) → bit b * c ≤ c
-weight-most true c = omega arith
-weight-most false c = omega arith
 
 module _ (g : Graph) (K x : List ℕ) where
   -- f of the number of a
@@ -49,8 +32,8 @@ module _ (g : Graph) (K x : List ℕ) where
   opens-few p i h =
       omega (
         arith,
-        sum-few (λ a. bit (eqb i (firstAt a)) * ofNode K a) (upFrom 1 p)
-            (λ a m. let w = upFrom-in 1 p a m in omega (arith, weight-most (eqb i (firstAt a)) (ofNode K a), h a (w .0) (omega (arith, w .1)))),
+        sum-most (λ a. bit (eqb i (firstAt a)) * ofNode K a) 6 (upFrom 1 p)
+            (λ a m. let w = upFrom-in 1 p a m in omega (arith, term-most (eqb i (firstAt a)) (ofNode K a), h a (w .0) (omega (arith, w .1)))),
         length-upFrom 1 p,
       )
 
@@ -103,12 +86,12 @@ module _ (g : Graph) (K x : List ℕ) where
               ap (λ (j : ℕ). getD (opened g K x W p) j 0) e,
               getD-set-same (opened g K x W p) (v - 1) (getD (opened g K x W p) (v - 1) 0 + c) 0 (omega (arith, length-opened p)),
               after k h,
-              weight-one (eqb (suc k) v) c (eq-eqb (suc k) v (omega arith)),
+              term-all (eqb (suc k) v) c (eq-eqb (suc k) v (omega arith)),
             )
         each k h (inr ne) =
             omega (
               arith,
               getD-set-other (opened g K x W p) (v - 1) k (getD (opened g K x W p) (v - 1) 0 + c) 0 ne,
               after k h,
-              weight-none (eqb (suc k) v) c (ne-eqb (suc k) v (λ (e : suc k ≡ v). ne (omega arith))),
+              term-none (eqb (suc k) v) c (ne-eqb (suc k) v (λ (e : suc k ≡ v). ne (omega arith))),
             )

@@ -9,13 +9,13 @@ use lib.ListN.{length, getD, take, length-map}
 use Rattle.basis.specs.Lists.{sum, upFrom}
 use Rattle.basis.proofs.Index.{getD-map-upFrom}
 use Rattle.basis.proofs.Lists.{length-upFrom}
+use Rattle.basis.proofs.Sums.{sum-take}
 use Rattle.spec.specs.Graph.{ofNode}
 use Rattle.spec.specs.Unknowns.{badCounts}
 use Rattle.laws.proofs.UnknownOrder.{ahead-step}
 use Rattle.graph_envelope.specs.Numbers.{Words}
 use Rattle.graph_envelope.specs.Aheads.{aheads, Made}
 use Rattle.graph_envelope.proofs.Ahead.{made-all, listed-most, ahead-most, ahead-none, length-aheads, aheads-at}
-use Rattle.numbering_ones.proofs.Passed.{take-next}
 use Rattle.numbering_measures.specs.Fronts.{Climbs, stepsOf, Low}
 
 module _ (w : List ℕ) where
@@ -57,7 +57,7 @@ module _ (w : List ℕ) where
     unfolding ofNode
     steps-upto zero h = refl
     steps-upto (suc m) h =
-        omega (arith, take-next (stepsOf w) m (omega (arith, length-steps)), steps-at m h, steps-upto m (omega arith), c .up m h, c .near m h)
+        omega (arith, sum-take (stepsOf w) m (omega (arith, length-steps)), steps-at m h, steps-upto m (omega arith), c .up m h, c .near m h)
 
 -- the unknowns ahead climb
 pub aheads-climb : (K o : List ℕ) → badCounts (length K) K ≡ false → Words (length K) o → length o ≤ 4096 → Climbs (aheads K o)

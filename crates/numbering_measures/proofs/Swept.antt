@@ -12,6 +12,7 @@ use Rattle.basis.specs.Lists.{bit, greatest, sum, upFrom}
 use Rattle.basis.proofs.Index.{greatest-le}
 use Rattle.basis.proofs.Lists.{upFrom-in, map-cong, sum-cong, sum-add, sum-none}
 use Rattle.basis.proofs.Logic.{lt-or-le, eq-or-ne}
+use Rattle.basis.proofs.Sums.{term-none, term-most, sum-most, sum-take}
 use Rattle.spec.specs.Graph.{Graph, nodes, ofNode, graphOf}
 use Rattle.spec.specs.Measures.{isNumbering, orderOf, renumbered, front}
 use Rattle.spec.specs.Unknowns.{badCounts, renumberedUnknowns}
@@ -24,10 +25,9 @@ use Rattle.graph_envelope.specs.Numbers.{Words}
 use Rattle.graph_envelope.specs.Aheads.{aheads}
 use Rattle.graph_envelope.proofs.Envelope.{first-low}
 use Rattle.graph_envelope.proofs.InUnknowns.{order-long, order-words, newCounts, count-few, ahead-is, aheads-long, front-unknowns, opened-unknowns}
-use Rattle.numbering_ones.proofs.Passed.{take-next}
 use Rattle.numbering_measures.specs.Fronts.{Climbs, stepsOf, opens, opened, Sweeps}
 use Rattle.numbering_measures.specs.Measurable.{Measurable}
-use Rattle.numbering_measures.proofs.Opened.{firstAt, sum-few, weight-none, weight-most, length-opened, opened-at}
+use Rattle.numbering_measures.proofs.Opened.{firstAt, length-opened, opened-at}
 use Rattle.numbering_measures.proofs.Steps.{length-steps, steps-upto, aheads-climb}
 
 -- what is swept is small
@@ -56,7 +56,7 @@ module _ {S N K x : List ℕ} (M : Measurable S N K x) where
   upto-none : upto 0 ≡ 0
   upto-none =
       sum-cong (λ a. bit (leb (firstAt g K x a) 0) * ofNode K a) (λ a. 0) (nodes g)
-      (λ a m. weight-none (leb (firstAt g K x a) 0) (ofNode K a) (lt-leb (firstAt g K x a) 0 (first-low G x ok a (node-in g a m))))
+      (λ a m. term-none (leb (firstAt g K x a) 0) (ofNode K a) (lt-leb (firstAt g K x a) 0 (first-low G x ok a (node-in g a m))))
       ∙ sum-none (nodes g)
 
   upto-step : (m : ℕ) → upto (suc m) ≡ upto m + opens g K x (g .size) (suc m)
@@ -78,8 +78,8 @@ module _ {S N K x : List ℕ} (M : Measurable S N K x) where
   upto-few m =
       omega (
         arith,
-        sum-few (λ a. bit (leb (firstAt g K x a) m) * ofNode K a) (nodes g)
-            (λ a i. omega (arith, weight-most (leb (firstAt g K x a) m) (ofNode K a), count-few G x ok K fit a (node-in g a i) .1)),
+        sum-most (λ a. bit (leb (firstAt g K x a) m) * ofNode K a) 6 (nodes g)
+            (λ a i. omega (arith, term-most (leb (firstAt g K x a) m) (ofNode K a), count-few G x ok K fit a (node-in g a i) .1)),
         length-nodes g,
       )
 
@@ -89,8 +89,8 @@ module _ {S N K x : List ℕ} (M : Measurable S N K x) where
   opened-upto W len (suc m) h =
       omega (
         arith,
-        take-next (opened g K x W (g .size)) m (omega (arith, length-opened g K x W (g .size))),
-        take-next W m (omega arith),
+        sum-take (opened g K x W (g .size)) m (omega (arith, length-opened g K x W (g .size))),
+        sum-take W m (omega arith),
         opened-at g K x W (g .size) m h,
         opened-upto W len m (omega arith),
         upto-step m,

@@ -1,21 +1,18 @@
 -- Words summed up and set to 0 as they are passed. Assumes nothing.
 use mathlib.Core.Path.{_≡_, ap, _∙_}
-use mathlib.Core.List.{List, [], _∷_, _++_, append-nil}
-use Prim.Native.Nat.{ℕ, suc, _+_, _-_, _<_}
+use mathlib.Core.List.{List, _++_, append-nil}
+use Prim.Native.Nat.{ℕ, _+_, _-_, _<_}
 use native.Mathlib.Numerals.{add-one}
 use native.Mathlib.Omega.{arith}
 use lib.ListN.{length, getD, take, drop, replicate, length-replicate}
-use lib.Seq.{take-suc, getD-drop, drop-length}
+use lib.Seq.{getD-drop, drop-length}
 use Rattle.basis.specs.Lists.{sum}
 use Rattle.basis.proofs.Index.{getD-right}
-use Rattle.basis.proofs.Lists.{sum-append}
+use Rattle.basis.proofs.Sums.{sum-take}
 
 -- the sum up to the next word
-pub take-next : (l : List ℕ) (i : ℕ) → i < length l → sum (take (suc i) l) ≡ sum (take i l) + getD l i 0
-take-next l i h = ap sum (take-suc l i 0 h) ∙ sum-append (take i l) (getD l i 0 ∷ []) ∙ omega arith
-
 pub take-more : (l : List ℕ) (i : ℕ) → i < length l → sum (take (i + 1) l) ≡ sum (take i l) + getD l i 0
-take-more l i h = ap (λ (k : ℕ). sum (take k l)) (add-one i) ∙ take-next l i h
+take-more l i h = ap (λ (k : ℕ). sum (take k l)) (add-one i) ∙ sum-take l i h
 
 -- the word at i, of a list of which the words before i were set to 0
 pub word-ahead : (C c : List ℕ) (i : ℕ) → c ≡ replicate i 0 ++ drop i C → getD c i 0 ≡ getD C i 0

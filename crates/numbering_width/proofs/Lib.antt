@@ -1,4 +1,4 @@
-pub mod Sums
+pub mod Raised
 pub mod Weights
 pub mod Weighing
 pub mod Structure

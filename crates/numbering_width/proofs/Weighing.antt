@@ -29,7 +29,7 @@ use Rattle.levels_laws.proofs.Blank.{zeroed-high, zeroed-length}
 use Rattle.levels_laws.proofs.Runs.{from-none}
 use Rattle.levels_laws.proofs.Members.{next-members, member-in}
 use Rattle.numbering_width.specs.Width.{wordOf, withCount, Addable, Weighable}
-use Rattle.numbering_width.proofs.Sums.{raised-at, greatest-raised}
+use Rattle.numbering_width.proofs.Raised.{raised-at, greatest-raised}
 use Rattle.numbering_width.proofs.Weights.{share, weight, weight-next, level-read, weight-deep, weight-most, weight-is}
 
 -- the greatest of the first k words

@@ -15,6 +15,7 @@ use Rattle.basis.proofs.Count.{filter-once, upFrom-once}
 use Rattle.basis.proofs.Lists.{map-append, map-memb, memb-filter, sum-append, sum-cong, sum-none, length-upFrom, upFrom-in, upFrom-make}
 use Rattle.basis.proofs.Logic.{same, and-split, and-make, by-test}
 use Rattle.basis.proofs.Perm.{once-perm, perm-sum}
+use Rattle.basis.proofs.Sums.{sum-filter-all, sum-most}
 use Rattle.spec.specs.Graph.{Graph, nodes, ofNode}
 use Rattle.spec.specs.Unknowns.{unknownsAt}
 use Rattle.laws.proofs.Legal.{ofNode-at}
@@ -24,7 +25,6 @@ use Rattle.levels_laws.specs.Model.{numberAt}
 use Rattle.levels_laws.specs.Starts.{membersOf}
 use Rattle.levels_laws.proofs.Members.{member-range, member-in}
 use Rattle.numbering_width.specs.Width.{Weighable}
-use Rattle.numbering_width.proofs.Sums.{sum-filter, sum-six}
 
 -- ---- of any nodes, by counts and levels that run by old number
 
@@ -78,7 +78,7 @@ module _ {n from to k : ℕ} {counts X : List ℕ} (A : Weighable n from to k co
 
   pub weight-most : (i : ℕ) → i ≤ to → (j : ℕ) → weight counts ls j (membersOf n from i X) ≤ 6 * (i - from)
   weight-most i h j =
-      let six = sum-six (share counts ls j) (membersOf n from i X)
+      let six = sum-most (share counts ls j) 6 (membersOf n from i X)
       (λ z m.
       let r = member-range (A .members) i h z m in
       omega (arith, share-most counts ls j z, count-between n counts (A .counted) z (r .0) (r .1) .1)) in
@@ -101,7 +101,7 @@ module _ {n from to k : ℕ} {counts X : List ℕ} (A : Weighable n from to k co
   weight-is g s j =
       let f : ℕ → ℕ = share counts ls (suc j) in
       perm-sum f members-perm
-      ∙ sum-filter f (λ z. memb z members) (upFrom 1 n)
+      ∙ sum-filter-all f (λ z. memb z members) (upFrom 1 n)
       (λ z m e.
       let u = upFrom-in 1 n z m in
       share-none counts ls (suc j) z (λ q. omega (arith, q, A .outside z (u .0) (omega (arith, u .1)) e)))

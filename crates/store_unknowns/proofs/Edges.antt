@@ -1,7 +1,7 @@
 -- The pairs of unknowns that are joined at first, walked by old number. Assumes nothing.
 use mathlib.Core.Path.{_≡_, refl, sym, ap, ap₂, _∙_}
 use mathlib.Core.Bool.{Bool, true, false}
-use mathlib.Core.List.{List, [], _∷_, map}
+use mathlib.Core.List.{List, map}
 use Prim.Native.Nat.{ℕ, _+_, _-_, _*_, _≤_, _<_}
 use native.Mathlib.Nat.{mul-le-mul}
 use native.Mathlib.Numerals.{add-one}
@@ -10,18 +10,15 @@ use lib.Dec.{ltb}
 use borrow.Author.Tests.{lt-ltb, le-ltb}
 use lib.ListN.{length, getD, drop}
 use lib.Seq.{drop-cons, drop-length}
-use Rattle.basis.specs.Lists.{bit, filterb, upFrom, sum}
-use Rattle.basis.proofs.Count.{filter-once}
-use Rattle.basis.proofs.Lists.{filter-in, filter-make, sum-cong, sum-within}
-use Rattle.basis.proofs.Logic.{by-test, same}
-use Rattle.basis.proofs.Perm.{once-perm, perm-sum}
+use Rattle.basis.specs.Lists.{bit, upFrom, sum}
+use Rattle.basis.proofs.Lists.{sum-cong, sum-within}
 use Rattle.spec.specs.Graph.{Graph, nodes, adjoins, ofNode}
 use Rattle.spec.specs.Measures.{isNumbering, renumbered}
 use Rattle.spec.specs.Unknowns.{badCounts}
 use Rattle.laws.specs.Legal.{Node, LegalGraph}
 use Rattle.laws.specs.Unknowns.{triangle, lowerUnknowns, unknownEdges}
 use Rattle.laws.proofs.ByTest.{renumbered-legal}
-use Rattle.laws.proofs.Legal.{node-in, in-nodes, nodes-once, row-once, as-map}
+use Rattle.laws.proofs.Legal.{node-in, row-sum, as-map}
 use Rattle.laws.proofs.Renumber.{renumbered-adjoins}
 use Rattle.laws.proofs.UnknownBounds.{counts-size, unknowns-most}
 use Rattle.laws.proofs.UnknownMeasures.{triangle-is}
@@ -53,23 +50,6 @@ pub lower-no : (K x : List ℕ) (own q : ℕ) → own ≤ ofNode x q → 0 ≡ l
 lower-no K x own q h = rw (le-ltb (ofNode x q) own h) (omega arith)
 
 -- ---- a sum over a row
-
-filtered : (f : ℕ → ℕ) (t : ℕ → Bool) (l : List ℕ) → sum (map f (filterb t l)) ≡ sum (map (λ x. bit (t x) * f x) l)
-filtered f t [] = refl
-filtered f t (x ∷ l) =
-    by-test (t x)
-    (λ e. rw e (omega (arith, filtered f t l)))
-    (λ e. rw e (omega (arith, filtered f t l)))
-
--- over the neighbours of q
-row-sum : {h : Graph} → LegalGraph h → (q : ℕ) (f : ℕ → ℕ) → sum (map f (h .row q)) ≡ sum (map (λ p. bit (adjoins h q p) * f p) (nodes h))
-unfolding adjoins
-row-sum {h} H q f =
-    perm-sum f (once-perm (h .row q) (filterb (adjoins h q) (nodes h)) (row-once H q) (filter-once (adjoins h q) (nodes h) (nodes-once h))
-    (λ x. same _ _
-    (λ m. filter-make (adjoins h q) (nodes h) x (in-nodes h x (H .inside q x m)) m)
-    (λ m. filter-in (adjoins h q) (nodes h) x m .1)))
-    ∙ filtered f (adjoins h q) (nodes h)
 
 module _ {g : Graph} (G : LegalGraph g) (x : List ℕ) (ok : isNumbering (g .size) x ≡ true) where
   -- over the neighbours of a number, by old number

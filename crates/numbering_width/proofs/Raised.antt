@@ -1,36 +1,17 @@
--- Sums over a list of nodes, and a word raised by a number. Assumes nothing.
-use mathlib.Core.Path.{_≡_, refl, sym, ap, _∙_}
-use mathlib.Core.Bool.{Bool, true, false, cond}
-use mathlib.Core.List.{List, [], _∷_, map}
-use Prim.Native.Nat.{ℕ, _+_, _*_, _≤_, _<_, max}
+-- A word raised by a number, and the greatest then. Assumes nothing.
+use mathlib.Core.Path.{_≡_, sym, ap, _∙_}
+use mathlib.Core.Bool.{Bool, true, cond}
+use mathlib.Core.List.{List, map}
+use Prim.Native.Nat.{ℕ, _+_, _≤_, _<_, max}
 use native.Mathlib.Nat.{add-zero}
 use native.Mathlib.Omega.{arith}
 use lib.ListN.{length, getD, set}
 use lib.Seq.{getD-set-same, getD-set-other}
 use lib.Dec.{eqb}
 use borrow.Author.Tests.{eqb-true, eqb-false}
-use Rattle.basis.specs.Lists.{filterb, memb, sum, greatest}
+use Rattle.basis.specs.Lists.{memb, greatest}
 use Rattle.basis.proofs.Index.{greatest-memb, greatest-le}
-use Rattle.basis.proofs.Lists.{memb-here}
-use Rattle.basis.proofs.Logic.{by-test, or-right, eqb-self}
-
--- ---- sums
-
--- what fails the test adds nothing
-pub sum-filter : (f : ℕ → ℕ) (t : ℕ → Bool) (l : List ℕ) → ((x : ℕ) → memb x l ≡ true → t x ≡ false → f x ≡ 0) → sum (map f (filterb t l)) ≡ sum (map f l)
-sum-filter f t [] h = refl
-sum-filter f t (x ∷ l) h =
-    let ih : sum (map f (filterb t l)) ≡ sum (map f l) = sum-filter f t l (λ y m e. h y (or-right (eqb y x) m) e) in
-    by-test (t x)
-    (λ e. rw e (ap (λ (n : ℕ). f x + n) ih))
-    (λ e. rw e (omega (arith, ih, h x (memb-here x l) e)))
-
--- each adds at most 6
-pub sum-six : (f : ℕ → ℕ) (l : List ℕ) → ((x : ℕ) → memb x l ≡ true → f x ≤ 6) → sum (map f l) ≤ 6 * length l
-sum-six f [] h = omega arith
-sum-six f (x ∷ l) h = omega (arith, h x (memb-here x l), sum-six f l (λ y m. h y (or-right (eqb y x) m)))
-
--- ---- one word is raised by c
+use Rattle.basis.proofs.Logic.{by-test, eqb-self}
 
 -- the words with c more in word i
 abbrev pub raised : List ℕ → ℕ → ℕ → List ℕ
