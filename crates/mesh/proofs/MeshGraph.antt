@@ -2,7 +2,7 @@
 -- Assumes nothing.
 use mathlib.Core.Path.{_≡_, refl, ap, ap₂, _∙_}
 use mathlib.Core.Logic.{_↔_, ⊎-elim}
-use mathlib.Core.Bool.{Bool, true, false, not, _&&_, _||_, and-comm}
+use mathlib.Core.Bool.{Bool, true, false, not, _&&_, _||_}
 use mathlib.Core.List.{List, [], _∷_}
 use Prim.Native.Nat.{ℕ, suc, _≤_, _<_}
 use native.Mathlib.Omega.{arith}
@@ -10,7 +10,7 @@ use lib.ListN.{length, getD, take}
 use lib.Dec.{eqb}
 use borrow.Author.Tests.{ne-eqb, eqb-false, ltb-false, not-true}
 use Rattle.basis.specs.Lists.{anyb, memb}
-use Rattle.basis.proofs.Logic.{clash, and-split, and-make, or-split, eqb-sym, eqb-self}
+use Rattle.basis.proofs.Logic.{clash, and-split, and-make, or-split}
 use Rattle.basis.proofs.Walk.{any-at}
 use Rattle.spec.specs.Refusal.{refuse, _orElse_}
 use Rattle.spec.specs.Lent.{short}
@@ -18,8 +18,9 @@ use Rattle.spec.specs.Graph.{adjoins, badSize, maxEntries, graphOf, graphRefusa
 use Rattle.spec.specs.Mesh.{elements, elementsRefusal, joins, meshGraph, entryCount, startList, neighbourList, refuses11}
 use Rattle.spec.specs.CallsMesh.{graphOfElements, meshRefusal, meshStarts, meshNeighbours}
 use Rattle.laws.specs.Legal.{LegalGraph}
-use Rattle.laws.proofs.ByTest.{by-split, by-make, by-legal}
+use Rattle.laws.proofs.ByTest.{by-split, by-make}
 use Rattle.laws.proofs.Lent.{filled-front}
+use Rattle.laws.proofs.MeshLegal.{mesh-graph-legal}
 use Rattle.laws.proofs.Refused.{or-else-zero, refuse-zero}
 use Rattle.mesh_rows.proofs.Laying.{mesh-size}
 use Rattle.mesh.proofs.GraphLists.{starts-length, neighbours-length, graph-back, not-refused}
@@ -87,21 +88,9 @@ mesh-adjoins n ws p q = (there, back)
 
 -- ---- the graph is legal
 
-any-swap : (els : List (List ℕ)) (p q : ℕ) → anyb (λ e. memb p e && memb q e) els ≡ anyb (λ e. memb q e && memb p e) els
-any-swap [] p q = refl
-any-swap (e ∷ els) p q = ap₂ _||_ (and-comm (memb p e) (memb q e)) (any-swap els p q)
-
-joins-swap : (els : List (List ℕ)) (p q : ℕ) → joins els p q ≡ joins els q p
-unfolding joins
-joins-swap els p q = ap₂ _&&_ (ap not (eqb-sym p q)) (any-swap els p q)
-
-joins-self : (els : List (List ℕ)) (p : ℕ) → joins els p p ≡ false
-unfolding joins
-joins-self els p = ap (λ b. not b && anyb (λ e. memb p e && memb p e) els) (eqb-self p)
-
 pub mesh-legal : (n : ℕ) (ws : List ℕ) → LegalGraph (graphOfElements n ws)
-unfolding graphOfElements meshGraph
-mesh-legal n ws = by-legal n (joins (elements ws)) (λ p q h. joins-swap (elements ws) q p ∙ h) (joins-self (elements ws))
+unfolding graphOfElements
+mesh-legal n ws = mesh-graph-legal n (elements ws)
 
 -- ---- what an accepted call writes
 
