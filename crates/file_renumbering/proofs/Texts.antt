@@ -1,12 +1,11 @@
 -- The text of a run over two lists and counts that are not refused: it is what `write_listing` writes, and has room. Assumes nothing.
 use mathlib.Core.Path.{_≡_, sym, ap, _∙_}
-use mathlib.Core.Bool.{Bool, false, cond}
+use mathlib.Core.Bool.{false}
 use mathlib.Core.List.{List, _++_}
 use Prim.Native.Nat.{ℕ, _≤_}
 use native.Mathlib.Omega.{arith}
 use lib.ListN.{length, take, drop, length-append, length-drop}
 use lib.Seq.{length-take-le, take-at}
-use Rattle.basis.specs.Lists.{sum}
 use Rattle.spec.specs.Graph.{graphOf, sizeOf, graphRefusal}
 use Rattle.spec.specs.Numbering.{Figures, partResult, partResults, run}
 use Rattle.spec.specs.Unknowns.{badCounts}
@@ -19,10 +18,6 @@ use Rattle.laws.proofs.RunLevels.{levels-length}
 use Rattle.laws.proofs.Whole.{run-numbering}
 use Rattle.file_writing.specs.Listed.{listed, outputRoom}
 use Rattle.file_writing.proofs.Fits.{run-listing, listing-fits}
-
--- as many unknowns as the counts add up to, where these are not refused
-pub total-is : {t : ℕ} (n : ℕ) (K : List ℕ) → badCounts n K ≡ false → t ≡ cond (badCounts n K) 0 (sum K) → t ≡ sum K
-total-is n K ok e = e ∙ ap (λ (b : Bool). cond b 0 (sum K)) ok
 
 module _ (S N : List ℕ) (legal : graphRefusal S N ≡ 0) where
   pub starts : Starts S N

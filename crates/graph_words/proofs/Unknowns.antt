@@ -104,8 +104,11 @@ unknowns-refused n K some e =
 pub unknowns-kept : (n : ℕ) (K : List ℕ) → (unknownsOf n K ≡ 0 → ⊥) → badCounts n K ≡ false
 unknowns-kept n K some = by-test (badCounts n K) (λ b. absurd (some (ap (λ (x : Bool). cond x 0 (sum K)) b))) (λ b. b)
 
+-- and else their sum
+pub unknowns-total : {t : ℕ} (n : ℕ) (K : List ℕ) → badCounts n K ≡ false → t ≡ unknownsOf n K → t ≡ sum K
+unknowns-total n K ok e = e ∙ ap (λ (b : Bool). cond b 0 (sum K)) ok
+
 -- as many as nodes: one each
-pub unknowns-ones : (n : ℕ) (K : List ℕ) → badCounts n K ≡ false → unknownsOf n K ≡ n → K ≡ ones n
+pub unknowns-ones : (n : ℕ) (K : List ℕ) → badCounts n K ≡ false → sum K ≡ n → K ≡ ones n
 unknowns-ones n K ok e =
-    let z : sum K ≡ n = sym (ap (λ (b : Bool). cond b 0 (sum K)) ok) ∙ e in
     each K (λ x m. in-range n K ok x m .0) (omega (arith, counts-size n K ok)) ∙ ap (λ (k : ℕ). replicate k 1) (counts-size n K ok)

@@ -1,6 +1,5 @@
 -- As many unknowns as nodes: the graph of the unknowns is the graph. Assumes nothing.
 use mathlib.Core.Path.{_≡_, sym, ap, _∙_}
-use mathlib.Core.Bool.{Bool, cond}
 use mathlib.Core.List.{List}
 use Prim.Native.Nat.{ℕ}
 use lib.ListN.{length}
@@ -18,5 +17,5 @@ pub one-each : {S N x K o : List ℕ} → Given S N x K o → {total : ℕ} → 
 one-each {S} {N} {x} {K} Γ t e =
     sym
     (ap (λ (k : List ℕ). renumberedUnknowns (graphOf S N) k x)
-    (unknowns-ones (sizeOf S) K (Γ .counts) (ap (λ (b : Bool). cond b 0 (sum K)) (Γ .counts) ∙ sym t ∙ e ∙ numbers-size Γ))
+    (unknowns-ones (sizeOf S) K (Γ .counts) (sym t ∙ e ∙ numbers-size Γ))
     ∙ ones-renumbered (Γ .graph) x (Γ .numbering))

@@ -1,6 +1,6 @@
 -- `numbering::number` meets its contract: each refusal by its test, and what `number_all` finds. Assumes nothing.
 use mathlib.Core.Path.{_≡_, sym, ap, _∙_}
-use mathlib.Core.Bool.{Bool, false, _||_, cond}
+use mathlib.Core.Bool.{false, _||_}
 use Prim.Native.Nat.{_*_, _≤_}
 use native.Mathlib.Omega.{arith}
 use lib.Dec.{ltb}
@@ -12,7 +12,7 @@ use Rattle.basis.specs.Lists.{sum}
 use Rattle.spec.specs.Graph.{sizeOf}
 use Rattle.spec.specs.Lent.{accepted, wordsPerNode}
 use Rattle.spec.specs.Unknowns.{badCounts}
-use Rattle.graph_words.proofs.Unknowns.{unknowns-refused, unknowns-kept}
+use Rattle.graph_words.proofs.Unknowns.{unknowns-refused, unknowns-kept, unknowns-total}
 use Rattle.graph.specs.Facts.{LegalLists}
 use Rattle.graph.proofs.Answers.{legal-lists, refused-lists}
 use Rattle.numbering.proofs.Answers.{none-short, lists-refused, short-refused, counts-refused, answered, numbers-back, levels-back, passes-back, scratch-back, left-numbered}
@@ -60,7 +60,7 @@ counted : (e : tie.Else2) → let a = start (told (fit e)) .args in badCounts (s
 counted e = let a = start (told (fit e)) .args in unknowns-kept (sizeOf (now (a .starts))) (now (a .counts)) (λ z. e .if2 .left (e .before .unknowns .ensures ∙ z))
 
 total : (e : tie.Else2) → let a = start (told (fit e)) .args in e .before .unknowns .result ≡ sum (now (a .counts))
-total e = let a = start (told (fit e)) .args in e .before .unknowns .ensures ∙ ap (λ (b : Bool). cond b 0 (sum (now (a .counts)))) (counted e)
+total e = let a = start (told (fit e)) .args in unknowns-total (sizeOf (now (a .starts))) (now (a .counts)) (counted e) (e .before .unknowns .ensures)
 
 returns : tie.Need-returns
 returns c =

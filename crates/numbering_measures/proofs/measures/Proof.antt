@@ -1,24 +1,22 @@
 -- `numbering_measures::measures` meets its contract: the tests in turn, then the three measures. Assumes nothing.
 use Prim.Native.Nat.{ℕ, _≤_}
 use mathlib.Core.Path.{_≡_, sym, ap, _∙_}
-use mathlib.Core.Bool.{Bool, true, false, cond}
+use mathlib.Core.Bool.{false}
 use mathlib.Core.List.{List}
 use native.Mathlib.Omega.{arith}
 use borrow.Author.Needs.{needs}
 use denote.Ref.{now}
 use lib.ListN.{length, take}
 use lib.Seq.{length-take-le}
-use Rattle.basis.specs.Lists.{overwrite, sum}
+use Rattle.basis.specs.Lists.{sum}
 use Rattle.spec.specs.Graph.{sizeOf}
-use Rattle.spec.specs.Lent.{accepted, zeroed}
-use Rattle.spec.specs.Measures.{isNumbering, orderOf}
+use Rattle.spec.specs.Lent.{accepted}
 use Rattle.spec.specs.Unknowns.{badCounts}
-use Rattle.laws.proofs.Numberings.{numbering-length}
 use Rattle.graph.specs.Facts.{LegalLists}
 use Rattle.graph.proofs.Answers.{legal-lists, refused-lists}
-use Rattle.graph_words.proofs.Unknowns.{unknowns-kept, unknowns-refused}
-use Rattle.graph_envelope.proofs.Lent.{length-orderOf}
-use Rattle.numbering_measures.proofs.Answers.{lists-refused, scratch-short, counts-refused, misnumbered, measured, zeros-back}
+use Rattle.graph_words.proofs.Unknowns.{unknowns-kept, unknowns-refused, unknowns-total}
+use Rattle.graph_envelope.proofs.Lent.{Numbered, numbered-yes, numbered-zeroed, numbered-no}
+use Rattle.numbering_measures.proofs.Answers.{lists-refused, scratch-short, counts-refused, misnumbered, measured}
 use Rattle.numbering_measures.proofs.measures.Statement.{statement}
 use Rattle.numbering_measures.proofs.measures.Tie as tie
 
@@ -46,7 +44,7 @@ fit : (c : tie.Else2) → badCounts (sizeOf (now (entry (told (c .before)) .args
 fit c = unknowns-kept _ _ (λ e. c .if2 .left (c .before .unknowns .ensures ∙ e))
 
 total : (c : tie.Else2) → c .before .unknowns .result ≡ sum (now (entry (told (c .before)) .args .counts))
-total c = c .before .unknowns .ensures ∙ ap (λ (b : Bool). cond b 0 (sum (now (entry (told (c .before)) .args .counts)))) (fit c)
+total c = unknowns-total _ _ (fit c) (c .before .unknowns .ensures)
 
 -- the test of the numbering
 abbrev fits : tie.After-numbered → tie.Else2
@@ -67,8 +65,10 @@ lent c = c .numbered .last .1 .1 .0
 abbrev found : tie.Then3 → tie.After-numbered
 found c = c .before .before .before
 
-numbered : (c : tie.Then3) → isNumbering (sizeOf (now (start (found c) .args .starts))) (now (start (found c) .args .numbering)) ≡ true
-numbered c = sym (found c .numbered .ensures .0) ∙ c .if3 .taken
+numbered : (c : tie.Then3) → Numbered (sizeOf (now (start (found c) .args .starts))) (now (start (found c) .args .numbering)) (now (start (found c) .args .scratch)) (lent (found c))
+numbered c =
+    let v = found c .numbered in
+    numbered-yes _ _ _ _ (v .result) (v .ensures .0) (v .ensures .1) (c .if3 .taken)
 
 -- as many words as nodes are lent
 part : (c : tie.Then3) → length (take (sizeOf (now (start (found c) .args .starts))) (lent (found c))) ≡ sizeOf (now (start (found c) .args .starts))
@@ -106,7 +106,7 @@ figures-requires : tie.Need-figures-requires
 figures-requires c κs =
     let t = c .before in
     let e = fits (found t) in
-    (legal (told (e .before)), (fit e, (numbered t, (part t, total e))))
+    (legal (told (e .before)), (fit e, (numbered t .numbering, (part t, total e))))
 
 returns-4 : tie.Need-returns-4
 returns-4 c =
@@ -114,29 +114,21 @@ returns-4 c =
     let t = f .before .before in
     let d = found t in
     let a = start d .args in
-    let S = now (a .starts) in
-    let X = now (a .numbering) in
-    let ok = numbered t in
-    let r = measured S (now (a .neighbours)) (now (a .counts)) X (now (a .scratch)) (legal (told (fits d .before))) (room d) (fit (fits d)) ok in (
-      ap accepted (f .figures .ensures .0) ∙ r .0,
-      zeros-back (sizeOf S) (orderOf X) (now (a .scratch)) (f .figures .last .1 .1 .1 .1 .0) (lent d)
-          (length-orderOf X ∙ numbering-length _ _ ok) (f .figures .ensures .1)
-          (d .numbered .ensures .1 ∙ ap (λ (t : Bool). cond t (overwrite (orderOf X) (now (a .scratch))) (zeroed (sizeOf S) (now (a .scratch)))) (t .if3 .taken))
-          ∙ r .1,
-    )
+    let M = numbered t in
+    let r =
+    measured (now (a .starts)) (now (a .neighbours)) (now (a .counts)) (now (a .numbering)) (now (a .scratch)) (legal (told (fits d .before))) (room d) (fit (fits d))
+    (M .numbering) in
+    (ap accepted (f .figures .ensures .0) ∙ r .0, numbered-zeroed M (f .figures .ensures .1) ∙ r .1)
 
 returns-5 : tie.Need-returns-5
 returns-5 c =
     let d = c .before .before .before in
     let a = start d .args in
-    let S = now (a .starts) in
-    let X = now (a .numbering) in
-    let r = misnumbered S (now (a .neighbours)) (now (a .counts)) X (now (a .scratch)) (legal (told (fits d .before))) (room d) (fit (fits d)) (sym (d .numbered .ensures .0) ∙ c .if3 .left) in (
-      r .0,
-      d .numbered .ensures .1
-          ∙ ap (λ (t : Bool). cond t (overwrite (orderOf X) (now (a .scratch))) (zeroed (sizeOf S) (now (a .scratch)))) (c .if3 .left)
-          ∙ r .1,
-    )
+    let v = d .numbered in
+    let r =
+    misnumbered (now (a .starts)) (now (a .neighbours)) (now (a .counts)) (now (a .numbering)) (now (a .scratch)) (legal (told (fits d .before))) (room d) (fit (fits d))
+    (sym (v .ensures .0) ∙ c .if3 .left) in
+    (r .0, numbered-no (sizeOf (now (a .starts))) (now (a .numbering)) (now (a .scratch)) _ (v .result) (v .ensures .1) (c .if3 .left) ∙ r .1)
 
 pub measures-spec : {M : Type 1} → statement M
 measures-spec =

@@ -1,6 +1,6 @@
 -- `store_elimination::eliminate` meets its contract: the tests in turn, then the elimination. Assumes nothing.
-use mathlib.Core.Path.{_≡_, sym, ap, _∙_}
-use mathlib.Core.Bool.{Bool, false, cond}
+use mathlib.Core.Path.{_≡_, sym, _∙_}
+use mathlib.Core.Bool.{false}
 use mathlib.Core.List.{List}
 use Prim.Native.Nat.{ℕ, _≤_}
 use native.Mathlib.Omega.{arith}
@@ -13,8 +13,9 @@ use Rattle.spec.specs.Graph.{sizeOf}
 use Rattle.spec.specs.Unknowns.{badCounts}
 use Rattle.graph.specs.Facts.{LegalLists}
 use Rattle.graph.proofs.Answers.{legal-lists, refused-lists}
-use Rattle.graph_words.proofs.Unknowns.{unknowns-kept, unknowns-refused}
-use Rattle.store_elimination.proofs.Answers.{answered-lists, answered-5, answered-15, answered-7, answered-last, Numbered, numbered-yes, numbered-front, numbered-zeroed, numbered-no}
+use Rattle.graph_words.proofs.Unknowns.{unknowns-kept, unknowns-refused, unknowns-total}
+use Rattle.graph_envelope.proofs.Lent.{Numbered, numbered-yes, numbered-front, numbered-zeroed, numbered-no}
+use Rattle.store_elimination.proofs.Answers.{answered-lists, answered-5, answered-15, answered-7, answered-last}
 use Rattle.store_elimination.proofs.eliminate.Statement.{statement}
 use Rattle.store_elimination.proofs.eliminate.Tie as tie
 
@@ -42,7 +43,7 @@ fit : (c : tie.Else2) → badCounts (sizeOf (now (entry (told (c .before)) .args
 fit c = unknowns-kept _ _ (λ e. c .if2 .left (c .before .unknowns .ensures ∙ e))
 
 total : (c : tie.Else2) → c .before .unknowns .result ≡ sum (now (entry (told (c .before)) .args .counts))
-total c = c .before .unknowns .ensures ∙ ap (λ (b : Bool). cond b 0 (sum (now (entry (told (c .before)) .args .counts)))) (fit c)
+total c = unknowns-total _ _ (fit c) (c .before .unknowns .ensures)
 
 -- the test of the numbering
 abbrev fits : tie.After-numbered → tie.Else2

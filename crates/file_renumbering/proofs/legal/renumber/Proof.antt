@@ -10,8 +10,9 @@ use borrow.Author.Needs.{needs}
 use Rattle.basis.specs.Lists.{overwrite}
 use Rattle.spec.specs.Graph.{sizeOf}
 use Rattle.spec.specs.Numbering.{partResults, run}
+use Rattle.graph_words.proofs.Unknowns.{unknowns-total}
 use Rattle.file_writing.specs.Figures.{figuresOf}
-use Rattle.file_renumbering.proofs.Texts.{Found, total-is, starts, front, sizes, passes-stay, passes-front, text-is, text-fits}
+use Rattle.file_renumbering.proofs.Texts.{Found, starts, front, sizes, passes-stay, passes-front, text-is, text-fits}
 use Rattle.file_renumbering.proofs.legal.renumber.Statement.{statement}
 use Rattle.file_renumbering.proofs.legal.renumber.Tie as tie
 
@@ -85,7 +86,7 @@ number-all-requires c κs =
     let x = part s (now (s .args .numbers)) (t .numbers-fit) in
     let l = part s (now (s .args .levels)) (t .levels-fit) in
     let p = part s (now (s .args .passes)) (t .passes-fit) in
-    (s .pre .0, ((ok, total-is (sizeOf (now (s .args .starts))) (now (s .args .counts)) ok (u .unknowns .ensures)), ((x, l, p), omega (arith, few s, s .pre .1 .1 .0))))
+    (s .pre .0, ((ok, unknowns-total (sizeOf (now (s .args .starts))) (now (s .args .counts)) ok (u .unknowns .ensures)), ((x, l, p), omega (arith, few s, s .pre .1 .1 .0))))
 
 -- ---- its text
 
