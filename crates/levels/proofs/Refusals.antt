@@ -21,7 +21,7 @@ use Rattle.laws.proofs.Ends.{ends-of}
 use Rattle.laws.proofs.Figures.{length-levelList}
 use Rattle.laws.proofs.Sizes.{sizes-length}
 use Rattle.graph.specs.Facts.{LegalLists}
-use Rattle.graph.proofs.Ways.{Tests, Refuses, by-none, answer-stays, buffer-stays, scratch-stays, answer-new, buffer-new, scratch-new}
+use Rattle.graph.proofs.Ways.{last, Tests, Refuses, by-none, answer-stays, buffer-stays, scratch-stays, answer-new, buffer-new, scratch-new}
 use Rattle.levels.specs.Part.{partLevelsOf}
 use Rattle.levels.specs.declared.shape.PartLevels.{PartLevels}
 
@@ -46,7 +46,7 @@ module _ (B : List ℕ) (n : ℕ) (Z : List ℕ) (m : ℕ) where
 
 module _ (S N : List ℕ) (root : ℕ) (B Z : List ℕ) where
   abbrev RootedTests : Type 0
-  RootedTests = Tests S N (short B (sizeOf S) || short Z (sizeOf S)) (outside (sizeOf S) root) 6 (rootedRefusal S N root B Z)
+  RootedTests = Tests S N (short B (sizeOf S) || short Z (sizeOf S)) (last (outside (sizeOf S) root) 6) (rootedRefusal S N root B Z)
 
   rooted-tests : RootedTests
   unfolding rootedRefusal
@@ -73,7 +73,7 @@ module _ (S N : List ℕ) (root : ℕ) (B Z : List ℕ) where
 
 module _ (S N : List ℕ) (node : ℕ) (W : List ℕ) where
   abbrev PartTests : Type 0
-  PartTests = Tests S N (short W (wordsPerNode * sizeOf S)) (outside (sizeOf S) node) 6 (partRefusal S N node W)
+  PartTests = Tests S N (short W (wordsPerNode * sizeOf S)) (last (outside (sizeOf S) node) 6) (partRefusal S N node W)
 
   part-tests : PartTests
   unfolding partRefusal
@@ -94,7 +94,7 @@ module _ (S N : List ℕ) (node : ℕ) (W : List ℕ) where
 
 module _ (S N : List ℕ) (node : ℕ) (B W : List ℕ) where
   abbrev CombinedTests : Type 0
-  CombinedTests = Tests S N (short B (sizeOf S) || short W (wordsPerNode * sizeOf S)) (outside (sizeOf S) node) 6 (combinedRefusal S N node B W)
+  CombinedTests = Tests S N (short B (sizeOf S) || short W (wordsPerNode * sizeOf S)) (last (outside (sizeOf S) node) 6) (combinedRefusal S N node B W)
 
   combined-tests : CombinedTests
   unfolding combinedRefusal

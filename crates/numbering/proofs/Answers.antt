@@ -24,7 +24,7 @@ use Rattle.laws.proofs.Passes.{passes-length}
 use Rattle.laws.proofs.ResultLevels.{all-length}
 use Rattle.laws.proofs.Results.{all-numbering}
 use Rattle.graph.specs.Facts.{LegalLists, RefusedLists}
-use Rattle.graph.proofs.Ways.{Refuses, Accepts, Tests, by-lists, by-short, by-last, by-none, answer-stays, buffer-stays, scratch-stays, answer-new, buffer-new, scratch-new}
+use Rattle.graph.proofs.Ways.{last, Refuses, Accepts, Tests, by-lists, by-short, by-last, by-none, answer-stays, buffer-stays, scratch-stays, answer-new, buffer-new, scratch-new}
 use Rattle.numbering_next.specs.Orders.{resultOf, wholeIn}
 use Rattle.numbering_next.specs.declared.order.Order.{Order}
 use Rattle.numbering_next.specs.declared.order.Order.the-variants.{ReverseCuthillMcKee}
@@ -83,7 +83,7 @@ module _ (order : Order) (S N K X L P W : List ℕ) where
   abbrev anyShort : Bool
   anyShort = ltb (length X) (sizeOf S) || ltb (length L) (sizeOf S) || ltb (length P) (sizeOf S) || ltb (length W) (wordsPerNode * sizeOf S)
 
-  tests : Tests S N anyShort (badCounts (sizeOf S) K) 15 (runRefusal S N K X L P W)
+  tests : Tests S N anyShort (last (badCounts (sizeOf S) K) 15) (runRefusal S N K X L P W)
   unfolding runRefusal
   tests = record { is = refl }
 

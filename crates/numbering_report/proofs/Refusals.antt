@@ -1,37 +1,23 @@
 -- The tests of the part report as they run, and what it answers and leaves where it is refused and where it is accepted. Assumes nothing.
-use mathlib.Core.Path.{_≡_, refl, ap}
-use mathlib.Core.Bool.{Bool, true, false, _||_, cond}
+use mathlib.Core.Path.{_≡_, refl}
+use mathlib.Core.Bool.{true, false}
 use mathlib.Core.List.{List}
 use Prim.Native.Nat.{ℕ, _*_, _≤_, _<_}
 use native.Mathlib.Omega.{arith}
 use lib.ListN.{length}
 use borrow.Author.Tests.{lt-ltb, le-ltb}
-use Rattle.basis.proofs.Logic.{or-left, or-right, or-neither}
 use Rattle.spec.specs.CallsNumbering.{reportRefusal, reportAnswer, reportScratch}
-use Rattle.spec.specs.Graph.{graphOf, sizeOf, graphRefusal, outside}
+use Rattle.spec.specs.Graph.{graphOf, sizeOf, outside}
 use Rattle.spec.specs.Lent.{accepted, refused, zeroed, wordsPerNode, short}
 use Rattle.spec.specs.Numbering.{PartReport, partResult}
-use Rattle.spec.specs.Refusal.{refuse, _orElse_}
 use Rattle.spec.specs.Unknowns.{badCounts}
 use Rattle.graph.specs.Facts.{LegalLists, RefusedLists}
-use Rattle.graph.proofs.Ways.{Tests, Refuses, by-lists, by-short, by-last, by-none, answer-stays, scratch-stays, answer-new, scratch-new}
-
--- 15 and then 6 are one test: that one of them is due, and which comes first
-two-tests : (bad out : Bool) → refuse bad 15 orElse refuse out 6 ≡ refuse (bad || out) (cond bad 15 6)
-two-tests true out = refl
-two-tests false true = refl
-two-tests false false = refl
+use Rattle.graph.proofs.Ways.{last, next, Tests, Refuses, by-lists, by-short, by-last, by-none, by-next, past-next, answer-stays, scratch-stays, answer-new, scratch-new}
 
 module _ (S N K : List ℕ) (node : ℕ) (W : List ℕ) where
-  abbrev bad : Bool
-  bad = badCounts (sizeOf S) K
-
-  abbrev out : Bool
-  out = outside (sizeOf S) node
-
-  tests : Tests S N (short W (wordsPerNode * sizeOf S)) (bad || out) (cond bad 15 6) (reportRefusal S N K node W)
+  tests : Tests S N (short W (wordsPerNode * sizeOf S)) (next (badCounts (sizeOf S) K) 15 (last (outside (sizeOf S) node) 6)) (reportRefusal S N K node W)
   unfolding reportRefusal
-  tests = record { is = ap (λ (r : ℕ). graphRefusal S N orElse refuse (short W (wordsPerNode * sizeOf S)) 5 orElse r) (two-tests bad out) }
+  tests = record { is = refl }
 
   -- refused: the scratch stays as it is
   refusal : {c : ℕ} → Refuses (reportRefusal S N K node W) c → (refused c ≡ reportAnswer S N K node W) × (W ≡ reportScratch S N K node W)
@@ -53,19 +39,15 @@ module _ (S N K : List ℕ) (node : ℕ) (W : List ℕ) where
 
       -- 15
       pub counts-refused : badCounts (sizeOf S) K ≡ true → (refused 15 ≡ reportAnswer S N K node W) × (W ≡ reportScratch S N K node W)
-      counts-refused b =
-          let k : _≡_ {A = ℕ} (cond bad 15 6) 15 = rw b in
-          refusal (rw k at (by-last tests G long (or-left out b) (omega (arith, k))))
+      counts-refused b = refusal (by-next tests G long b (omega arith))
 
       module _ (counted : badCounts (sizeOf S) K ≡ false) where
         -- 6
         pub node-refused : outside (sizeOf S) node ≡ true → (refused 6 ≡ reportAnswer S N K node W) × (W ≡ reportScratch S N K node W)
-        node-refused o =
-            let k : _≡_ {A = ℕ} (cond bad 15 6) 6 = rw counted in
-            refusal (rw k at (by-last tests G long (or-right bad o) (omega (arith, k))))
+        node-refused o = refusal (by-last (past-next tests counted) G long o (omega arith))
 
         -- accepted: the scratch is 0
         pub report-accepted : outside (sizeOf S) node ≡ false → {r : PartReport} → r ≡ partResult (graphOf S N) K node .report
             → {X : List ℕ} → X ≡ zeroed (wordsPerNode * sizeOf S) W → (accepted r ≡ reportAnswer S N K node W) × (X ≡ reportScratch S N K node W)
         unfolding reportAnswer reportScratch
-        report-accepted o e x = let A = by-none tests G long (or-neither counted o) in (answer-new A e, scratch-new A S W x)
+        report-accepted o e x = let A = by-none (past-next tests counted) G long o in (answer-new A e, scratch-new A S W x)
