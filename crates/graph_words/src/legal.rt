@@ -45,9 +45,9 @@ pub fn unknowns(counts: &[u16], n: usize) -> usize
         return 0;
     }
     let mut total = 0;
-    let mut i = 0;
-    while i < n {
-        let c = wide(counts[i]);
+    let mut p = 0;
+    while p < n {
+        let c = wide(counts[p]);
         if c == 0 {
             return 0;
         }
@@ -55,7 +55,7 @@ pub fn unknowns(counts: &[u16], n: usize) -> usize
             return 0;
         }
         total += c;
-        i += 1;
+        p += 1;
     }
     total
 }

@@ -7,10 +7,10 @@ use Rattle.graph_words.proofs.legal.unknowns.Statement.{statement}
 use Rattle.graph_words.proofs.legal.unknowns.Tie as tie
 
 abbrev Inv-loop : tie.InvT-loop
-Inv-loop counts n total₀ i₀ total i = Totalling n counts total i
+Inv-loop counts n total₀ p₀ total p = Totalling n counts total p
 
 abbrev μ-loop : tie.MeasureT-loop
-μ-loop counts n total₀ i₀ total i = n - i
+μ-loop counts n total₀ p₀ total p = n - p
 
 returns : tie.Need-returns Inv-loop μ-loop
 returns c = unknowns-misfit _ _ (c .if1 .taken)
@@ -36,8 +36,8 @@ returns-3 c = let w = c .before .before in unknowns-many (w .before .before .bef
 add-total : tie.Need-add-total Inv-loop μ-loop
 add-total c = let w = c .before .before in let I = w .before .before .before .loop .inv in omega (arith, I .few, I .most, c .if3 .left)
 
-add-i : tie.Need-add-i Inv-loop μ-loop
-add-i c = omega arith
+add-p : tie.Need-add-p Inv-loop μ-loop
+add-p c = omega arith
 
 loop-less : tie.Need-loop-less Inv-loop μ-loop
 loop-less c = omega arith
@@ -64,7 +64,7 @@ unknowns-spec =
     returns-2
     returns-3
     add-total
-    add-i
+    add-p
     loop-less
     loop-again
     returns-4)
