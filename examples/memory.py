@@ -81,9 +81,9 @@ def table_row(name, by):
 PAGE = '''# How full a store gets
 
 For buyers of memory. A store is bought by its places, before anything stands in them. How many of them stay empty to the end depends on the order of
-the nodes: on the seven meshes of `examples/` the run's order leaves at most %(run)s %% of them idle, reverse Cuthill-McKee at most %(cuthill)s %%, and
-Cuthill-McKee before its turning none. But of the three that last one has the largest store on each of these meshes: **buy by the places, not by the
-share that is idle.**
+the nodes: on the seven meshes of `examples/` with one unknown a node the run's order leaves at most %(run)s %% of them idle, reverse Cuthill-McKee at
+most %(cuthill)s %%, and Cuthill-McKee before its turning none. But of the three that last one has the largest store on each of these meshes: **buy by
+the places, not by the share that is idle.**
 
 ## What a store is
 
@@ -93,8 +93,8 @@ their coefficients need not be 0 any more. The pairs that become joined so are t
 
 So the store has, in the row of each node, a place for every number from that of its lowest-numbered neighbour up to the one before its own. These
 places are the envelope; the profile is their count. It is known before the first elimination, and it suffices: no elimination joins a pair that has
-no place, which is proved. That is why a store is sized by the profile. As of now a place holds one coefficient, for one unknown a node; the diagonal
-is not counted.
+no place, which is proved. That is why a store is sized by the profile. A place holds one coefficient, of a pair of unknowns; on this page each node
+has one. The diagonal is not counted.
 
 A place is **idle** if its pair is never joined, neither at first nor at any elimination: its coefficient stays 0.
 
