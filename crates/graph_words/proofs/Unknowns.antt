@@ -1,6 +1,6 @@
 -- The counts tested and added up, word by word: what is left is tested as the whole. As many unknowns as nodes are one each. Assumes nothing.
 use mathlib.Core.Path.{_≡_, refl, sym, ap, ap₂, _∙_}
-use mathlib.Core.Bool.{Bool, true, false, not, _||_, cond}
+use mathlib.Core.Bool.{Bool, true, false, not, _||_, cond, or-assoc, or-false}
 use mathlib.Core.List.{List, [], _∷_}
 use Prim.Native.Nat.{ℕ, suc, _+_, _*_, _≤_, _<_}
 use native.Mathlib.Numerals.{add-one}
@@ -43,53 +43,53 @@ pub unknowns-misfit : (n : ℕ) (K : List ℕ) → (length K ≡ n → ⊥) → 
 unfolding badCounts
 unknowns-misfit n K ne = refused n K (or-left (anyb (outside maxCount) K) (ap not (ne-eqb (length K) n ne)))
 
--- the first i counts are in range, and their sum is t
-pub record Totalling (n : ℕ) (K : List ℕ) (t i : ℕ) : Type 0 where
+-- the first i counts are bad or not as `bad` says, and their sum is t
+pub record Totalling (n : ℕ) (K : List ℕ) (t : ℕ) (bad : Bool) (i : ℕ) : Type 0 where
   pub size : length K ≡ n
   pub most : i ≤ n
-  pub few : t ≤ 6 * i
-  pub rest : anyb (outside maxCount) (drop i K) ≡ anyb (outside maxCount) K
+  pub few : t ≤ 65535 * i
+  pub tested : bad || anyb (outside maxCount) (drop i K) ≡ anyb (outside maxCount) K
   pub added : t + sum (drop i K) ≡ sum K
 
-pub totalling-begin : {n : ℕ} {K : List ℕ} → length K ≡ n → Totalling n K 0 0
-totalling-begin e = record { size = e; most = omega arith; few = omega arith; rest = refl; added = omega arith }
+pub totalling-begin : {n : ℕ} {K : List ℕ} → length K ≡ n → Totalling n K 0 false 0
+totalling-begin e = record { size = e; most = omega arith; few = omega arith; tested = refl; added = omega arith }
 
-module _ {n : ℕ} {K : List ℕ} {t i : ℕ} (I : Totalling n K t i) where
-  bad-at : i < n → outside maxCount (getD K i 0) ≡ true → 0 ≡ unknownsOf n K
-  unfolding badCounts
-  bad-at h e =
-      refused n K
-      (or-right (not (eqb (length K) n)) (sym (I .rest) ∙ ap (anyb (outside maxCount)) (drop-cons K i 0 (omega (arith, I .size))) ∙ or-left _ e))
+module _ {n : ℕ} {K : List ℕ} {t : ℕ} {bad : Bool} {i : ℕ} (I : Totalling n K t bad i) where
+  -- one count more
+  pub totalling-step : i < n → {c : ℕ} → c ≡ getD K i 0 → c < 65536 → {worse : Bool} → worse ≡ bad || outside maxCount c → Totalling n K (t + c) worse (i + 1)
+  totalling-step h {c} e l {worse} w =
+      let cons : drop i K ≡ getD K i 0 ∷ drop (suc i) K = drop-cons K i 0 (omega (arith, I .size)) in
+      let later : Bool = anyb (outside maxCount) (drop (suc i) K) in
+      rw (add-one i) record {
+        size = I .size;
+        most = omega arith;
+        few = omega (arith, I .few);
+        tested =
+            ap (λ (b : Bool). b || later) (w ∙ ap (λ (x : ℕ). bad || outside maxCount x) e)
+            ∙ or-assoc bad (outside maxCount (getD K i 0)) later
+            ∙ sym (ap (λ (l : List ℕ). bad || anyb (outside maxCount) l) cons)
+            ∙ I .tested;
+        added = omega (arith, I .added, ap sum cons);
+      }
 
-  module _ (h : i < n) {c : ℕ} (e : c ≡ getD K i 0) where
-    -- none, and more than six
-    pub unknowns-none : c ≡ 0 → 0 ≡ unknownsOf n K
-    unknowns-none z = bad-at h (ap (outside maxCount) (sym e) ∙ or-left _ (eq-eqb c 0 z))
-
-    pub unknowns-many : maxCount < c → 0 ≡ unknownsOf n K
-    unknowns-many l = bad-at h (ap (outside maxCount) (sym e) ∙ or-right (eqb c 0) (lt-ltb maxCount c l))
-
-    -- one count more is in range
-    pub totalling-step : (c ≡ 0 → ⊥) → c ≤ maxCount → Totalling n K (t + c) (i + 1)
-    totalling-step some l =
-        let cons : drop i K ≡ getD K i 0 ∷ drop (suc i) K = drop-cons K i 0 (omega (arith, I .size)) in
-        let within : outside maxCount (getD K i 0) ≡ false = ap (outside maxCount) (sym e) ∙ or-neither (ne-eqb c 0 some) (le-ltb maxCount c l) in
-        rw (add-one i) record {
-          size = I .size;
-          most = omega arith;
-          few = omega (arith, I .few);
-          rest = ap (λ (b : Bool). b || anyb (outside maxCount) (drop (suc i) K)) (sym within) ∙ sym (ap (anyb (outside maxCount)) cons) ∙ I .rest;
-          added = omega (arith, I .added, ap sum cons);
-        }
-
-  pub totalling-done : n ≤ i → t ≡ unknownsOf n K
-  unfolding badCounts
+  -- all counts
+  pub totalling-done : n ≤ i → (bad ≡ anyb (outside maxCount) K) × (t ≡ sum K)
   totalling-done h =
       let z : i ≡ length K = omega (arith, I .most, I .size) in
-      let none : drop i K ≡ [] = ap (λ (j : ℕ). drop j K) z ∙ drop-length K in
-      let good : badCounts n K ≡ false = or-neither (ap not (eq-eqb (length K) n (I .size))) (sym (I .rest) ∙ ap (anyb (outside maxCount)) none) in
-      let all : t ≡ sum K = omega (arith, I .added, ap sum none) in
-      all ∙ sym (ap (λ (b : Bool). cond b 0 (sum K)) good)
+      let none : drop i K ≡ [] = ap (λ (j : ℕ). drop j K) z ∙ drop-length K in (
+        sym (or-false bad) ∙ sym (ap (λ (l : List ℕ). bad || anyb (outside maxCount) l) none) ∙ I .tested,
+        omega (arith, I .added, ap sum none),
+      )
+
+  counted : n ≤ i → badCounts n K ≡ bad
+  unfolding badCounts
+  counted h = ap (λ (b : Bool). not b || anyb (outside maxCount) K) (eq-eqb (length K) n (I .size)) ∙ sym (totalling-done h .0)
+
+  pub unknowns-bad : n ≤ i → bad ≡ true → 0 ≡ unknownsOf n K
+  unknowns-bad h b = refused n K (counted h ∙ b)
+
+  pub unknowns-good : n ≤ i → bad ≡ false → t ≡ unknownsOf n K
+  unknowns-good h b = totalling-done h .1 ∙ sym (ap (λ (x : Bool). cond x 0 (sum K)) (counted h ∙ b))
 
 -- ---- what the answer tells
 

@@ -1,16 +1,17 @@
--- `graph_words::legal::unknowns` meets its contract: the counts passed are in range and added up. Assumes nothing.
+-- `graph_words::legal::unknowns` meets its contract: the counts passed are tested and added up. Assumes nothing.
+use mathlib.Core.Path.{refl}
 use Prim.Native.Nat.{_-_}
 use native.Mathlib.Omega.{arith}
 use borrow.Author.Needs.{needs}
-use Rattle.graph_words.proofs.Unknowns.{Totalling, unknowns-misfit, totalling-begin, unknowns-none, unknowns-many, totalling-step, totalling-done}
+use Rattle.graph_words.proofs.Unknowns.{Totalling, unknowns-misfit, totalling-begin, totalling-step, unknowns-bad, unknowns-good}
 use Rattle.graph_words.proofs.legal.unknowns.Statement.{statement}
 use Rattle.graph_words.proofs.legal.unknowns.Tie as tie
 
 abbrev Inv-loop : tie.InvT-loop
-Inv-loop counts n total₀ p₀ total p = Totalling n counts total p
+Inv-loop counts n total₀ bad₀ p₀ total bad p = Totalling n counts total bad p
 
 abbrev μ-loop : tie.MeasureT-loop
-μ-loop counts n total₀ p₀ total p = n - p
+μ-loop counts n total₀ bad₀ p₀ total bad p = n - p
 
 returns : tie.Need-returns Inv-loop μ-loop
 returns c = unknowns-misfit _ _ (c .if1 .taken)
@@ -18,23 +19,23 @@ returns c = unknowns-misfit _ _ (c .if1 .taken)
 loop-holds : tie.Need-loop-holds Inv-loop μ-loop
 loop-holds c = totalling-begin (c .if1 .left)
 
-mul-wide : tie.Need-mul-wide Inv-loop μ-loop
-mul-wide c = omega (arith, c .loop-test .taken, c .before .loop .inv .size)
+mul-c : tie.Need-mul-c Inv-loop μ-loop
+mul-c c = omega (arith, c .loop-test .taken, c .before .loop .inv .size)
 
-shared-slice-read-wide : tie.Need-shared-slice-read-wide Inv-loop μ-loop
-shared-slice-read-wide c = omega (arith, c .before .loop-test .taken, c .before .before .loop .inv .size)
+shared-slice-read-c : tie.Need-shared-slice-read-c Inv-loop μ-loop
+shared-slice-read-c c = omega (arith, c .before .loop-test .taken, c .before .before .loop .inv .size)
 
-wide-requires : tie.Need-wide-requires Inv-loop μ-loop
-wide-requires c κs = search needs
+bad-with-requires : tie.Need-bad-with-requires Inv-loop μ-loop
+bad-with-requires c κs = search needs
 
-returns-2 : tie.Need-returns-2 Inv-loop μ-loop
-returns-2 c = let w = c .before in unknowns-none (w .before .before .before .loop .inv) (w .before .before .loop-test .taken) (w .wide .ensures) (c .if2 .taken)
-
-returns-3 : tie.Need-returns-3 Inv-loop μ-loop
-returns-3 c = let w = c .before .before in unknowns-many (w .before .before .before .loop .inv) (w .before .before .loop-test .taken) (w .wide .ensures) (c .if3 .taken)
+cast-total : tie.Need-cast-total Inv-loop μ-loop
+cast-total c = let r = c .before in omega (arith, r .shared-slice-known2 .given (r .before .before .loop .p))
 
 add-total : tie.Need-add-total Inv-loop μ-loop
-add-total c = let w = c .before .before in let I = w .before .before .before .loop .inv in omega (arith, I .few, I .most, c .if3 .left)
+add-total c =
+    let r = c .before in
+    let I = r .before .before .loop .inv in
+    omega (arith, I .few, I .most, r .shared-slice-known2 .given (r .before .before .loop .p))
 
 add-p : tie.Need-add-p Inv-loop μ-loop
 add-p c = omega arith
@@ -44,11 +45,17 @@ loop-less c = omega arith
 
 loop-again : tie.Need-loop-again Inv-loop μ-loop
 loop-again c =
-    let w = c .before .before in
-    totalling-step (w .before .before .before .loop .inv) (w .before .before .loop-test .taken) (w .wide .ensures) (c .before .if2 .left) (c .if3 .left)
+    let r = c .before in
+    totalling-step (r .before .before .loop .inv) (r .before .loop-test .taken) refl (omega (arith, r .shared-slice-known2 .given (r .before .before .loop .p))) (c .bad-with .ensures)
 
-returns-4 : tie.Need-returns-4 Inv-loop μ-loop
-returns-4 c = totalling-done (c .before .loop .inv) (c .loop-test .left)
+returns-2 : tie.Need-returns-2 Inv-loop μ-loop
+returns-2 c = unknowns-bad (c .before .before .loop .inv) (c .before .loop-test .left) (c .if2 .taken)
+
+cast-result : tie.Need-cast-result Inv-loop μ-loop
+cast-result c = let I = c .before .before .loop .inv in omega (arith, I .few, I .most)
+
+returns-3 : tie.Need-returns-3 Inv-loop μ-loop
+returns-3 c = unknowns-good (c .before .before .loop .inv) (c .before .loop-test .left) (c .if2 .left)
 
 pub unknowns-spec : {M : Type 1} → statement M
 unknowns-spec =
@@ -58,13 +65,14 @@ unknowns-spec =
     μ-loop
     returns
     loop-holds
-    mul-wide
-    shared-slice-read-wide
-    wide-requires
-    returns-2
-    returns-3
+    mul-c
+    shared-slice-read-c
+    bad-with-requires
+    cast-total
     add-total
     add-p
     loop-less
     loop-again
-    returns-4)
+    returns-2
+    cast-result
+    returns-3)
