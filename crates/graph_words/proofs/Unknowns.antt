@@ -1,6 +1,6 @@
 -- The counts tested and added up, word by word: what is left is tested as the whole. As many unknowns as nodes are one each. Assumes nothing.
 use mathlib.Core.Path.{_≡_, refl, sym, ap, ap₂, _∙_}
-use mathlib.Core.Bool.{Bool, true, false, not, _||_, cond, or-assoc, or-false}
+use mathlib.Core.Bool.{Bool, true, false, not, _||_, cond}
 use mathlib.Core.List.{List, [], _∷_}
 use Prim.Native.Nat.{ℕ, suc, _+_, _*_, _≤_, _<_}
 use native.Mathlib.Numerals.{add-one}
@@ -9,7 +9,8 @@ use lib.ListN.{length, getD, drop, replicate}
 use lib.Seq.{drop-cons, drop-length}
 use lib.Dec.{eqb}
 use borrow.Author.Tests.{eq-eqb, ne-eqb, lt-ltb, le-ltb}
-use Rattle.basis.specs.Lists.{anyb, memb, sum}
+use Rattle.basis.specs.Lists.{bit, countb, anyb, memb, sum}
+use Rattle.basis.proofs.Count.{bit-most, any-count, none-count}
 use Rattle.basis.proofs.Lists.{memb-here}
 use Rattle.basis.proofs.Logic.{by-test, or-left, or-right, or-neither}
 use Rattle.spec.specs.Graph.{outside}
@@ -43,53 +44,61 @@ pub unknowns-misfit : (n : ℕ) (K : List ℕ) → (length K ≡ n → ⊥) → 
 unfolding badCounts
 unknowns-misfit n K ne = refused n K (or-left (anyb (outside maxCount) K) (ap not (ne-eqb (length K) n ne)))
 
--- the first i counts are bad or not as `bad` says, and their sum is t
-pub record Totalling (n : ℕ) (K : List ℕ) (t : ℕ) (bad : Bool) (i : ℕ) : Type 0 where
+-- of the first i words b are no counts, and their sum is t
+pub record Totalling (n : ℕ) (K : List ℕ) (t b i : ℕ) : Type 0 where
   pub size : length K ≡ n
   pub most : i ≤ n
   pub few : t ≤ 65535 * i
-  pub tested : bad || anyb (outside maxCount) (drop i K) ≡ anyb (outside maxCount) K
+  pub fewer : b ≤ i
+  pub tested : b + countb (outside maxCount) (drop i K) ≡ countb (outside maxCount) K
   pub added : t + sum (drop i K) ≡ sum K
 
-pub totalling-begin : {n : ℕ} {K : List ℕ} → length K ≡ n → Totalling n K 0 false 0
-totalling-begin e = record { size = e; most = omega arith; few = omega arith; tested = refl; added = omega arith }
+pub totalling-begin : {n : ℕ} {K : List ℕ} → length K ≡ n → Totalling n K 0 0 0
+totalling-begin e = record { size = e; most = omega arith; few = omega arith; fewer = omega arith; tested = omega arith; added = omega arith }
 
-module _ {n : ℕ} {K : List ℕ} {t : ℕ} {bad : Bool} {i : ℕ} (I : Totalling n K t bad i) where
-  -- one count more
-  pub totalling-step : i < n → {c : ℕ} → c ≡ getD K i 0 → c < 65536 → {worse : Bool} → worse ≡ bad || outside maxCount c → Totalling n K (t + c) worse (i + 1)
-  totalling-step h {c} e l {worse} w =
+module _ {n : ℕ} {K : List ℕ} {t b i : ℕ} (I : Totalling n K t b i) where
+  pub strays-few : {s : ℕ} → s ≡ bit (outside maxCount (getD K i 0)) → b + s ≤ i + 1
+  strays-few e = omega (arith, I .fewer, e, bit-most (outside maxCount (getD K i 0)))
+
+  -- one word more
+  pub totalling-step : i < n → getD K i 0 < 65536 → {s : ℕ} → s ≡ bit (outside maxCount (getD K i 0)) → Totalling n K (t + getD K i 0) (b + s) (i + 1)
+  totalling-step h l {s} e =
       let cons : drop i K ≡ getD K i 0 ∷ drop (suc i) K = drop-cons K i 0 (omega (arith, I .size)) in
-      let later : Bool = anyb (outside maxCount) (drop (suc i) K) in
       rw (add-one i) record {
         size = I .size;
         most = omega arith;
         few = omega (arith, I .few);
-        tested =
-            ap (λ (b : Bool). b || later) (w ∙ ap (λ (x : ℕ). bad || outside maxCount x) e)
-            ∙ or-assoc bad (outside maxCount (getD K i 0)) later
-            ∙ sym (ap (λ (l : List ℕ). bad || anyb (outside maxCount) l) cons)
-            ∙ I .tested;
+        fewer = omega (arith, strays-few e);
+        tested = omega (arith, I .tested, e, ap (countb (outside maxCount)) cons);
         added = omega (arith, I .added, ap sum cons);
       }
 
-  -- all counts
-  pub totalling-done : n ≤ i → (bad ≡ anyb (outside maxCount) K) × (t ≡ sum K)
-  totalling-done h =
-      let z : i ≡ length K = omega (arith, I .most, I .size) in
-      let none : drop i K ≡ [] = ap (λ (j : ℕ). drop j K) z ∙ drop-length K in (
-        sym (or-false bad) ∙ sym (ap (λ (l : List ℕ). bad || anyb (outside maxCount) l) none) ∙ I .tested,
-        omega (arith, I .added, ap sum none),
-      )
+  module _ (h : n ≤ i) where
+    none : drop i K ≡ []
+    none = let z : i ≡ length K = omega (arith, I .most, I .size) in ap (λ (j : ℕ). drop j K) z ∙ drop-length K
 
-  counted : n ≤ i → badCounts n K ≡ bad
-  unfolding badCounts
-  counted h = ap (λ (b : Bool). not b || anyb (outside maxCount) K) (eq-eqb (length K) n (I .size)) ∙ sym (totalling-done h .0)
+    all-tested : b ≡ countb (outside maxCount) K
+    all-tested = omega (arith, I .tested, ap (countb (outside maxCount)) none)
 
-  pub unknowns-bad : n ≤ i → bad ≡ true → 0 ≡ unknownsOf n K
-  unknowns-bad h b = refused n K (counted h ∙ b)
+    bad-as : {r : Bool} → anyb (outside maxCount) K ≡ r → badCounts n K ≡ r
+    unfolding badCounts
+    bad-as {r} a = ap (λ (m : Bool). not m || anyb (outside maxCount) K) (eq-eqb (length K) n (I .size)) ∙ a
 
-  pub unknowns-good : n ≤ i → bad ≡ false → t ≡ unknownsOf n K
-  unknowns-good h b = totalling-done h .1 ∙ sym (ap (λ (x : Bool). cond x 0 (sum K)) (counted h ∙ b))
+    -- some word is no count, or every one is
+    pub unknowns-bad : (b ≡ 0 → ⊥) → 0 ≡ unknownsOf n K
+    unknowns-bad some =
+        refused n K
+        (bad-as (by-test (anyb (outside maxCount) K) (λ (y : anyb (outside maxCount) K ≡ true). y)
+        (λ (f : anyb (outside maxCount) K ≡ false). absurd (some (all-tested ∙ none-count (outside maxCount) K f)))))
+
+    pub unknowns-good : b ≡ 0 → t ≡ unknownsOf n K
+    unknowns-good zero =
+        let good : badCounts n K ≡ false =
+        bad-as (by-test (anyb (outside maxCount) K)
+        (λ (y : anyb (outside maxCount) K ≡ true). absurd (omega (arith, zero, all-tested, any-count (outside maxCount) K y)))
+        (λ (f : anyb (outside maxCount) K ≡ false). f)) in
+        let all : t ≡ sum K = omega (arith, I .added, ap sum none) in
+        all ∙ sym (ap (λ (x : Bool). cond x 0 (sum K)) good)
 
 -- ---- what the answer tells
 

@@ -1,9 +1,9 @@
 // Functions that ask for room: their callers have tested the lengths.
 ghost use mathlib.Core.Path.{_≡_};
-ghost use mathlib.Core.Bool.{cond, _||_};
+ghost use mathlib.Core.Bool.{cond};
 ghost use Prim.Native.Nat.{_≤_};
 ghost use lib.ListN.{length};
-ghost use Rattle.basis.specs.Lists.{sum};
+ghost use Rattle.basis.specs.Lists.{bit, sum};
 ghost use Rattle.basis.specs.Moments.{was, left};
 ghost use Rattle.basis.specs.Stored.{stored, nought};
 ghost use Rattle.spec.specs.Graph.{outside};
@@ -37,21 +37,21 @@ pub fn erase(words: &mut [u16], base: usize, at: usize, count: usize)
     }
 }
 
-// Whether the counts before were bad, or c is: 0, or above 6.
-fn bad_with(before: bool, c: u16) -> bool
-    ensures { λ r. ⌜ r ≡ before || outside maxCount c ⌝ }
+// 1 for a word that is no count, 0 or above 6; else 0.
+fn stray(c: u16) -> u32
+    ensures { λ r. ⌜ r ≡ bit (outside maxCount c) ⌝ }
 {
     if c == 0 {
-        return true;
+        return 1;
     }
     if c > 6 {
-        return true;
+        return 1;
     }
-    before
+    0
 }
 
 // How many unknowns n nodes have: the sum of their counts; 0 where these are none (15), since a list has n words, each of 1 to 6. The loop
-// has no way out before its end, so that several counts are tested and added at a time.
+// has no way out before its end and strays are counted, so that the processor takes several words at a time.
 pub fn unknowns(counts: &[u16], n: usize) -> usize
     requires { ⌜ n ≤ 4096 ⌝ }
     ensures { λ r. ⌜ r ≡ cond (badCounts n (was counts)) 0 (sum (was counts)) ⌝ }
@@ -60,15 +60,15 @@ pub fn unknowns(counts: &[u16], n: usize) -> usize
         return 0;
     }
     let mut total: u32 = 0;
-    let mut bad = false;
+    let mut strays: u32 = 0;
     let mut p = 0;
     while p < n {
         let c = counts[p];
-        bad = bad_with(bad, c);
+        strays += stray(c);
         total += c as u32;
         p += 1;
     }
-    if bad {
+    if strays != 0 {
         return 0;
     }
     total as usize

@@ -1,17 +1,16 @@
 -- `graph_words::legal::unknowns` meets its contract: the counts passed are tested and added up. Assumes nothing.
-use mathlib.Core.Path.{refl}
 use Prim.Native.Nat.{_-_}
 use native.Mathlib.Omega.{arith}
 use borrow.Author.Needs.{needs}
-use Rattle.graph_words.proofs.Unknowns.{Totalling, unknowns-misfit, totalling-begin, totalling-step, unknowns-bad, unknowns-good}
+use Rattle.graph_words.proofs.Unknowns.{Totalling, unknowns-misfit, totalling-begin, strays-few, totalling-step, unknowns-bad, unknowns-good}
 use Rattle.graph_words.proofs.legal.unknowns.Statement.{statement}
 use Rattle.graph_words.proofs.legal.unknowns.Tie as tie
 
 abbrev Inv-loop : tie.InvT-loop
-Inv-loop counts n total₀ bad₀ p₀ total bad p = Totalling n counts total bad p
+Inv-loop counts n total₀ strays₀ p₀ total strays p = Totalling n counts total strays p
 
 abbrev μ-loop : tie.MeasureT-loop
-μ-loop counts n total₀ bad₀ p₀ total bad p = n - p
+μ-loop counts n total₀ strays₀ p₀ total strays p = n - p
 
 returns : tie.Need-returns Inv-loop μ-loop
 returns c = unknowns-misfit _ _ (c .if1 .taken)
@@ -25,8 +24,11 @@ mul-c c = omega (arith, c .loop-test .taken, c .before .loop .inv .size)
 shared-slice-read-c : tie.Need-shared-slice-read-c Inv-loop μ-loop
 shared-slice-read-c c = omega (arith, c .before .loop-test .taken, c .before .before .loop .inv .size)
 
-bad-with-requires : tie.Need-bad-with-requires Inv-loop μ-loop
-bad-with-requires c κs = search needs
+stray-requires : tie.Need-stray-requires Inv-loop μ-loop
+stray-requires c κs = search needs
+
+add-strays : tie.Need-add-strays Inv-loop μ-loop
+add-strays c = let I = c .before .before .before .loop .inv in omega (arith, strays-few I (c .stray .ensures), I .most)
 
 cast-total : tie.Need-cast-total Inv-loop μ-loop
 cast-total c = let r = c .before in omega (arith, r .shared-slice-known2 .given (r .before .before .loop .p))
@@ -46,7 +48,7 @@ loop-less c = omega arith
 loop-again : tie.Need-loop-again Inv-loop μ-loop
 loop-again c =
     let r = c .before in
-    totalling-step (r .before .before .loop .inv) (r .before .loop-test .taken) refl (omega (arith, r .shared-slice-known2 .given (r .before .before .loop .p))) (c .bad-with .ensures)
+    totalling-step (r .before .before .loop .inv) (r .before .loop-test .taken) (omega (arith, r .shared-slice-known2 .given (r .before .before .loop .p))) (c .stray .ensures)
 
 returns-2 : tie.Need-returns-2 Inv-loop μ-loop
 returns-2 c = unknowns-bad (c .before .before .loop .inv) (c .before .loop-test .left) (c .if2 .taken)
@@ -67,7 +69,8 @@ unknowns-spec =
     loop-holds
     mul-c
     shared-slice-read-c
-    bad-with-requires
+    stray-requires
+    add-strays
     cast-total
     add-total
     add-p
