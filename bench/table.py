@@ -136,6 +136,6 @@ def tables(meshes, store):
              'Each node has one unknown but where a name says otherwise; mixed: node p has 1 + p mod 6.\n', summary(meshes)]
     for call in CALLS:
         parts += ['### %s\n' % (call[0].upper() + call[1:]), call_table(meshes, call)]
-    parts += ['### The largest store\n', 'Of all meshes with their numbers as given; eliminated once.\n', store_table(store)]
+    parts += ['### The largest store\n', 'The largest there is: 4,096 nodes of six unknowns, one of which adjoins all others and has number 1; eliminated once.\n', store_table(store)]
     parts += peer_tables(meshes) + ['### Bandwidth, profile and front\n', figure_table(meshes)]
     return '\n'.join(parts)
