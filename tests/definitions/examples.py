@@ -18,7 +18,7 @@ sys.path[:0] = [os.path.join(TOP, 'tests', 'reference'), HERE]
 import calls
 import listing
 import program
-from antt import ELIMINATION_FIGURES, ENDS, FIGURES, PART_REPORT, bare, figures, outcome, words
+from antt import COMBINED_FIGURES, ELIMINATION_FIGURES, ENDS, FIGURES, PART_REPORT, bare, figures, outcome, words
 from graph import MOST_ENTRIES, from_edges
 from tables import kept
 from unknowns import ones
@@ -130,18 +130,19 @@ use Rattle.spec.specs.Lent.{Outcome, accepted}
 use Rattle.spec.specs.Unknowns.{ones}
 use Rattle.spec.specs.Mesh.{startList, neighbourList}
 use Rattle.spec.specs.File.{fileGraph, fileRefusal}
-use Rattle.spec.specs.CallsLevels.{adjacencyAnswer, rootedAnswer, rootedSizes, endsAnswer}
+use Rattle.spec.specs.CallsLevels.{CombinedFigures, adjacencyAnswer, rootedAnswer, rootedSizes, endsAnswer}
 use Rattle.spec.specs.CallsNumbering.{runAnswer, runPasses, measuresAnswer}
 use Rattle.spec.specs.CallsCuthill.{cuthillAnswer, cuthillNumbers, cuthillLevels, cuthillPasses}
 use Rattle.spec.specs.CallsStore.{EliminationFigures, eliminationAnswer}
 use Rattle.spec.proofs.Compute.{computes}
 use Rattle.spec.proofs.Called.{Lists, numberOf, numbersFor, levelsFor, passesFor, figuresFor}
-use Rattle.spec.proofs.Called.{endsFor, combinedFor, reportFor, eliminationFor, bytesFor}
+use Rattle.spec.proofs.Called.{endsFor, combinedFor, thicknessFor, reportFor, eliminationFor, bytesFor}
 
 -- what the calls say of a graph and of the part of node 1; the elimination is handed the run's numbers and four bytes
 record Found : Type 0 where
   ends : Outcome Ends
   combined : List ℕ
+  thickness : Outcome CombinedFigures
   report : Outcome PartReport
   levels : List ℕ
   numbers : List ℕ
@@ -154,6 +155,7 @@ found : Lists → Found
 found l = record {
   ends = endsFor l 1;
   combined = combinedFor l 1;
+  thickness = thicknessFor l 1;
   report = reportFor l 1;
   levels = levelsFor l;
   numbers = numbersFor l;
@@ -193,12 +195,12 @@ def found(n, edges):
     (starts, neighbours), counts = from_edges(n, edges), ones(n)
     combined, numbers, levels, passes, marks = buffer(n), buffer(n), buffer(n), buffer(n), buffer(4)
     ends = calls.ends(starts, neighbours, 1, buffer(calls.scratch_words(n)))
-    calls.combined_levels(starts, neighbours, 1, combined, buffer(calls.scratch_words(n)))
+    thickness = calls.combined_levels(starts, neighbours, 1, combined, buffer(calls.scratch_words(n)))
     report = calls.part_report(starts, neighbours, counts, 1, buffer(calls.scratch_words(n)))
     run = calls.whole_run(starts, neighbours, counts, numbers, levels, passes, buffer(calls.scratch_words(n)))
     elimination = calls.elimination(starts, neighbours, counts, numbers, buffer(n), marks)
     return [('ends', outcome(ends, figures(ENDS))), ('combined', words(combined)),
-            ('report', outcome(report, figures(PART_REPORT))), ('levels', words(levels)),
+            ('thickness', outcome(thickness, figures(COMBINED_FIGURES))), ('report', outcome(report, figures(PART_REPORT))), ('levels', words(levels)),
             ('numbers', words(numbers)), ('passes', words(passes)), ('figures', outcome(run, figures(FIGURES))),
             ('marks', outcome(elimination, figures(ELIMINATION_FIGURES))), ('bytes', words(marks))]
 

@@ -8,7 +8,7 @@ use Rattle.spec.specs.Ends.{Ends}
 use Rattle.spec.specs.Unknowns.{ones}
 use Rattle.spec.specs.Numbering.{PartReport, Figures}
 use Rattle.spec.specs.Lent.{Outcome, refused, accepted}
-use Rattle.spec.specs.CallsLevels.{LevelFigures, rootedAnswer, endsAnswer, combinedLevels}
+use Rattle.spec.specs.CallsLevels.{LevelFigures, CombinedFigures, rootedAnswer, endsAnswer, combinedAnswer, combinedLevels}
 use Rattle.spec.specs.CallsNumbering.{MeasureFigures, measuresAnswer, reportAnswer, runAnswer, runNumbers, runLevels, runPasses}
 use Rattle.spec.specs.CallsStore.{EliminationFigures, eliminationAnswer, eliminationBytes}
 
@@ -57,6 +57,10 @@ endsFor l z = endsAnswer (l .starts) (l .neighbours) z (words l 6)
 -- the combined levels of z's part, before any change of names
 abbrev pub combinedFor : Lists → ℕ → List ℕ
 combinedFor l z = combinedLevels (l .starts) (l .neighbours) z (words l 1) (words l 6)
+
+-- how many there are, and the greatest count of nodes in one
+abbrev pub thicknessFor : Lists → ℕ → Outcome CombinedFigures
+thicknessFor l z = combinedAnswer (l .starts) (l .neighbours) z (words l 1) (words l 6)
 
 -- the report of z's part
 abbrev pub reportFor : Lists → ℕ → Outcome PartReport

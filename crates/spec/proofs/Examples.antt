@@ -12,18 +12,19 @@ use Rattle.spec.specs.Lent.{Outcome, accepted}
 use Rattle.spec.specs.Unknowns.{ones}
 use Rattle.spec.specs.Mesh.{startList, neighbourList}
 use Rattle.spec.specs.File.{fileGraph, fileRefusal}
-use Rattle.spec.specs.CallsLevels.{adjacencyAnswer, rootedAnswer, rootedSizes, endsAnswer}
+use Rattle.spec.specs.CallsLevels.{CombinedFigures, adjacencyAnswer, rootedAnswer, rootedSizes, endsAnswer}
 use Rattle.spec.specs.CallsNumbering.{runAnswer, runPasses, measuresAnswer}
 use Rattle.spec.specs.CallsCuthill.{cuthillAnswer, cuthillNumbers, cuthillLevels, cuthillPasses}
 use Rattle.spec.specs.CallsStore.{EliminationFigures, eliminationAnswer}
 use Rattle.spec.proofs.Compute.{computes}
 use Rattle.spec.proofs.Called.{Lists, numberOf, numbersFor, levelsFor, passesFor, figuresFor}
-use Rattle.spec.proofs.Called.{endsFor, combinedFor, reportFor, eliminationFor, bytesFor}
+use Rattle.spec.proofs.Called.{endsFor, combinedFor, thicknessFor, reportFor, eliminationFor, bytesFor}
 
 -- what the calls say of a graph and of the part of node 1; the elimination is handed the run's numbers and four bytes
 record Found : Type 0 where
   ends : Outcome Ends
   combined : List ℕ
+  thickness : Outcome CombinedFigures
   report : Outcome PartReport
   levels : List ℕ
   numbers : List ℕ
@@ -36,6 +37,7 @@ found : Lists → Found
 found l = record {
   ends = endsFor l 1;
   combined = combinedFor l 1;
+  thickness = thicknessFor l 1;
   report = reportFor l 1;
   levels = levelsFor l;
   numbers = numbersFor l;
@@ -90,6 +92,7 @@ names-found : Found
 names-found = record {
   ends = accepted (record { v = 1; u = 7; k = 4; widthV = 3; widthU = 3; passes = 2 });
   combined = 1 ∷ 3 ∷ 3 ∷ 2 ∷ 2 ∷ 2 ∷ 4 ∷ [];
+  thickness = accepted (record { k = 4; width = 3 });
   report = accepted (record { v = 7; u = 1; k = 4; width = 3; passes = 2; direction = Forward });
   levels = 4 ∷ 2 ∷ 2 ∷ 3 ∷ 3 ∷ 3 ∷ 1 ∷ [];
   numbers = 7 ∷ 2 ∷ 3 ∷ 5 ∷ 4 ∷ 6 ∷ 1 ∷ [];
@@ -118,6 +121,7 @@ deeper-found : Found
 deeper-found = record {
   ends = accepted (record { v = 5; u = 8; k = 6; widthV = 2; widthU = 2; passes = 2 });
   combined = 4 ∷ 2 ∷ 5 ∷ 3 ∷ 1 ∷ 2 ∷ 5 ∷ 6 ∷ [];
+  thickness = accepted (record { k = 6; width = 2 });
   report = accepted (record { v = 8; u = 5; k = 6; width = 2; passes = 2; direction = Forward });
   levels = 3 ∷ 5 ∷ 2 ∷ 4 ∷ 6 ∷ 5 ∷ 2 ∷ 1 ∷ [];
   numbers = 4 ∷ 6 ∷ 3 ∷ 5 ∷ 8 ∷ 7 ∷ 2 ∷ 1 ∷ [];
@@ -146,6 +150,7 @@ passes-found : Found
 passes-found = record {
   ends = accepted (record { v = 6; u = 3; k = 6; widthV = 2; widthU = 2; passes = 3 });
   combined = 4 ∷ 4 ∷ 6 ∷ 5 ∷ 5 ∷ 1 ∷ 2 ∷ 2 ∷ 3 ∷ [];
+  thickness = accepted (record { k = 6; width = 2 });
   report = accepted (record { v = 6; u = 3; k = 6; width = 2; passes = 3; direction = Forward });
   levels = 4 ∷ 4 ∷ 6 ∷ 5 ∷ 5 ∷ 1 ∷ 2 ∷ 2 ∷ 3 ∷ [];
   numbers = 5 ∷ 6 ∷ 9 ∷ 7 ∷ 8 ∷ 1 ∷ 2 ∷ 3 ∷ 4 ∷ [];
@@ -174,6 +179,7 @@ inE-found : Found
 inE-found = record {
   ends = accepted (record { v = 7; u = 2; k = 5; widthV = 2; widthU = 2; passes = 2 });
   combined = 2 ∷ 5 ∷ 4 ∷ 5 ∷ 4 ∷ 3 ∷ 1 ∷ [];
+  thickness = accepted (record { k = 5; width = 2 });
   report = accepted (record { v = 7; u = 2; k = 5; width = 2; passes = 2; direction = Reversed });
   levels = 2 ∷ 5 ∷ 4 ∷ 5 ∷ 4 ∷ 3 ∷ 1 ∷ [];
   numbers = 6 ∷ 2 ∷ 3 ∷ 1 ∷ 4 ∷ 5 ∷ 7 ∷ [];
@@ -202,6 +208,7 @@ equal-found : Found
 equal-found = record {
   ends = accepted (record { v = 3; u = 4; k = 4; widthV = 3; widthU = 3; passes = 1 });
   combined = 3 ∷ 2 ∷ 1 ∷ 4 ∷ 4 ∷ 2 ∷ [];
+  thickness = accepted (record { k = 4; width = 2 });
   report = accepted (record { v = 3; u = 4; k = 4; width = 2; passes = 1; direction = Forward });
   levels = 3 ∷ 2 ∷ 1 ∷ 4 ∷ 4 ∷ 2 ∷ [];
   numbers = 4 ∷ 2 ∷ 1 ∷ 5 ∷ 6 ∷ 3 ∷ [];
@@ -230,6 +237,7 @@ larger-found : Found
 larger-found = record {
   ends = accepted (record { v = 3; u = 5; k = 3; widthV = 5; widthU = 3; passes = 1 });
   combined = 1 ∷ 2 ∷ 1 ∷ 0 ∷ 3 ∷ 2 ∷ 3 ∷ 2 ∷ [];
+  thickness = accepted (record { k = 3; width = 3 });
   report = accepted (record { v = 3; u = 5; k = 3; width = 3; passes = 1; direction = Forward });
   levels = 1 ∷ 2 ∷ 1 ∷ 1 ∷ 3 ∷ 2 ∷ 3 ∷ 2 ∷ [];
   numbers = 2 ∷ 3 ∷ 1 ∷ 8 ∷ 7 ∷ 4 ∷ 6 ∷ 5 ∷ [];
@@ -258,6 +266,7 @@ untouched-found : Found
 untouched-found = record {
   ends = accepted (record { v = 3; u = 4; k = 3; widthV = 5; widthU = 3; passes = 1 });
   combined = 2 ∷ 3 ∷ 1 ∷ 3 ∷ 1 ∷ 1 ∷ 2 ∷ [];
+  thickness = accepted (record { k = 3; width = 3 });
   report = accepted (record { v = 3; u = 4; k = 3; width = 3; passes = 1; direction = Forward });
   levels = 2 ∷ 3 ∷ 1 ∷ 3 ∷ 1 ∷ 1 ∷ 2 ∷ [];
   numbers = 4 ∷ 6 ∷ 1 ∷ 7 ∷ 3 ∷ 2 ∷ 5 ∷ [];
@@ -286,6 +295,7 @@ narrower-found : Found
 narrower-found = record {
   ends = accepted (record { v = 2; u = 1; k = 4; widthV = 3; widthU = 2; passes = 1 });
   combined = 4 ∷ 1 ∷ 3 ∷ 2 ∷ 2 ∷ 3 ∷ [];
+  thickness = accepted (record { k = 4; width = 2 });
   report = accepted (record { v = 2; u = 1; k = 4; width = 2; passes = 1; direction = Forward });
   levels = 4 ∷ 1 ∷ 3 ∷ 2 ∷ 2 ∷ 3 ∷ [];
   numbers = 6 ∷ 1 ∷ 4 ∷ 2 ∷ 3 ∷ 5 ∷ [];
@@ -314,6 +324,7 @@ degrees-found : Found
 degrees-found = record {
   ends = accepted (record { v = 1; u = 2; k = 3; widthV = 4; widthU = 3; passes = 1 });
   combined = 1 ∷ 3 ∷ 2 ∷ 1 ∷ 2 ∷ 3 ∷ [];
+  thickness = accepted (record { k = 3; width = 2 });
   report = accepted (record { v = 1; u = 2; k = 3; width = 2; passes = 1; direction = Forward });
   levels = 1 ∷ 3 ∷ 2 ∷ 1 ∷ 2 ∷ 3 ∷ [];
   numbers = 1 ∷ 6 ∷ 3 ∷ 2 ∷ 4 ∷ 5 ∷ [];
@@ -342,6 +353,7 @@ leftover-found : Found
 leftover-found = record {
   ends = accepted (record { v = 6; u = 2; k = 3; widthV = 4; widthU = 3; passes = 1 });
   combined = 2 ∷ 3 ∷ 2 ∷ 1 ∷ 1 ∷ 1 ∷ [];
+  thickness = accepted (record { k = 3; width = 3 });
   report = accepted (record { v = 6; u = 2; k = 3; width = 3; passes = 1; direction = Forward });
   levels = 2 ∷ 3 ∷ 2 ∷ 1 ∷ 1 ∷ 1 ∷ [];
   numbers = 4 ∷ 6 ∷ 5 ∷ 3 ∷ 2 ∷ 1 ∷ [];
@@ -370,6 +382,7 @@ lowest-found : Found
 lowest-found = record {
   ends = accepted (record { v = 2; u = 1; k = 4; widthV = 5; widthU = 4; passes = 1 });
   combined = 4 ∷ 1 ∷ 3 ∷ 2 ∷ 2 ∷ 3 ∷ 2 ∷ 2 ∷ 3 ∷ [];
+  thickness = accepted (record { k = 4; width = 4 });
   report = accepted (record { v = 2; u = 1; k = 4; width = 4; passes = 1; direction = Reversed });
   levels = 4 ∷ 1 ∷ 3 ∷ 2 ∷ 2 ∷ 3 ∷ 2 ∷ 2 ∷ 3 ∷ [];
   numbers = 1 ∷ 9 ∷ 4 ∷ 8 ∷ 6 ∷ 3 ∷ 7 ∷ 5 ∷ 2 ∷ [];
@@ -398,6 +411,7 @@ directions-found : Found
 directions-found = record {
   ends = accepted (record { v = 5; u = 6; k = 4; widthV = 3; widthU = 3; passes = 1 });
   combined = 3 ∷ 2 ∷ 3 ∷ 0 ∷ 1 ∷ 4 ∷ 3 ∷ [];
+  thickness = accepted (record { k = 4; width = 3 });
   report = accepted (record { v = 5; u = 6; k = 4; width = 3; passes = 1; direction = Reversed });
   levels = 3 ∷ 2 ∷ 3 ∷ 1 ∷ 1 ∷ 4 ∷ 3 ∷ [];
   numbers = 4 ∷ 5 ∷ 3 ∷ 7 ∷ 6 ∷ 1 ∷ 2 ∷ [];
@@ -426,6 +440,7 @@ profiles-found : Found
 profiles-found = record {
   ends = accepted (record { v = 1; u = 2; k = 2; widthV = 2; widthU = 2; passes = 1 });
   combined = 1 ∷ 2 ∷ 0 ∷ 2 ∷ [];
+  thickness = accepted (record { k = 2; width = 2 });
   report = accepted (record { v = 1; u = 2; k = 2; width = 2; passes = 1; direction = Forward });
   levels = 1 ∷ 2 ∷ 1 ∷ 2 ∷ [];
   numbers = 1 ∷ 2 ∷ 4 ∷ 3 ∷ [];
@@ -454,6 +469,7 @@ eachPart-found : Found
 eachPart-found = record {
   ends = accepted (record { v = 6; u = 14; k = 5; widthV = 2; widthU = 2; passes = 2 });
   combined = 4 ∷ 0 ∷ 0 ∷ 2 ∷ 0 ∷ 1 ∷ 0 ∷ 0 ∷ 4 ∷ 0 ∷ 0 ∷ 3 ∷ 0 ∷ 5 ∷ 0 ∷ 0 ∷ [];
+  thickness = accepted (record { k = 5; width = 2 });
   report = accepted (record { v = 6; u = 14; k = 5; width = 2; passes = 2; direction = Reversed });
   levels = 4 ∷ 4 ∷ 1 ∷ 2 ∷ 4 ∷ 1 ∷ 6 ∷ 5 ∷ 4 ∷ 5 ∷ 1 ∷ 3 ∷ 2 ∷ 5 ∷ 2 ∷ 3 ∷ [];
   numbers = 3 ∷ 11 ∷ 16 ∷ 5 ∷ 12 ∷ 6 ∷ 15 ∷ 13 ∷ 2 ∷ 14 ∷ 7 ∷ 4 ∷ 8 ∷ 1 ∷ 9 ∷ 10 ∷ [];
@@ -482,6 +498,7 @@ isolated-found : Found
 isolated-found = record {
   ends = accepted (record { v = 1; u = 1; k = 1; widthV = 1; widthU = 1; passes = 1 });
   combined = 1 ∷ 0 ∷ [];
+  thickness = accepted (record { k = 1; width = 1 });
   report = accepted (record { v = 1; u = 1; k = 1; width = 1; passes = 1; direction = Forward });
   levels = 1 ∷ 1 ∷ [];
   numbers = 1 ∷ 2 ∷ [];
