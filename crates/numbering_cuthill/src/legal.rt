@@ -144,8 +144,10 @@ pub fn cuthill_part(
     requires { ⌜ (length (now numbers) ≡ sizeNow starts) × (length (now levels) ≡ sizeNow starts) ⌝ }
     ensures { λ r. ⌜ r ≡ partFiguresOf (cuthillResult (graphWas starts neighbours) (was counts) (lowestIn (sizeWas starts) from (was scratch)) .report) ⌝ }
     ensures { λ _. ⌜ left scratch ≡ was scratch ⌝ }
-    ensures { λ _. ⌜ left numbers ≡ newNumbers (graphWas starts neighbours) (lowestIn (sizeWas starts) from (was scratch)) (cuthillResult (graphWas starts neighbours) (was counts) (lowestIn (sizeWas starts) from (was scratch))) from (was numbers) ⌝ }
-    ensures { λ _. ⌜ left levels ≡ newLevels (graphWas starts neighbours) (lowestIn (sizeWas starts) from (was scratch)) (cuthillResult (graphWas starts neighbours) (was counts) (lowestIn (sizeWas starts) from (was scratch))) (was levels) ⌝ }
+    ensures { λ _. ⌜ left numbers ≡ newNumbers (graphWas starts neighbours) (lowestIn (sizeWas starts) from (was scratch))
+        (cuthillResult (graphWas starts neighbours) (was counts) (lowestIn (sizeWas starts) from (was scratch))) from (was numbers) ⌝ }
+    ensures { λ _. ⌜ left levels ≡ newLevels (graphWas starts neighbours) (lowestIn (sizeWas starts) from (was scratch))
+        (cuthillResult (graphWas starts neighbours) (was counts) (lowestIn (sizeWas starts) from (was scratch))) (was levels) ⌝ }
 {
     let n = starts.len() - 1;
     let f = find_rooted(starts, neighbours, counts, scratch, from, to);

@@ -63,8 +63,10 @@ fn number_one(
     requires { ⌜ (length (now numbers) ≡ sizeNow starts) × (length (now levels) ≡ sizeNow starts) ⌝ }
     ensures { λ r. ⌜ r ≡ partFiguresOf (resultOf order (graphWas starts neighbours) (was counts) (lowestIn (sizeWas starts) from (was scratch)) .report) ⌝ }
     ensures { λ _. ⌜ left scratch ≡ was scratch ⌝ }
-    ensures { λ _. ⌜ left numbers ≡ newNumbers (graphWas starts neighbours) (lowestIn (sizeWas starts) from (was scratch)) (resultOf order (graphWas starts neighbours) (was counts) (lowestIn (sizeWas starts) from (was scratch))) from (was numbers) ⌝ }
-    ensures { λ _. ⌜ left levels ≡ newLevels (graphWas starts neighbours) (lowestIn (sizeWas starts) from (was scratch)) (resultOf order (graphWas starts neighbours) (was counts) (lowestIn (sizeWas starts) from (was scratch))) (was levels) ⌝ }
+    ensures { λ _. ⌜ left numbers ≡ newNumbers (graphWas starts neighbours) (lowestIn (sizeWas starts) from (was scratch))
+        (resultOf order (graphWas starts neighbours) (was counts) (lowestIn (sizeWas starts) from (was scratch))) from (was numbers) ⌝ }
+    ensures { λ _. ⌜ left levels ≡ newLevels (graphWas starts neighbours) (lowestIn (sizeWas starts) from (was scratch))
+        (resultOf order (graphWas starts neighbours) (was counts) (lowestIn (sizeWas starts) from (was scratch))) (was levels) ⌝ }
 {
     match order {
         Order::GibbsPooleStockmeyer => number_part(

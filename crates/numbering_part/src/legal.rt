@@ -134,8 +134,10 @@ pub fn number_part(
     requires { ⌜ (length (now numbers) ≡ sizeNow starts) × (length (now levels) ≡ sizeNow starts) ⌝ }
     ensures { λ r. ⌜ r ≡ partFiguresOf (partResult (graphWas starts neighbours) (was counts) (lowestIn (sizeWas starts) from (was scratch)) .report) ⌝ }
     ensures { λ _. ⌜ left scratch ≡ was scratch ⌝ }
-    ensures { λ _. ⌜ left numbers ≡ newNumbers (graphWas starts neighbours) (lowestIn (sizeWas starts) from (was scratch)) (partResult (graphWas starts neighbours) (was counts) (lowestIn (sizeWas starts) from (was scratch))) from (was numbers) ⌝ }
-    ensures { λ _. ⌜ left levels ≡ newLevels (graphWas starts neighbours) (lowestIn (sizeWas starts) from (was scratch)) (partResult (graphWas starts neighbours) (was counts) (lowestIn (sizeWas starts) from (was scratch))) (was levels) ⌝ }
+    ensures { λ _. ⌜ left numbers ≡ newNumbers (graphWas starts neighbours) (lowestIn (sizeWas starts) from (was scratch))
+        (partResult (graphWas starts neighbours) (was counts) (lowestIn (sizeWas starts) from (was scratch))) from (was numbers) ⌝ }
+    ensures { λ _. ⌜ left levels ≡ newLevels (graphWas starts neighbours) (lowestIn (sizeWas starts) from (was scratch))
+        (partResult (graphWas starts neighbours) (was counts) (lowestIn (sizeWas starts) from (was scratch))) (was levels) ⌝ }
 {
     let n = starts.len() - 1;
     let f = find_part(starts, neighbours, counts, scratch, from, to);
