@@ -20,3 +20,5 @@ pub mod CallsMesh
 pub mod Claim
 pub mod ClaimCuthill
 pub mod NoIdle
+pub mod StoreMap
+pub mod CallsMap
