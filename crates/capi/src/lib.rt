@@ -3,6 +3,7 @@
 // required of the numbers and the lists.
 mod calls_cuthill;
 mod calls_levels;
+mod calls_map;
 mod calls_mesh;
 mod calls_numbering;
 mod calls_store;

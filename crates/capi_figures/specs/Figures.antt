@@ -12,6 +12,7 @@ use Rattle.spec.specs.Numbering.{Direction, Forward, Reversed, PartReport, Figu
 use Rattle.spec.specs.CallsLevels.{LevelFigures, CombinedFigures}
 use Rattle.spec.specs.CallsNumbering.{MeasureFigures}
 use Rattle.spec.specs.CallsStore.{EliminationFigures}
+use Rattle.spec.specs.CallsMap.{MapFigures}
 
 -- ---- the rule of every call
 
@@ -73,6 +74,10 @@ runList f = f .nodes ∷ f .parts ∷ f .bandwidth ∷ f .profile ∷ f .front �
 -- "elimination its two counts"
 abbrev pub eliminationList : EliminationFigures → List ℕ
 eliminationList f = f .marked ∷ f .new ∷ []
+
+-- the places of the store, and its rows
+abbrev pub mapList : MapFigures → List ℕ
+mapList f = f .profile ∷ f .unknowns ∷ []
 
 -- "the mesh call the entry count"
 abbrev pub meshList : ℕ → List ℕ

@@ -10,7 +10,8 @@ ghost use Rattle.mesh.specs.Answer.{meaning as meshMeaning};
 ghost use Rattle.numbering.specs.Answer.{meaning as runMeaning};
 ghost use Rattle.numbering_report.specs.Answers.{directionMeaning, answerMeaning};
 ghost use Rattle.store_elimination.specs.Answer.{meaning as eliminationMeaning};
-ghost use Rattle.capi_figures.specs.Figures.{number, written, rootedList, endsList, combinedList, measuresList, directionNumber, reportList, runList, eliminationList, meshList};
+ghost use Rattle.store_map.specs.Answer.{meaning as mapMeaning};
+ghost use Rattle.capi_figures.specs.Figures.{number, written, rootedList, endsList, combinedList, measuresList, directionNumber, reportList, runList, eliminationList, mapList, meshList};
 use crate::list::count;
 use crate::list::put;
 use crate::list::word;
@@ -23,6 +24,7 @@ use numbering_measures::MeasuresAnswer;
 use numbering_report::answer::Direction;
 use numbering_report::answer::ReportAnswer;
 use store_elimination::Elimination;
+use store_map::StoreMap;
 
 // Rooted levels: depth, width, count reached.
 pub fn put_rooted(answer: RootedAnswer, list: &mut [u64]) -> u16
@@ -163,6 +165,18 @@ pub fn put_elimination(answer: Elimination, list: &mut [u64]) -> u16
     match answer {
         Elimination::Refused(c) => c,
         Elimination::Accepted(m) => put(&[count(m.marked), count(m.new)], list),
+    }
+}
+
+// The store map: the profile, the number of unknowns.
+pub fn put_map(answer: StoreMap, list: &mut [u64]) -> u16
+    requires { ⌜ 2 ≤ length (now list) ⌝ }
+    ensures { λ r. ⌜ r ≡ number (mapMeaning answer) ⌝ }
+    ensures { λ _. ⌜ left list ≡ written mapList (mapMeaning answer) (was list) ⌝ }
+{
+    match answer {
+        StoreMap::Refused(c) => c,
+        StoreMap::Accepted(m) => put(&[count(m.profile), count(m.unknowns)], list),
     }
 }
 

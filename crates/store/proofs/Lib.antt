@@ -1,3 +1,4 @@
 pub mod TwoCalls
+pub mod MapCall
 pub mod NoIdle
 pub mod Runs

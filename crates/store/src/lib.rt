@@ -1,4 +1,4 @@
-// The elimination, and a numbering call with the elimination after it, whose contract has demand 3: both are handed the same counts.
+// The elimination, the store map, and a numbering call with the elimination after it, whose contract has demand 3: both are handed the same counts.
 ghost use mathlib.Core.Path.{_≡_};
 ghost use Rattle.basis.specs.Moments.{was, left};
 ghost use Rattle.spec.specs.CallsCuthill.{cuthillNumbers, cuthillLevels, cuthillPasses, cuthillScratch, cuthillEliminateAnswer, cuthillEliminateBytes};
@@ -21,6 +21,9 @@ use numbering_whole::shape::RunFigures;
 pub use store_elimination::Counts;
 pub use store_elimination::Elimination;
 pub use store_elimination::eliminate;
+pub use store_map::MapFigures;
+pub use store_map::StoreMap;
+pub use store_map::store_map;
 
 // The elimination by a numbering call's numbers, beside its figures.
 fn eliminate_after(

@@ -135,11 +135,19 @@ rows-requires c κs =
     let e = fits (found t) in
     let M = numbered t in (
       legal (told (e .before)),
-      (fit e,
-      (M .numbering,
-      (numbered-front M,
-      (length-take-le _ _ (first-room e) ∙ total e,
-      length-take-le _ _ (place-room e) ∙ ap (λ (k : ℕ). k + 1) (total e))))),
+      (
+        fit e,
+        (
+          M .numbering,
+          (
+            numbered-front M,
+            (
+              length-take-le _ _ (first-room e) ∙ total e,
+              length-take-le _ _ (place-room e) ∙ ap (λ (k : ℕ). k + 1) (total e),
+            ),
+          ),
+        ),
+      ),
     )
 
 -- the call that fills the lists
