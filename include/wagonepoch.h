@@ -3,8 +3,8 @@
    `rt staticlib capi` writes target/staticlib/libcapi.a, for x86-64. It needs no library but C's, allocates nothing, keeps nothing between calls
    and writes only to what is lent, so calls on different buffers may run at the same time.
 
-   LISTS. A list is a pointer and its length in its elements: uint16_t words, uint64_t figures, uint8_t bytes. Nodes are numbered from 1. n, the
-   number of nodes, is the length of `starts` less 1, but for wagonepoch_mesh, which is given n.
+   LISTS. A list is a pointer and its length in its elements: uint16_t words, uint32_t row starts, uint64_t figures, uint8_t bytes. Nodes are
+   numbered from 1. n, the number of nodes, is the length of `starts` less 1, but for wagonepoch_mesh, which is given n.
 
    WHAT A CALLER OWES. Each pointer is aligned and not null, also that of an empty list, and has as many elements as its length says; and no
    list that is lent, here without `const`, overlaps another list of the same call. Nothing else is asked: whatever numbers the lists hold, a
@@ -16,11 +16,13 @@
    UNKNOWNS. A node has one to six unknowns, a hinge node three and a shell node six, and the store is laid out in unknowns. `counts` has exactly
    n words: how many unknowns each node has, by node. A caller with one unknown a node hands n ones, and gets what these calls gave before
    version 1.6.0. The unknowns take consecutive numbers in the order of the new numbers of their nodes. Any two of one node adjoin, and any two of
-   two nodes that adjoin. There are at most 24,576. The five calls that number, measure, eliminate or report a part take the counts.
+   two nodes that adjoin. There are at most 24,576. The six calls that number, measure, map the store, eliminate or report a part
+   take the counts.
      in unknowns   bandwidth, profile and front; the width of wagonepoch_run, wagonepoch_reverse_cuthill_mckee and wagonepoch_part_report; the
-                   places of the store, marks and joined pairs, and so the length of the mark bytes
+                   rows and places of the store, marks and joined pairs, and so the length of the mark bytes
      in nodes      new numbers, parts, levels and passes; sizes and widths of wagonepoch_rooted_levels, wagonepoch_ends and
-                   wagonepoch_combined_levels; n, and so the length of every other list
+                   wagonepoch_combined_levels; n, and so the length of every other list: also that of the two lists of
+                   wagonepoch_store_map, which are as long as six unknowns a node would need
 
    ANSWERS. 0, or the number of the first test that refuses. Tests run in this order, 15 between 5 and 6:
 
@@ -45,8 +47,8 @@
    which are 0 after 7, 8 and 11. Lent lists need not be cleared.
 
    ONE CALL AFTER ANOTHER. wagonepoch_mesh makes the two lists, wagonepoch_run or wagonepoch_reverse_cuthill_mckee the numbers of their nodes,
-   wagonepoch_eliminate the marks of the store by both. That these go together holds as long as the last two are handed the same counts, and nobody
-   writes the two lists or the numbers between the calls. */
+   wagonepoch_store_map the places of the store by both, and wagonepoch_eliminate its marks. That these go together holds as long as all but the
+   first are handed the same counts, and nobody writes the two lists or the numbers between the calls. */
 
 #ifndef WAGONEPOCH_H
 #define WAGONEPOCH_H
@@ -59,8 +61,8 @@ extern "C" {
 #endif
 
 /* The version, that of the file VERSION, as a text and as 10000 a + 100 b + c for a.b.c; CHANGES.md says what each of the three numbers means. */
-#define WAGONEPOCH_VERSION "1.6.0"
-#define WAGONEPOCH_VERSION_NUMBER 10600
+#define WAGONEPOCH_VERSION "1.7.0"
+#define WAGONEPOCH_VERSION_NUMBER 10700
 
 /* The most nodes, neighbour entries and unknowns of a node. */
 #define WAGONEPOCH_NODES 4096
@@ -76,6 +78,7 @@ extern "C" {
 #define WAGONEPOCH_RUN_FIGURES 7
 #define WAGONEPOCH_REVERSE_CUTHILL_MCKEE_FIGURES 7
 #define WAGONEPOCH_ELIMINATE_FIGURES 2
+#define WAGONEPOCH_STORE_MAP_FIGURES 2
 #define WAGONEPOCH_MESH_FIGURES 1
 
 /* The direction of a part report. */
@@ -152,7 +155,7 @@ uint16_t wagonepoch_part_report(const uint16_t *starts, size_t starts_len,
    level; bandwidth, profile and front are in unknowns too, and the bandwidth is at most 2w - 1. A part has at least 1 pass and at most as many as
    it has levels.
    The n numbers, without the excess of a longer list, are a numbering for wagonepoch_measures, which with the same counts finds the same
-   bandwidth, profile and front, and for wagonepoch_eliminate, whose mark bytes the profile gives.
+   bandwidth, profile and front, for wagonepoch_store_map, and for wagonepoch_eliminate, whose mark bytes the profile gives.
    Refusals: 1 to 5, 15. */
 uint16_t wagonepoch_run(const uint16_t *starts, size_t starts_len,
                         const uint16_t *neighbours, size_t neighbours_len,
@@ -171,7 +174,7 @@ uint16_t wagonepoch_run(const uint16_t *starts, size_t starts_len,
    Figures: as of wagonepoch_run: nodes, parts, bandwidth, profile, front, levels, width, of these numbers and of these levels, in the same units.
    In a part with two or more nodes the bandwidth is at least the greatest count w of unknowns in one of its levels, and at most 2w - 1. The
    counts touch the figures alone, not the numbers.
-   The n numbers are a numbering for wagonepoch_measures and wagonepoch_eliminate, as those of the run are.
+   The n numbers are a numbering for wagonepoch_measures, wagonepoch_store_map and wagonepoch_eliminate, as those of the run are.
    Refusals: 1 to 5, 15. */
 uint16_t wagonepoch_reverse_cuthill_mckee(const uint16_t *starts, size_t starts_len,
                                           const uint16_t *neighbours, size_t neighbours_len,
@@ -202,6 +205,27 @@ uint16_t wagonepoch_eliminate(const uint16_t *starts, size_t starts_len,
                               const uint16_t *numbering, size_t numbering_len,
                               uint16_t *scratch, size_t scratch_len,
                               uint8_t *bytes, size_t bytes_len,
+                              uint64_t *figures, size_t figures_len);
+
+/* The store map under a numbering of the nodes, as for the measures: of each row of the store its first column and where it starts, so that no
+   caller has to add them up. A row is an unknown: row q is unknown q, with f_q and s_q as for wagonepoch_eliminate, and there are as many as the
+   counts add up to. The unknowns of a node are the rows after those of all nodes with lower numbers, as many as its count says.
+   Lent: scratch n, first 6n (word q - 1 is f_q), place 6n + 1 (entry q - 1 is s_q, and the entry after the last row the profile), figures 2.
+   The lists are so long whatever the counts; only one word a row, and one entry more, are written, and the others stay as they were.
+   Figures: profile, rows (the number of unknowns).
+   The place of the pair p < q, counted from 0, where it has one:
+     if (p < q && p >= first[q - 1])
+         t = place[q - 1] + (p - first[q - 1]);
+   With the same two lists, counts and numbering wagonepoch_eliminate leaves the mark of that pair at place t, bit t % 8 of byte t / 8. place[rows]
+   is the length of the store, and row q has place[q] - place[q - 1] places.
+   Refusals: 1 to 5, 15, and 7, which leaves the first n scratch words 0. */
+uint16_t wagonepoch_store_map(const uint16_t *starts, size_t starts_len,
+                              const uint16_t *neighbours, size_t neighbours_len,
+                              const uint16_t *counts, size_t counts_len,
+                              const uint16_t *numbering, size_t numbering_len,
+                              uint16_t *scratch, size_t scratch_len,
+                              uint16_t *first, size_t first_len,
+                              uint32_t *place, size_t place_len,
                               uint64_t *figures, size_t figures_len);
 
 /* The graph of a mesh of n nodes. `elements` has a record for each element, its kind and then its nodes, to the end of the list:
