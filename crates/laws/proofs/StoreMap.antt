@@ -13,7 +13,7 @@ use Rattle.basis.proofs.Index.{getD-map-upFrom}
 use Rattle.basis.proofs.Lists.{length-upFrom}
 use Rattle.basis.proofs.Logic.{and-split}
 use Rattle.basis.proofs.Next.{map-next}
-use Rattle.spec.specs.CallsMap.{MapFigures, mapFigures, mapRefusal, mapAnswer, mapFirst, mapPlace}
+use Rattle.spec.specs.CallsMap.{MapFigures, mapFigures, storeMapRefusal, storeMapAnswer, storeMapFirst, storeMapPlace}
 use Rattle.spec.specs.CallsStore.{EliminationFigures, eliminationFigures, eliminationRefusal, eliminationAnswer, eliminationBytes}
 use Rattle.spec.specs.Graph.{Graph, nodes, adjoins, ofNode, graphOf}
 use Rattle.spec.specs.Lent.{accepted}
@@ -98,21 +98,21 @@ module _ (h : Graph) where
 
 -- ---- beside demand 3: of what the map's call leaves, and of the elimination with the same lists, counts and numbering
 
-module _ (S N K X C F P : List ℕ) (m : MapFigures) (ok : mapAnswer S N K X C F P ≡ accepted m) where
+module _ (S N K X C F P : List ℕ) (m : MapFigures) (ok : storeMapAnswer S N K X C F P ≡ accepted m) where
   abbrev big : Graph
   big = renumberedUnknowns (graphOf S N) K X
 
-  answered : (mapRefusal S N K X C F P ≡ 0) × (mapFigures big ≡ m)
-  unfolding mapAnswer
-  answered = outcome-accepted (mapRefusal S N K X C F P) (mapFigures big) m ok
+  answered : (storeMapRefusal S N K X C F P ≡ 0) × (mapFigures big ≡ m)
+  unfolding storeMapAnswer
+  answered = outcome-accepted (storeMapRefusal S N K X C F P) (mapFigures big) m ok
 
-  first-left : mapFirst S N K X C F P ≡ firstColumns big ++ drop (length (firstColumns big)) F
-  unfolding mapFirst
-  first-left = filled-none (mapRefusal S N K X C F P) (firstColumns big) F (answered .0)
+  first-left : storeMapFirst S N K X C F P ≡ firstColumns big ++ drop (length (firstColumns big)) F
+  unfolding storeMapFirst
+  first-left = filled-none (storeMapRefusal S N K X C F P) (firstColumns big) F (answered .0)
 
-  place-left : mapPlace S N K X C F P ≡ rowStarts big ++ drop (length (rowStarts big)) P
-  unfolding mapPlace
-  place-left = filled-none (mapRefusal S N K X C F P) (rowStarts big) P (answered .0)
+  place-left : storeMapPlace S N K X C F P ≡ rowStarts big ++ drop (length (rowStarts big)) P
+  unfolding storeMapPlace
+  place-left = filled-none (storeMapRefusal S N K X C F P) (rowStarts big) P (answered .0)
 
   -- the bytes that an elimination leaves
   bytes-left : (W B : List ℕ) (e : EliminationFigures) → eliminationAnswer S N K X W B ≡ accepted e
@@ -120,7 +120,7 @@ module _ (S N K X C F P : List ℕ) (m : MapFigures) (ok : mapAnswer S N K X C F
   unfolding eliminationAnswer eliminationBytes
   bytes-left W B e a = filled-none (eliminationRefusal S N K X W B) (markBytes big) B (outcome-accepted (eliminationRefusal S N K X W B) (eliminationFigures big) e a .0)
 
-  pub map-claim : MapClaim S N K X (mapFirst S N K X C F P) (mapPlace S N K X C F P) (m .unknowns) (m .profile)
+  pub map-claim : MapClaim S N K X (storeMapFirst S N K X C F P) (storeMapPlace S N K X C F P) (m .unknowns) (m .profile)
   unfolding mapFigures
   map-claim =
       let A : List ℕ = drop (length (firstColumns big)) F in

@@ -14,3 +14,4 @@ pub mod IdleTable
 pub mod WrongIdle
 pub mod UnknownTable
 pub mod WrongUnknowns
+pub mod MapTable

@@ -24,8 +24,8 @@ mapFigures h = record { profile = profile h; unknowns = h .size }
 
 module _ (starts neighbours counts numbering scratch first place : List ℕ) where
   -- 1 to 4, then 5 for any of the three lists, then 15, then 7
-  unfoldable pub mapRefusal : ℕ
-  mapRefusal =
+  unfoldable pub storeMapRefusal : ℕ
+  storeMapRefusal =
       graphRefusal starts neighbours
       orElse refuse
       (short scratch (sizeOf starts)
@@ -36,17 +36,17 @@ module _ (starts neighbours counts numbering scratch first place : List ℕ) whe
       orElse refuse (not (isNumbering (sizeOf starts) numbering)) 7
 
   -- what the call answers
-  unfoldable pub mapAnswer : Outcome MapFigures
-  mapAnswer = outcome mapRefusal (mapFigures (renumberedUnknowns (graphOf starts neighbours) counts numbering))
+  unfoldable pub storeMapAnswer : Outcome MapFigures
+  storeMapAnswer = outcome storeMapRefusal (mapFigures (renumberedUnknowns (graphOf starts neighbours) counts numbering))
 
   -- the scratch afterwards: accepted, and by 7, "the n scratch words 0"
-  unfoldable pub mapScratch : List ℕ
-  mapScratch = scratchAfter (eqb mapRefusal 0 || eqb mapRefusal 7) (sizeOf starts) scratch
+  unfoldable pub storeMapScratch : List ℕ
+  storeMapScratch = scratchAfter (eqb storeMapRefusal 0 || eqb storeMapRefusal 7) (sizeOf starts) scratch
 
   -- the first columns afterwards: as many as unknowns, and the words after them untouched
-  unfoldable pub mapFirst : List ℕ
-  mapFirst = filled mapRefusal (firstColumns (renumberedUnknowns (graphOf starts neighbours) counts numbering)) first
+  unfoldable pub storeMapFirst : List ℕ
+  storeMapFirst = filled storeMapRefusal (firstColumns (renumberedUnknowns (graphOf starts neighbours) counts numbering)) first
 
   -- the row starts afterwards: one more
-  unfoldable pub mapPlace : List ℕ
-  mapPlace = filled mapRefusal (rowStarts (renumberedUnknowns (graphOf starts neighbours) counts numbering)) place
+  unfoldable pub storeMapPlace : List ℕ
+  storeMapPlace = filled storeMapRefusal (rowStarts (renumberedUnknowns (graphOf starts neighbours) counts numbering)) place

@@ -9,7 +9,7 @@ use lib.ListN.{length, drop}
 use borrow.Author.Tests.{lt-ltb, le-ltb, ne-eqb, ltb-false}
 use Rattle.basis.specs.Lists.{sum}
 use Rattle.basis.proofs.Logic.{or-none}
-use Rattle.spec.specs.CallsMap.{MapFigures, mapFigures, mapRefusal, mapAnswer, mapScratch, mapFirst, mapPlace}
+use Rattle.spec.specs.CallsMap.{MapFigures, mapFigures, storeMapRefusal, storeMapAnswer, storeMapScratch, storeMapFirst, storeMapPlace}
 use Rattle.spec.specs.Graph.{Graph, graphOf, sizeOf}
 use Rattle.spec.specs.Lent.{Outcome, accepted, refused, outcome, zeroed, scratchAfter, short}
 use Rattle.spec.specs.Measures.{isNumbering, profile}
@@ -25,29 +25,29 @@ use Rattle.graph.proofs.Ways.{Refuses, Accepts, answer-stays, buffer-stays, ans
 
 -- the answer and the three lists after the call
 pub record Answered (S N K x C F P : List ℕ) (a : Outcome MapFigures) (C′ F′ P′ : List ℕ) : Type 0 where
-  pub answer : a ≡ mapAnswer S N K x C F P
-  pub scratch : C′ ≡ mapScratch S N K x C F P
-  pub first : F′ ≡ mapFirst S N K x C F P
-  pub place : P′ ≡ mapPlace S N K x C F P
+  pub answer : a ≡ storeMapAnswer S N K x C F P
+  pub scratch : C′ ≡ storeMapScratch S N K x C F P
+  pub first : F′ ≡ storeMapFirst S N K x C F P
+  pub place : P′ ≡ storeMapPlace S N K x C F P
 
 module _ (S N K x C F P : List ℕ) where
   abbrev h : Graph
   h = renumberedUnknowns (graphOf S N) K x
 
   abbrev code : ℕ
-  code = mapRefusal S N K x C F P
+  code = storeMapRefusal S N K x C F P
 
   -- 5 for any of the three
   abbrev pub anyShort : Bool
   anyShort = short C (sizeOf S) || short F (maxCount * sizeOf S) || short P (suc (maxCount * sizeOf S))
 
-  zeroed-scratch : (c : ℕ) → eqb c 0 || eqb c 7 ≡ true → code ≡ c → zeroed (sizeOf S) C ≡ mapScratch S N K x C F P
-  unfolding mapScratch scratchAfter
+  zeroed-scratch : (c : ℕ) → eqb c 0 || eqb c 7 ≡ true → code ≡ c → zeroed (sizeOf S) C ≡ storeMapScratch S N K x C F P
+  unfolding storeMapScratch scratchAfter
   zeroed-scratch c t e = rw (e, t)
 
   -- 1 to 5 and 15: all is untouched
   untouched : {c : ℕ} → (c ≡ 7 → ⊥) → Refuses code c → Answered S N K x C F P (refused c) C F P
-  unfolding mapAnswer mapScratch mapFirst mapPlace scratchAfter
+  unfolding storeMapAnswer storeMapScratch storeMapFirst storeMapPlace scratchAfter
   untouched {c} no-7 R = record {
     answer = answer-stays R _;
     scratch = rw (R .is, ne-eqb c 0 (omega (arith, R .some)), ne-eqb c 7 no-7);
@@ -61,14 +61,14 @@ module _ (S N K x C F P : List ℕ) where
 
   -- 1 to 4
   pub answered-lists : {c : ℕ} → RefusedLists S N c → Answered S N K x C F P (refused c) C F P
-  unfolding mapRefusal
+  unfolding storeMapRefusal
   answered-lists {c} R =
       untouched (λ (e : c ≡ 7). omega (arith, R .refusal, graph-refusal-most S N))
       (record { is = refused-first R (later anyShort (badCounts (sizeOf S) K) (isNumbering (sizeOf S) x)); some = R .some })
 
   module _ (L : LegalLists S N) where
     refusal : {s b n : Bool} → anyShort ≡ s → badCounts (sizeOf S) K ≡ b → isNumbering (sizeOf S) x ≡ n → code ≡ later s b n
-    unfolding mapRefusal
+    unfolding storeMapRefusal
     refusal p k q = legal-next L (later anyShort (badCounts (sizeOf S) K) (isNumbering (sizeOf S) x)) ∙ rw (p, k, q)
 
     -- 5
@@ -103,7 +103,7 @@ module _ (S N K x C F P : List ℕ) where
 
         -- 7: the n scratch words 0
         pub answered-7 : isNumbering (sizeOf S) x ≡ false → Answered S N K x C F P (refused 7) (zeroed (sizeOf S) C) F P
-        unfolding mapAnswer mapFirst mapPlace
+        unfolding storeMapAnswer storeMapFirst storeMapPlace
         answered-7 f =
             let R : Refuses code 7 = record { is = refusal room fit f; some = omega arith } in
             record { answer = answer-stays R _; scratch = zeroed-scratch 7 refl (R .is); first = buffer-stays R _; place = buffer-stays R _ }
@@ -112,7 +112,7 @@ module _ (S N K x C F P : List ℕ) where
         pub answered-0 : isNumbering (sizeOf S) x ≡ true → {r u : ℕ} {f p : List ℕ} → r ≡ profile h → u ≡ sum K
             → f ≡ firstColumns h → p ≡ rowStarts h
             → Answered S N K x C F P (accepted (record { profile = r; unknowns = u })) (zeroed (sizeOf S) C) (f ++ drop u F) (p ++ drop (u + 1) P)
-        unfolding mapAnswer mapFirst mapPlace mapFigures
+        unfolding storeMapAnswer storeMapFirst storeMapPlace mapFigures
         answered-0 t {r} {u} er eu ef ep =
             let A : Accepts code = record { is = refusal room fit t } in
             let many : h .size ≡ u = renumbered-unknowns-size (graphOf S N) K x (counts-size (sizeOf S) K fit) t ∙ sym eu in

@@ -4,7 +4,7 @@ ghost use mathlib.Core.Bool.{_||_};
 ghost use Prim.Native.Nat.{suc, _*_, _≤_};
 ghost use lib.Dec.{ltb};
 ghost use Rattle.basis.specs.Moments.{was, left};
-ghost use Rattle.spec.specs.CallsMap.{mapAnswer, mapScratch, mapFirst, mapPlace};
+ghost use Rattle.spec.specs.CallsMap.{storeMapAnswer, storeMapScratch, storeMapFirst, storeMapPlace};
 ghost use Rattle.store_map.specs.Answer.{meaning};
 
 mod answer;
@@ -37,10 +37,10 @@ pub fn store_map(
     first: &mut [u16],
     place: &mut [u32],
 ) -> StoreMap
-    ensures { λ r. ⌜ meaning r ≡ mapAnswer (was starts) (was neighbours) (was counts) (was numbering) (was scratch) (was first) (was place) ⌝ }
-    ensures { λ _. ⌜ left scratch ≡ mapScratch (was starts) (was neighbours) (was counts) (was numbering) (was scratch) (was first) (was place) ⌝ }
-    ensures { λ _. ⌜ left first ≡ mapFirst (was starts) (was neighbours) (was counts) (was numbering) (was scratch) (was first) (was place) ⌝ }
-    ensures { λ _. ⌜ left place ≡ mapPlace (was starts) (was neighbours) (was counts) (was numbering) (was scratch) (was first) (was place) ⌝ }
+    ensures { λ r. ⌜ meaning r ≡ storeMapAnswer (was starts) (was neighbours) (was counts) (was numbering) (was scratch) (was first) (was place) ⌝ }
+    ensures { λ _. ⌜ left scratch ≡ storeMapScratch (was starts) (was neighbours) (was counts) (was numbering) (was scratch) (was first) (was place) ⌝ }
+    ensures { λ _. ⌜ left first ≡ storeMapFirst (was starts) (was neighbours) (was counts) (was numbering) (was scratch) (was first) (was place) ⌝ }
+    ensures { λ _. ⌜ left place ≡ storeMapPlace (was starts) (was neighbours) (was counts) (was numbering) (was scratch) (was first) (was place) ⌝ }
 {
     let tested = graph::test_adjacency(starts, neighbours);
     if let Adjacency::Refused(c) = tested {
