@@ -19,7 +19,7 @@ from measures import adjoining, bandwidth, front, fronts, is_numbering, number_o
 from mesh import mesh_rows, read_elements, too_many_entries
 from numbering import number_part
 from numbering import whole_run as run_of_graph
-from unknowns import count_of_nodes, ones, wrong_counts
+from unknowns import MOST, count_of_nodes, ones, wrong_counts
 
 
 # Answers and buffers.
@@ -223,6 +223,27 @@ def elimination(starts, neighbours, counts, numbering, scratch, mark_bytes):
     marked, marks, new = store.elimination(adjoins)
     put(mark_bytes, marked)
     return accepted(marks, new)
+
+
+def store_map(starts, neighbours, counts, numbering, scratch, first, place):
+    """(profile, number of unknowns); first has f and place has s of each row, an unknown, and behind the last s the profile."""
+    number = adjacency_refusal(starts, neighbours)
+    if number:
+        return refused(number)
+    n = len(starts) - 1
+    # The lists have room for six unknowns of every node, whatever the counts are.
+    if is_short((scratch, n), (first, MOST * n), (place, MOST * n + 1)):
+        return refused(5)
+    if wrong_counts(n, counts):
+        return refused(15)
+    # The n scratch words are 0 for refusal 7 as well as when accepted.
+    zero(scratch, n)
+    if not is_numbering(n, numbering):
+        return refused(7)
+    firsts, begins = store.store_map(adjoining_of(starts, neighbours, counts, numbering))
+    put(first, firsts)
+    put(place, begins)
+    return accepted(begins[-1], len(firsts))
 
 
 def and_eliminate(call, starts, neighbours, counts, numbers, levels, passes, scratch, mark_bytes):

@@ -1,4 +1,4 @@
-"""Places, joined pairs after each elimination, marks, mark bytes and counts.
+"""Places, the store map, joined pairs after each elimination, marks, mark bytes and counts.
 
 Written from the section 'Store and elimination' of document 01. A pair is
 (p, q) with p < q, both new numbers. A.6: "store and elimination are then measured
@@ -20,6 +20,17 @@ def places(adjoins):
             place_of[(p, q)] = s + p - f
         s += q - f
     return place_of
+
+
+def store_map(adjoins):
+    """f_q and s_q of each row, and behind the last s the count of places."""
+    # "f_q is the least of q and its neighbours." "s_q is the sum of r - f_r over r < q."
+    numbers = range(1, len(adjoins) + 1)
+    firsts = [first(adjoins, q) for q in numbers]
+    begins = [0]
+    for q in numbers:
+        begins.append(begins[-1] + q - firsts[q - 1])
+    return firsts, begins
 
 
 def edges_joined(adjoins):
