@@ -3,6 +3,7 @@
 mod input;
 mod lent;
 mod output;
+mod places;
 
 pub use input::NONE;
 pub use input::number;
@@ -15,3 +16,5 @@ pub use output::end_line;
 pub use output::refused;
 pub use output::show;
 pub use output::show_bytes;
+pub use places::lend_places;
+pub use places::show_places;

@@ -5,7 +5,7 @@ ghost use Rattle.io.specs.Counts.{Counts};
 use crate::lent::pattern;
 use libc::STDOUT_FILENO;
 
-fn write_number(x: u64) {
+pub(crate) fn write_number(x: u64) {
     io::write_all(STDOUT_FILENO, b" ");
     io::print_decimal(STDOUT_FILENO, x);
 }
@@ -52,11 +52,18 @@ fn changed(words: &[u16]) -> usize
 }
 
 // One step of a checksum, modulo the greatest prime below 2^32.
-fn step(sum: u64, x: u16) -> u64
+pub(crate) fn wide_step(sum: u64, x: u32) -> u64
     requires { ⌜ sum < 4294967291 ⌝ }
     ensures { λ r. ⌜ r < 4294967291 ⌝ }
 {
     (31 * sum + x as u64) % 4294967291
+}
+
+fn step(sum: u64, x: u16) -> u64
+    requires { ⌜ sum < 4294967291 ⌝ }
+    ensures { λ r. ⌜ r < 4294967291 ⌝ }
+{
+    wide_step(sum, x as u32)
 }
 
 // Numbers that tell long lists apart.
@@ -97,7 +104,7 @@ fn write_bytes(bytes: &[u8]) {
 }
 
 // The count of what follows, and whether it follows one by one.
-fn write_count(count: usize) -> bool {
+pub(crate) fn write_count(count: usize) -> bool {
     io::write_all(STDOUT_FILENO, b";");
     write_number(count as u64);
     if 120 < count {
