@@ -22,10 +22,10 @@ from examples import GRAPHS
 from graph import degree, from_edges, lists_of, part_of, parts_of, pieces_of, rows_of, small_graphs
 from measures import profile
 from unknowns import MOST, ones, wrong_counts
-from vectors import answer_text, byte_pattern, changed, number, of_words, pattern, shown
+from vectors import PLACE_PATTERN, answer_text, byte_pattern, changed, number, of_words, pattern, place_pattern, shown
 
 # Given lists, a given node (n for the mesh), lengths of what is lent, 0 where nothing is said. `kind` says what the case is for.
-Case = namedtuple('Case', 'kind call starts neighbours counts given node first second third fourth bytes', defaults=(0,) * 5)
+Case = namedtuple('Case', 'kind call starts neighbours counts given node first second third fourth bytes places', defaults=(0,) * 6)
 
 # A call: its number in the program, the reference's call, and which of a case's fields it is given and lent, in its order.
 Call = namedtuple('Call', 'number reference given lent')
@@ -43,6 +43,7 @@ CALLS = {
     'part report': Call(10, calls.part_report, 'starts neighbours counts node', 'first'),
     'reverse Cuthill-McKee': Call(11, calls.reverse_cuthill_mckee, 'starts neighbours counts', 'first second third fourth'),
     'reverse Cuthill-McKee and eliminate': Call(12, calls.cuthill_and_eliminate, 'starts neighbours counts', 'first second third fourth bytes'),
+    'store map': Call(13, calls.store_map, 'starts neighbours counts given', 'first second places'),
 }
 
 # The calls with the run's buffers.
@@ -61,20 +62,26 @@ MOST_BYTES = 40000
 
 def encoded(c):
     """The case as the program reads it."""
-    assert max(len(c.starts), len(c.neighbours), len(c.counts), c.first, c.second, c.third, c.fourth) <= MOST_WORDS
+    assert max(len(c.starts), len(c.neighbours), len(c.counts), c.first, c.second, c.third, c.fourth, c.places) <= MOST_WORDS
     assert len(c.given) <= MOST_GIVEN and c.bytes <= MOST_BYTES
     lists = b''.join(number(len(words)) + of_words(words) for words in (c.starts, c.neighbours, c.counts, c.given))
     lengths = b''.join(number(size) for size in (c.node, c.first, c.second, c.third, c.fourth, c.bytes))
-    return number(CALLS[c.call].number) + lists + lengths
+    return number(CALLS[c.call].number) + lists + lengths + (number(c.places) if has_places(c) else b'')
+
+
+def has_places(c):
+    """Whether the call is lent a list of 32 bits: the case then has its length too, and the line its entries behind the answer."""
+    return 'places' in CALLS[c.call].lent
 
 
 def expected(c):
     """The line that the program must write."""
     call, words = CALLS[c.call], ('first', 'second', 'third', 'fourth')
     lent = {name: pattern(getattr(c, name)) for name in words}
-    lent['bytes'] = byte_pattern(c.bytes)
+    lent['bytes'], lent['places'] = byte_pattern(c.bytes), place_pattern(c.places)
     answer = call.reference(*fields(c, call.given), *[lent[name] for name in call.lent.split()])
-    return answer_text(answer) + ''.join(shown(changed(lent[name])) for name in words) + shown(lent['bytes'])
+    places = shown(changed(lent['places'], PLACE_PATTERN)) if has_places(c) else ''
+    return answer_text(answer) + places + ''.join(shown(changed(lent[name])) for name in words) + shown(lent['bytes'])
 
 
 # Graphs.
@@ -168,11 +175,23 @@ def byte_count(graph, numbering):
     return store.byte_count(profile(calls.adjoining_of(*graph, numbering)))
 
 
+def map_lengths(n):
+    """What the store map asks for: scratch, first columns and places."""
+    return [n, MOST * n, MOST * n + 1]
+
+
+def store_map(kind, graph, numbering, lengths):
+    """The store map with these lengths."""
+    scratch, first, places = lengths
+    return Case(kind, 'store map', *graph, numbering, 0, scratch, first, 3, places=places)
+
+
 def numbered(draw, kind, graph, numbering):
     """The calls that are given a numbering."""
     n = len(graph[0]) - 1
     yield Case(kind, 'measures', *now_and_then(draw, graph), numbering, 0, lent(draw, n), 3)
     yield Case(kind, 'elimination', *now_and_then(draw, graph), numbering, 0, lent(draw, n), 3, bytes=lent(draw, byte_count(graph, numbering)))
+    yield store_map(kind, now_and_then(draw, graph), numbering, [lent(draw, size) for size in map_lengths(n)])
 
 
 def run_lengths(graph):
@@ -234,6 +253,7 @@ def on_illegal(draw, graph):
     made += list(at_node(draw, 'illegal adjacency', graph, draw.below(n + 2)))
     made += [Case('illegal adjacency', call, *now_and_then(draw, graph), list(range(1, n + 1)), 0, lent(draw, n), 3, bytes=lent(draw, n))
              for call in ('measures', 'elimination')]
+    made.append(store_map('illegal adjacency', now_and_then(draw, graph), list(range(1, n + 1)), [lent(draw, size) for size in map_lengths(n)]))
     made += [Case('illegal adjacency', call, *now_and_then(draw, graph), [], 0, *[lent(draw, size) for size in run_lengths(graph)], lent(draw, n))
              for call in RUNS]
     return [made[0], draw.one(made[1:])]
@@ -359,7 +379,7 @@ def large(draw, count):
         graph = counted(draw, random_graph(draw, n))
         yield from at_node(draw, 'large graph', graph, 1 + draw.below(n))
         for case in numbered(draw, 'large graph', graph if n > 200 else (*graph[:2], ones(n)), draw.some(range(1, n + 1), n)):
-            if case.call == 'measures' or n <= 200:
+            if case.call != 'elimination' or n <= 200:
                 yield case
 
 
@@ -379,6 +399,7 @@ def of_full_size(draw):
         yield from (case for case in whole(draw, kind, graph) if case.bytes <= MOST_BYTES)
         yield from at_node(draw, kind, graph, 1 + draw.below(n))
         yield Case(kind, 'measures', *counted(draw, lists), list(range(1, n + 1)), 0, n)
+        yield store_map(kind, counted(draw, lists), list(range(1, n + 1)), map_lengths(n))
 
 
 # Path 1-3-5, star about 2, node 8, triangle 9-11-12, pair 10-13, path from 14 to 17 and node 18.
@@ -557,6 +578,7 @@ def limits(draw):
         yield Case(kind, 'part report', *graph, [], 1, scratch_words(n))
         yield Case(kind, 'measures', *graph, given, 0, n)
         yield Case(kind, 'elimination', *graph, given, 0, n, bytes=byte_count(graph, given))
+        yield store_map(kind, graph, given, map_lengths(n))
         for call in RUNS:
             yield Case(kind, call, *graph, [], 0, n, n, n, scratch_words(n))
     six = [MOST] * 4096

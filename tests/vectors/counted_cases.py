@@ -3,7 +3,7 @@
 import calls
 import shapes
 from calls import scratch_words
-from cases import RUNS, SEVERAL, Case, byte_count, random_graph, run_byte_count, run_lengths, wrong_numbering
+from cases import RUNS, SEVERAL, Case, byte_count, map_lengths, random_graph, run_byte_count, run_lengths, store_map, wrong_numbering
 from count_lists import all_wrong_counts
 from graph import from_edges
 from unknowns import MOST, ones
@@ -18,6 +18,7 @@ def takes_counts(graph, node, numbering, less=0):
     yield Case(kind, 'part report', *graph, [], node, scratch)
     yield Case(kind, 'measures', *graph, numbering, 0, words)
     yield Case(kind, 'elimination', *graph, numbering, 0, words, bytes=need)
+    yield store_map(kind, graph, numbering, [size - less for size in map_lengths(n)])
     for call in RUNS + ['reverse Cuthill-McKee and eliminate']:
         yield Case(kind, call, *graph, [], 0, words, words, words, scratch, need)
 
@@ -31,7 +32,7 @@ def wrong_lists(draw):
             graph = (*lists, counts)
             yield from takes_counts(graph, 1, same)
             yield draw.one(list(takes_counts(graph, 1, same, 1)))
-            yield from list(takes_counts(graph, draw.one([0, n + 1, 65535]), wrong_numbering(draw, same)))[:3]
+            yield from list(takes_counts(graph, draw.one([0, n + 1, 65535]), wrong_numbering(draw, same)))[:4]
 
 
 def as_many_each(draw):

@@ -11,6 +11,7 @@ MOST_SHOWN = 120
 MODULUS = 4294967291
 PATTERN = [60000 + i % 5000 for i in range(40000)]
 BYTE_PATTERN = [100 + i % 100 for i in range(40000)]
+PLACE_PATTERN = [4000000000 + i % 5000 for i in range(40000)]
 
 
 # Lent buffers.
@@ -24,12 +25,17 @@ def byte_pattern(count):
     return BYTE_PATTERN[:count]
 
 
-def changed(buffer):
-    """Words up to the last one that isn't as it was lent."""
+def place_pattern(count):
+    """Entries of 32 bits; no store has so many places."""
+    return PLACE_PATTERN[:count]
+
+
+def changed(buffer, was=PATTERN):
+    """Words, or entries, up to the last one that isn't as it was lent."""
     size, step = len(buffer), 1024
-    while size >= step and buffer[size - step:size] == PATTERN[size - step:size]:
+    while size >= step and buffer[size - step:size] == was[size - step:size]:
         size -= step
-    while size > 0 and buffer[size - 1] == PATTERN[size - 1]:
+    while size > 0 and buffer[size - 1] == was[size - 1]:
         size -= 1
     return buffer[:size]
 

@@ -14,6 +14,7 @@ use numbering_whole::shape::RunFigures;
 use store::Counts;
 use store::Elimination;
 use store::RunElimination;
+use store_map::StoreMap;
 use test_vectors::accepted;
 use test_vectors::refused;
 
@@ -174,6 +175,36 @@ pub(crate) fn eliminate(
         Elimination::Refused(number) => refused(number),
         Elimination::Accepted(c) => elimination_counts(c),
     }
+}
+
+fn mapped(
+    starts: &[u16],
+    neighbours: &[u16],
+    counts: &[u16],
+    numbering: &[u16],
+    scratch: &mut [u16],
+    first: &mut [u16],
+    place: &mut [u32],
+) {
+    match store_map::store_map(starts, neighbours, counts, numbering, scratch, first, place) {
+        StoreMap::Refused(number) => refused(number),
+        StoreMap::Accepted(f) => accepted(&[f.profile as u64, f.unknowns as u64]),
+    }
+}
+
+// The store map. No other call is lent a list of 32 bits: its length comes behind those of the other lists, and its entries behind the answer.
+pub(crate) fn store_map(
+    starts: &[u16],
+    neighbours: &[u16],
+    counts: &[u16],
+    numbering: &[u16],
+    scratch: &mut [u16],
+    first: &mut [u16],
+) {
+    let mut place = [0u32; 33000];
+    let count = test_vectors::lend_places(&mut place);
+    mapped(starts, neighbours, counts, numbering, scratch, first, &mut place[..count]);
+    test_vectors::show_places(&place[..count]);
 }
 
 // What a numbering call with the elimination after it answers: its figures are followed by the elimination's answer.

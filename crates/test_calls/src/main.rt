@@ -2,7 +2,7 @@
 // and the expected lines come from an independent program: tests/vectors/entry_points.py.
 //
 // A case: the call's number; four given lists (starts, neighbours, counts of unknowns, and a numbering or elements); a given node, or n; the
-// lengths of four lent lists and of the lent bytes. A call leaves alone what it doesn't need.
+// lengths of four lent lists and of the lent bytes, and for the store map that of its places. A call leaves alone what it doesn't need.
 mod calls;
 
 // One call.
@@ -28,6 +28,7 @@ fn run(
         6 => calls::mesh(node, given, first, second, third),
         7 => calls::combined(starts, neighbours, node, first, second),
         10 => calls::part_report(starts, neighbours, counts, node, first),
+        13 => calls::store_map(starts, neighbours, counts, given, first, second),
         _ => calls::number(
             call,
             starts,
