@@ -203,7 +203,15 @@ pub(crate) fn store_map(
 ) {
     let mut place = [0u32; 33000];
     let count = test_vectors::lend_places(&mut place);
-    mapped(starts, neighbours, counts, numbering, scratch, first, &mut place[..count]);
+    mapped(
+        starts,
+        neighbours,
+        counts,
+        numbering,
+        scratch,
+        first,
+        &mut place[..count],
+    );
     test_vectors::show_places(&place[..count]);
 }
 
