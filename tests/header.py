@@ -10,7 +10,7 @@ import re
 import sys
 
 TOP = os.path.dirname(os.path.dirname(os.path.abspath(__file__)))
-C = {'u8': 'uint8_t', 'u16': 'uint16_t', 'u64': 'uint64_t', 'usize': 'size_t'}
+C = {'u8': 'uint8_t', 'u16': 'uint16_t', 'u32': 'uint32_t', 'u64': 'uint64_t', 'usize': 'size_t'}
 
 
 def text_of(path):

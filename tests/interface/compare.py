@@ -6,8 +6,8 @@
   compare.py --replay FILE                           one case again that was saved
 
 Of each case the answer, every list given or lent, the figures among them, and eight elements behind each list are compared word by word, after
-each call where the run or reverse Cuthill-McKee, and then the elimination by its numbers, are called. Under the latter's numbers turned back the
-marks counted must also be as many as the profile; with c unknowns of every node bandwidth and front must also be c(b + 1) - 1 and c times those of
+each call where the run or reverse Cuthill-McKee, and then the elimination or the store map by its numbers, are called. The map's profile must also
+be the run's. Under reverse Cuthill-McKee's numbers turned back the marks counted must also be as many as the profile; with c unknowns of every node bandwidth and front must also be c(b + 1) - 1 and c times those of
 one each. A case that differs, or that ends the process, is saved in target/failed. All expected values come from tests/reference.
 """
 

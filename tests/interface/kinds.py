@@ -3,6 +3,7 @@
 import cases
 import counted_cases
 import idle_cases
+import mapped_cases
 import paper
 import shapes
 from calls import reverse_cuthill_mckee, scratch_words, whole_run
@@ -10,7 +11,7 @@ from cases import CALLS, Case, fields
 from count_lists import counted, counts_of
 from graph import from_edges, small_graphs
 from library import FIGURES
-from trials import ALIKE, FILLS, FUNCTIONS, ONES, PAIRS, STAR, TURNED_BACK, ZEROS, Trial
+from trials import ALIKE, FILLS, FUNCTIONS, MAPPED, ONES, PAIRS, STAR, TURNED_BACK, ZEROS, Trial
 from unknowns import MOST, ones
 
 
@@ -52,6 +53,7 @@ def every_call(kind, graph, node, numbering, n):
     yield Case(kind, 'measures', *graph, numbering, 0, n)
     need = cases.byte_count(graph, numbering) if len(lists[0]) == n + 1 else 2
     yield Case(kind, 'elimination', *graph, numbering, 0, n, bytes=need)
+    yield cases.store_map(kind, graph, numbering, cases.map_lengths(n))
     yield Case(kind, 'run and eliminate', *graph, [], 0, n, n, n, scratch_words(n), 40000)
 
 
@@ -104,6 +106,16 @@ def pairs(draw, count):
         sizes = [cases.enough(draw, size) for size in cases.run_lengths(graph)]
         need = cases.run_byte_count(graph, draw.one([whole_run, reverse_cuthill_mckee]))
         yield Case('random graph', 'run and eliminate', *cases.now_and_then(draw, graph), [], 0, *sizes, cases.lent(draw, need))
+
+
+def mapped(draw, count):
+    """Random graphs of up to 40 nodes: the run, then the store map by its numbers, with one scratch or two; its lists short, exact and long."""
+    for _ in range(count):
+        n = 1 + draw.below(40)
+        graph = counted(draw, cases.random_graph(draw, n))
+        sizes = [cases.enough(draw, size) for size in cases.run_lengths(graph)]
+        scratch, *lists = [cases.lent(draw, size) for size in cases.map_lengths(n)]
+        yield trial(draw, 'random graph', MAPPED, list(cases.now_and_then(draw, graph)), sizes + [None if draw.chance(0.5) else scratch] + lists)
 
 
 def to_turn_back(draw, count):
@@ -181,17 +193,20 @@ def at_random(draw, count):
     yield from cases.pass_counts(draw, count // 5)
     yield from cases.cuthill_orders(draw, count // 5)
     yield from counted_cases.turned_by_counts(draw, count // 5)
+    yield from mapped_cases.at_random(draw, count // 2)
 
 
 def some(draw, count):
     """What is run in some minutes."""
     for made in (cases.small(draw, 1, 5), cases.of_table(draw), of_paper(draw, 20), at_random(draw, count), cases.limits(draw), wide(),
                  cases.of_many_parts(draw), cases.collapsed_meshes(), cases.full_meshes(), cases.long_meshes(), cases.scratch_sizes(draw),
-                 cases.level_sizes(draw), counted_cases.wrong_lists(draw), counted_cases.as_many_each(draw), full_size(draw)):
+                 cases.level_sizes(draw), counted_cases.wrong_lists(draw), counted_cases.as_many_each(draw), mapped_cases.maps(draw, count // 5),
+                 full_size(draw)):
         for c in made:
             yield from of_case(draw, c)
     yield from among_ones(draw, 12)
     yield from stars()
+    yield from mapped(draw, count // 2)
     yield from turned_back(draw, count // 2)
     yield from alike(draw, count // 50)
 
@@ -202,5 +217,6 @@ def more(draw, count):
         for c in made:
             yield from of_case(draw, c)
     yield from among_ones(draw, 12)
+    yield from mapped(draw, count // 2)
     yield from turned_back(draw, count // 2)
     yield from alike(draw, count // 50)

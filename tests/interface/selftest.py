@@ -1,6 +1,6 @@
 #!/usr/bin/env python3
 """That the comparison can fail: a library that alters one word is reported, and its case is saved and found again; so is one that faults, an idle
-place where none may be, and a bandwidth or front that is not that of as many unknowns each.
+place where none may be, a map of another store than the run's, and a bandwidth or front that is not that of as many unknowns each.
 
 Altered in turn are the answer and, of every list of a call, the first word, the last and the last element behind it.
 """
@@ -13,11 +13,11 @@ import sys
 import tempfile
 
 import compare
-from cases import CALLS, Case, fields
+from cases import CALLS, Case, fields, map_lengths
 from graph import from_edges
 from kinds import every_call
 from library import BEHIND, FIGURES, Library, Span
-from trials import ALIKE, FUNCTIONS, PAIRS, TURNED_BACK, Trial, difference, got
+from trials import ALIKE, FUNCTIONS, MAPPED, PAIRS, TURNED_BACK, Trial, difference, got
 
 
 class Altered:
@@ -59,6 +59,7 @@ def trials():
     for c in on_graph + [Case('self-test', 'mesh', [], [], [], [1, 1, 2], 3, 4, 32768, 3)]:
         given, lent = fields(c, CALLS[c.call].given), [size + 1 for size in fields(c, CALLS[c.call].lent)]
         chained = [(chain, lent[:4] + [other] + lent[4:]) for chain in (*PAIRS, TURNED_BACK) for other in (None, 4)]
+        chained += [(MAPPED, lent[:4] + [other] + [size + 1 for size in map_lengths(3)[1:]]) for other in (None, 4)]
         for call, lengths in chained if c.call == 'run and eliminate' else [(c.call, lent)]:
             yield Trial(c.kind, call, given, lengths, [FIGURES[function] + 1 for function in FUNCTIONS[call] if FIGURES[function]], 0)
 
@@ -101,6 +102,13 @@ def idle_seen(library):
     return not difference(trial, was, was) and ' must mark all ' in difference(trial, idle, idle)
 
 
+def map_seen(library):
+    """Whether a map with another profile than the run's is reported, even if the independent program had the same."""
+    trial = next(trial for trial in trials() if trial.call == MAPPED)
+    was, other = got(library, trial), got(Altered(library, 'store_map', -1, 0), trial)
+    return not difference(trial, was, was) and ' by the run' in difference(trial, other, other)
+
+
 def alike_seen(library):
     """Whether a front of measures that is not that of as many unknowns each is reported, even if the independent program had the same."""
     trial = Trial(ALIKE, 'measures', [*from_edges(3, [(1, 2), (2, 3)]), [2, 2, 2], [1, 2, 3]], [3], [3], 0)
@@ -122,6 +130,9 @@ def main():
     if not idle_seen(library):
         missed += 1
         print('an idle place is not seen')
+    if not map_seen(library):
+        missed += 1
+        print('a map of another store is not seen')
     if not alike_seen(library):
         missed += 1
         print('a wrong front of as many unknowns each is not seen')

@@ -1,7 +1,8 @@
 """A trial of the C interface: what a call is given and lent, and what the independent program says that it must answer and leave.
 
 A trial has one call, or the whole run or reverse Cuthill-McKee and then the elimination on the n numbers that it left, in the memory that it left
-them in; or reverse Cuthill-McKee, and on its numbers, which the trial turns back in that memory, the measures and the elimination.
+them in; or reverse Cuthill-McKee, and on its numbers, which the trial turns back in that memory, the measures and the elimination; or the whole run
+and then the store map on its numbers.
 """
 
 import json
@@ -25,6 +26,9 @@ PAIRS = ('run, then eliminate', 'reverse Cuthill-McKee, then eliminate')
 LENT_TO_PAIR = ('numbers', 'levels', 'passes', 'scratch', 'other scratch', 'bytes')
 # A.12: lent as to a pair; the measures have the elimination's scratch.
 TURNED_BACK = 'reverse Cuthill-McKee turned back, then measures and eliminate'
+# The store of a run, for a caller who fills it: lent as to a pair, with the map's two lists in place of the bytes.
+MAPPED = 'run, then store map'
+LENT_TO_MAPPED = LENT_TO_PAIR[:-1] + ('first', 'place')
 FIGURE_LISTS = ('figures', 'other figures', 'third figures')
 
 # The functions that a trial calls, one after the other.
@@ -32,7 +36,7 @@ FUNCTIONS = {
     'adjacency test': ('test_adjacency',), 'rooted levels': ('rooted_levels',), 'ends': ('ends',), 'combined levels': ('combined_levels',),
     'measures': ('measures',), 'part report': ('part_report',), 'whole run': ('run',), 'reverse Cuthill-McKee': ('reverse_cuthill_mckee',),
     'elimination': ('eliminate',), PAIRS[0]: ('run', 'eliminate'), PAIRS[1]: ('reverse_cuthill_mckee', 'eliminate'), 'mesh': ('mesh',),
-    TURNED_BACK: ('reverse_cuthill_mckee', 'measures', 'eliminate'),
+    TURNED_BACK: ('reverse_cuthill_mckee', 'measures', 'eliminate'), 'store map': ('store_map',), MAPPED: ('run', 'store_map'),
 }
 # Eliminations of a star whose centre has number 1, one unknown each and enough of everything lent: by sums, where the reference would take hours.
 STAR = 'star, centre first'
@@ -43,7 +47,7 @@ REFERENCE = {functions[0]: CASE_CALLS[call].reference for call, functions in FUN
 # What a lent list holds before the call, by place, below the modulus of its elements: falling from the top, zeros, ones, small numbers.
 FILLS = (lambda i: -1 - i % 5000, lambda i: 0, lambda i: -1, lambda i: 1 + i % 7)
 ZEROS, ONES = 1, 2
-MODULUS = {'B': 256, 'H': 65536, 'Q': 2 ** 64}
+MODULUS = {'B': 256, 'H': 65536, 'I': 2 ** 32, 'Q': 2 ** 64}
 patterns = {}
 
 
@@ -67,7 +71,7 @@ def filled(fill, code, count):
 def before(trial):
     """Numbers and lists by name, as they are before the first call."""
     if len(FUNCTIONS[trial.call]) > 1:
-        names = GIVEN_TO_PAIR + LENT_TO_PAIR + FIGURE_LISTS
+        names = GIVEN_TO_PAIR + (LENT_TO_MAPPED if trial.call == MAPPED else LENT_TO_PAIR) + FIGURE_LISTS
     else:
         names = [parameter.name for parameter in PARAMETERS[FUNCTIONS[trial.call][0]]]
     lengths = [length or 0 for length in list(trial.lent) + list(trial.figures)]
@@ -92,7 +96,7 @@ def steps(trial, values):
         return [(first, whole(values, *values))]
     n = max(0, len(values['starts']) - 1)
     scratch = 'scratch' if trial.lent[LENT_TO_PAIR.index('other scratch')] is None else 'other scratch'
-    lent = {'measures': [scratch], 'eliminate': [scratch, 'bytes']}
+    lent = {'measures': [scratch], 'eliminate': [scratch, 'bytes'], 'store_map': [scratch, 'first', 'place']}
     return [(first, whole(values, *GIVEN_TO_PAIR, 'numbers', 'levels', 'passes', 'scratch', 'figures'))] + [
         (function, whole(values, *GIVEN_TO_PAIR) + [('numbers', n)] + whole(values, *lent[function], figures))
         for function, figures in zip(others, FIGURE_LISTS[1:])]
@@ -193,6 +197,16 @@ def idle_place(trial, was):
     return '' if marks == profile else 'eliminate marked %d places, must mark all %d' % (marks, profile)
 
 
+def other_store(trial, was):
+    """By the library's figures alone: the map of the run's numbers has the run's profile, and as many rows as there are unknowns. What is wrong,
+    or ''."""
+    if trial.call != MAPPED or [answer for answer, _ in was] != [0, 0]:
+        return ''
+    lists = dict(zip(in_memory(before(trial)), was[-1][1]))
+    store, due = tuple(lists['other figures'][:2]), (lists['figures'][3], sum(trial.given[2]))
+    return '' if store == due else 'store_map has %d places and %d rows, must have %d and %d by the run' % (*store, *due)
+
+
 def measured(trial, figures):
     """Bandwidth and front, where the figures are those of measures or of a numbering call."""
     return (figures[0], figures[2]) if trial.call == 'measures' else (figures[2], figures[4])
@@ -212,7 +226,8 @@ def not_alike(trial, was):
 
 
 def difference(trial, was, must):
-    """What differs first, or ''; where nothing does, whether a place is idle that may not be, or figures are not those of as many unknowns each."""
+    """What differs first, or ''; where nothing does, whether a place is idle that may not be, a map is of another store than the run's, or figures
+    are not those of as many unknowns each."""
     names = list(in_memory(before(trial)))
     for function, one, other in zip(FUNCTIONS[trial.call], was, must):
         if one[0] != other[0]:
@@ -221,7 +236,7 @@ def difference(trial, was, must):
             if words != due:
                 i = next(i for i in range(len(words)) if words[i] != due[i])
                 return 'after %s %s[%d] is %d, must be %d' % (function, name, i, words[i], due[i])
-    return idle_place(trial, was) or not_alike(trial, was)
+    return idle_place(trial, was) or other_store(trial, was) or not_alike(trial, was)
 
 
 def to_text(trial, text):
