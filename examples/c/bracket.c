@@ -14,8 +14,9 @@ static uint16_t numbers[NODES], levels[NODES], passes[NODES], rooted[NODES], siz
    `unknowns` of them. */
 static size_t begin[NODES], unknowns;
 
-/* The store: row q has the places from[q] on, for the unknowns first[q] to q - 1. */
-static size_t first[MOST_UNKNOWNS + 1], from[MOST_UNKNOWNS + 2];
+/* The store map: row q has the places place[q - 1] on, for the unknowns first[q - 1] to q - 1. Behind the last row comes the count of places. */
+static uint16_t first[MOST_UNKNOWNS];
+static uint32_t place[MOST_UNKNOWNS + 1];
 
 static void stop_if(unsigned refusal, const char *call)
 {
@@ -39,31 +40,21 @@ static void number_unknowns(void)
     unknowns = next - 1;
 }
 
-/* f_q, the least of q and the unknowns that it adjoins, and s_q, where row q starts. All unknowns of a node adjoin one another, and those of its
-   neighbours: so they have the same f. */
+/* f_q, the least of q and the unknowns that it adjoins, and s_q, where row q starts. */
 static void map_store(void)
 {
-    size_t p, q, i, least;
-    for (p = 0; p < g.n; p++) {
-        least = begin[p];
-        for (i = g.starts[p]; i < g.starts[p + 1]; i++)
-            if (begin[g.neighbours[i] - 1] < least)
-                least = begin[g.neighbours[i] - 1];
-        for (i = 0; i < g.counts[p]; i++)
-            first[begin[p] + i] = least;
-    }
-    from[1] = 0;
-    for (q = 1; q <= unknowns; q++)
-        from[q + 1] = from[q] + q - first[q];
+    uint64_t f[WAGONEPOCH_STORE_MAP_FIGURES];
+    stop_if(wagonepoch_store_map(g.starts, g.n + 1, g.neighbours, g.entries, g.counts, g.n, numbers, g.n, scratch, g.n, first, 6 * g.n,
+                                 place, 6 * g.n + 1, f, WAGONEPOCH_STORE_MAP_FIGURES), "store map");
 }
 
 /* The mark of the pair p < q. */
 static int marked(const uint8_t *bytes, size_t p, size_t q)
 {
     size_t t;
-    if (p < first[q])
+    if (p < first[q - 1])
         return 0;
-    t = from[q] + p - first[q];
+    t = place[q - 1] + p - first[q - 1];
     return bytes[t / 8] >> (t % 8) & 1;
 }
 
@@ -83,14 +74,14 @@ static void open_store(const uint8_t *bytes)
 {
     size_t p, q, i, ones = 0, edges = 0;
     for (q = 1; q <= unknowns; q++)
-        for (p = first[q]; p < q; p++)
+        for (p = first[q - 1]; p < q; p++)
             ones += (size_t)marked(bytes, p, q);
     for (p = 0; p < g.n; p++) {
         edges += marked_pairs(bytes, p, p);
         for (i = g.starts[p]; i < g.starts[p + 1]; i++)
             edges += marked_pairs(bytes, p, (size_t)g.neighbours[i] - 1);
     }
-    printf("store: places %zu marked %zu edges %zu\n", from[unknowns + 1], ones, edges);
+    printf("store: places %lu marked %zu edges %zu\n", (unsigned long)place[unknowns], ones, edges);
 }
 
 static void print_measures(const char *when, const uint16_t *numbering)

@@ -65,40 +65,40 @@ static void draw(void)
 }
 
 /* A matrix in its profile, and the numbers of its unknowns, from 0: node p has those from begin[p] on. Row q has its diagonal apart, and
-   the places from[q] on for the unknowns first[q] to q - 1. */
+   the places from[q] on for the unknowns first_of(q) to q - 1: the store map has both, by numbers from 1. */
 struct store {
-    size_t unknowns, begin[NODES], first[MOST], from[MOST + 1];
+    size_t unknowns, begin[NODES];
+    uint16_t first[MOST];
+    uint32_t from[MOST + 1];
     double diagonal[MOST], *places;
 };
 
-/* Unknowns take consecutive numbers in the order of their nodes; those of one node have the same first. */
+/* Unknowns take consecutive numbers in the order of their nodes. The map says how many there are, and how many places. */
 static void lay_out(struct store *s, const uint16_t *numbering)
 {
-    size_t at[NODES], p, q, i, least;
+    size_t at[NODES], p, q, next = 0;
+    uint64_t f[WAGONEPOCH_STORE_MAP_FIGURES];
     for (p = 0; p < NODES; p++)
         at[numbering[p] - 1] = p;
-    for (s->unknowns = 0, q = 0; q < NODES; q++) {
-        s->begin[at[q]] = s->unknowns;
-        s->unknowns += counts[at[q]];
+    for (q = 0; q < NODES; q++) {
+        s->begin[at[q]] = next;
+        next += counts[at[q]];
     }
-    for (p = 0; p < NODES; p++) {
-        least = s->begin[p];
-        for (i = starts[p]; i < starts[p + 1]; i++)
-            if (s->begin[neighbours[i] - 1] < least)
-                least = s->begin[neighbours[i] - 1];
-        for (i = 0; i < counts[p]; i++)
-            s->first[s->begin[p] + i] = least;
-    }
-    s->from[0] = 0;
-    for (q = 0; q < s->unknowns; q++)
-        s->from[q + 1] = s->from[q] + q - s->first[q];
-    s->places = room(s->from[s->unknowns], sizeof *s->places);
+    stop_if(wagonepoch_store_map(starts, NODES + 1, neighbours, entries, counts, NODES, numbering, NODES, scratch, NODES, s->first, MOST,
+                                 s->from, MOST + 1, f, WAGONEPOCH_STORE_MAP_FIGURES), "store map");
+    s->unknowns = (size_t)f[1];
+    s->places = room((size_t)f[0], sizeof *s->places);
 }
 
-/* The place of the coefficient of p < q; p is at least first[q]. */
+static size_t first_of(const struct store *s, size_t q)
+{
+    return s->first[q] - 1u;
+}
+
+/* The place of the coefficient of p < q; p is at least first_of(q). */
 static double *place(struct store *s, size_t p, size_t q)
 {
-    return s->places + s->from[q] + p - s->first[q];
+    return s->places + s->from[q] + p - first_of(s, q);
 }
 
 static void add(struct store *s, size_t p, size_t q, double value)
@@ -115,10 +115,10 @@ static int factor(struct store *s)
     size_t p, q, k;
     double scaled;
     for (q = 0; q < s->unknowns; q++) {
-        for (p = s->first[q]; p < q; p++)
-            for (k = s->first[p] > s->first[q] ? s->first[p] : s->first[q]; k < p; k++)
+        for (p = first_of(s, q); p < q; p++)
+            for (k = first_of(s, s->first[p] > s->first[q] ? p : q); k < p; k++)
                 *place(s, p, q) -= *place(s, k, q) * *place(s, k, p);
-        for (p = s->first[q]; p < q; p++) {
+        for (p = first_of(s, q); p < q; p++) {
             scaled = *place(s, p, q) / s->diagonal[p];
             s->diagonal[q] -= *place(s, p, q) * scaled;
             *place(s, p, q) = scaled;
@@ -134,12 +134,12 @@ static void solve(struct store *s, double *x)
 {
     size_t p, q;
     for (q = 0; q < s->unknowns; q++)
-        for (p = s->first[q]; p < q; p++)
+        for (p = first_of(s, q); p < q; p++)
             x[q] -= *place(s, p, q) * x[p];
     for (q = 0; q < s->unknowns; q++)
         x[q] /= s->diagonal[q];
     for (q = s->unknowns; q-- > 0;)
-        for (p = s->first[q]; p < q; p++)
+        for (p = first_of(s, q); p < q; p++)
             x[p] -= *place(s, p, q) * x[q];
 }
 
@@ -342,7 +342,7 @@ int main(void)
     stop_if(wagonepoch_eliminate(starts, NODES + 1, neighbours, entries, counts, NODES, numbers, NODES, scratch, NODES, bytes, length, f,
                                  WAGONEPOCH_ELIMINATE_FIGURES), "eliminate");
     in_vain = filled_in_vain(&by_profile, bytes);
-    printf("store: places %zu marked %llu\n", by_profile.from[by_profile.unknowns], (unsigned long long)f[0]);
+    printf("store: places %lu marked %llu\n", (unsigned long)by_profile.from[by_profile.unknowns], (unsigned long long)f[0]);
     printf("factor: %s, places filled without a mark %zu\n", solved ? "every pivot positive" : "a pivot is not positive", in_vain);
     solved = solved && agree();
     printf("solution: %s\n", solved ? "as the dense solve has it" : "not as the dense solve has it");

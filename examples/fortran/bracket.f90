@@ -2,7 +2,7 @@
 ! numbers and opens the store, which is laid out in unknowns: examples/bracket.grd, or the file named.
 ! gfortran examples/fortran/wagonepoch.f90 examples/fortran/bracket.f90 target/staticlib/libcapi.a
 program bracket
-  use, intrinsic :: iso_c_binding, only: c_int16_t, c_int64_t, c_int8_t, c_size_t
+  use, intrinsic :: iso_c_binding, only: c_int16_t, c_int32_t, c_int64_t, c_int8_t, c_size_t
   use wagonepoch
   implicit none
 
@@ -13,8 +13,9 @@ program bracket
   integer(c_int64_t) :: figures(7)
   ! unknowns take consecutive numbers in the order of their nodes: node p has those from begin(p) on, as many as its count says
   integer :: begin(max_nodes), unknowns
-  ! the store: row q has the places from(q) on, for the unknowns first(q) to q - 1
-  integer :: first(max_unknowns), from(max_unknowns + 1)
+  ! the store map: row q has the places place(q) on, for the unknowns first(q) to q - 1; behind the last row comes the count of places
+  integer(c_int16_t) :: first(max_unknowns)
+  integer(c_int32_t) :: place(max_unknowns + 1)
   integer :: p, parts
   integer(c_size_t) :: n, words, entries, length
 
@@ -40,7 +41,8 @@ program bracket
   call stop_if(wagonepoch_eliminate(starts, n + 1, neighbours, entries, counts, n, numbers, n, scratch, n, bytes, length, &
                                     figures, 2_c_size_t), 'eliminate')
   print '(a,i0,a,i0)', 'elimination: marked ', figures(1), ' new ', figures(2)
-  call map_store()
+  call stop_if(wagonepoch_store_map(starts, n + 1, neighbours, entries, counts, n, numbers, n, scratch, n, first, 6 * n, &
+                                    place, 6 * n + 1, figures, 2_c_size_t), 'store map')
   call open_store()
 
 contains
@@ -143,29 +145,13 @@ contains
     end do
   end subroutine
 
-  ! f_q, the least of q and the unknowns that it adjoins, and s_q, where row q starts. All unknowns of a node have the same f.
-  subroutine map_store()
-    integer :: q, i, least
-    do p = 1, int(n)
-      least = begin(p)
-      do i = word(starts(p)) + 1, word(starts(p + 1))
-        least = min(least, begin(neighbours(i)))
-      end do
-      first(begin(p):begin(p) + counts(p) - 1) = least
-    end do
-    from(1) = 0
-    do q = 1, unknowns
-      from(q + 1) = from(q) + q - first(q)
-    end do
-  end subroutine
-
   ! The mark of the pair p < q.
   integer function marked(p, q)
     integer, intent(in) :: p, q
     integer :: t
     marked = 0
     if (p < first(q)) return
-    t = from(q) + p - first(q)
+    t = place(q) + p - first(q)
     marked = ibits(int(bytes(t / 8 + 1)), mod(t, 8), 1)
   end function
 
@@ -197,6 +183,6 @@ contains
         edges = edges + marked_pairs(p, int(neighbours(i)))
       end do
     end do
-    print '(a,i0,a,i0,a,i0)', 'store: places ', from(unknowns + 1), ' marked ', ones, ' edges ', edges
+    print '(a,i0,a,i0,a,i0)', 'store: places ', place(unknowns + 1), ' marked ', ones, ' edges ', edges
   end subroutine
 end program

@@ -1,7 +1,7 @@
 ! The C interface for Fortran; include/wagonepoch.h says what each call asks for and leaves. C's unsigned words are signed here: a start of
 ! 32,768 reads as -32,768, and `word` gives it back.
 module wagonepoch
-  use, intrinsic :: iso_c_binding, only: c_int16_t, c_int64_t, c_int8_t, c_size_t
+  use, intrinsic :: iso_c_binding, only: c_int16_t, c_int32_t, c_int64_t, c_int8_t, c_size_t
   implicit none
 
   integer, parameter :: max_nodes = 4096, max_entries = 32768, max_unknowns = 6 * max_nodes
@@ -59,6 +59,19 @@ module wagonepoch
       integer(c_int8_t), intent(inout) :: bytes(*)
       integer(c_int64_t), intent(inout) :: figures(*)
       integer(c_size_t), value :: starts_len, neighbours_len, counts_len, numbering_len, scratch_len, bytes_len, figures_len
+      integer(c_int16_t) :: answer
+    end function
+
+    function wagonepoch_store_map(starts, starts_len, neighbours, neighbours_len, counts, counts_len, numbering, numbering_len, &
+                                  scratch, scratch_len, first, first_len, place, place_len, figures, figures_len) bind(C) &
+                                  result(answer)
+      import
+      integer(c_int16_t), intent(in) :: starts(*), neighbours(*), counts(*), numbering(*)
+      integer(c_int16_t), intent(inout) :: scratch(*), first(*)
+      integer(c_int32_t), intent(inout) :: place(*)
+      integer(c_int64_t), intent(inout) :: figures(*)
+      integer(c_size_t), value :: starts_len, neighbours_len, counts_len, numbering_len, scratch_len, first_len, place_len, &
+                                  figures_len
       integer(c_int16_t) :: answer
     end function
 

@@ -69,42 +69,35 @@ impl Graph {
     }
 }
 
-/// The store: row q has the places from `from[q]` on, for the unknowns `first[q]` to q - 1.
+/// The store: its map, its marks, and which of its rows are a node's unknowns.
 struct Store {
     unknowns: Vec<std::ops::Range<usize>>,
-    first: Vec<usize>,
-    from: Vec<usize>,
+    map: wagonepoch::StoreMap,
     bytes: Vec<u8>,
 }
 
 impl Store {
-    /// f_q, the least of q and the unknowns that it adjoins, and s_q, where row q starts. All unknowns of a node have the same f.
-    fn new(graph: &Graph, numbers: &[u16], bytes: Vec<u8>) -> Store {
-        let unknowns = graph.unknowns(numbers);
-        let size = unknowns.iter().map(|of_node| of_node.len()).sum::<usize>();
-        let mut first = vec![0; size + 1];
-        for p in 1..unknowns.len() {
-            let least = graph.row(p).iter().map(|&r| unknowns[usize::from(r)].start).fold(unknowns[p].start, usize::min);
-            first[unknowns[p].clone()].fill(least);
-        }
-        let mut from = vec![0; size + 2];
-        for q in 1..=size {
-            from[q + 1] = from[q] + q - first[q];
-        }
-        Store { unknowns, first, from, bytes }
+    fn new(graph: &Graph, numbers: &[u16], bytes: Vec<u8>) -> Result<Store, String> {
+        let map = wagonepoch::store_map(&graph.starts, &graph.neighbours, &graph.counts, numbers)?;
+        Ok(Store { unknowns: graph.unknowns(numbers), map, bytes })
     }
 
     /// How many rows it has.
     fn size(&self) -> usize {
-        self.first.len() - 1
+        self.map.first.len()
+    }
+
+    /// f_q, the first unknown of row q.
+    fn first(&self, q: usize) -> usize {
+        self.map.first[q - 1].into()
     }
 
     /// The mark of the pair p < q.
     fn marked(&self, p: usize, q: usize) -> bool {
-        if p < self.first[q] {
+        if p < self.first(q) {
             return false;
         }
-        let t = self.from[q] + p - self.first[q];
+        let t = self.map.place[q - 1] as usize + p - self.first(q);
         self.bytes[t / 8] >> (t % 8) & 1 == 1
     }
 
@@ -139,10 +132,10 @@ fn print_thickest(graph: &Graph, numbers: &[u16]) -> Result<(), String> {
 /// Counts the marks, and those of pairs that adjoin: of two neighbours, or of one node.
 fn open_store(graph: &Graph, store: &Store) {
     let size = store.size();
-    let ones: usize = (1..=size).map(|q| (store.first[q]..q).filter(|&p| store.marked(p, q)).count()).sum();
+    let ones: usize = (1..=size).map(|q| (store.first(q)..q).filter(|&p| store.marked(p, q)).count()).sum();
     let near = |p: usize| graph.row(p).iter().map(|&r| r.into()).chain([p]).map(move |r| store.marked_pairs(p, r)).sum::<usize>();
     let edges: usize = (1..=graph.counts.len()).map(near).sum();
-    println!("store: places {} marked {ones} edges {edges}", store.from[size + 1]);
+    println!("store: places {} marked {ones} edges {edges}", store.map.place[size]);
 }
 
 fn run() -> Result<(), String> {
@@ -161,7 +154,7 @@ fn run() -> Result<(), String> {
     print_thickest(&graph, &run.numbers)?;
     let (bytes, [marked, new]) = wagonepoch::eliminate(&graph.starts, &graph.neighbours, &graph.counts, &run.numbers, run.figures[3])?;
     println!("elimination: marked {marked} new {new}");
-    open_store(&graph, &Store::new(&graph, &run.numbers, bytes));
+    open_store(&graph, &Store::new(&graph, &run.numbers, bytes)?);
     Ok(())
 }
 

@@ -24,6 +24,11 @@ mod c {
             numbering: *const u16, numbering_len: usize, scratch: *mut u16, scratch_len: usize, bytes: *mut u8, bytes_len: usize,
             figures: *mut u64, figures_len: usize,
         ) -> u16;
+        pub fn wagonepoch_store_map(
+            starts: *const u16, starts_len: usize, neighbours: *const u16, neighbours_len: usize, counts: *const u16, counts_len: usize,
+            numbering: *const u16, numbering_len: usize, scratch: *mut u16, scratch_len: usize, first: *mut u16, first_len: usize,
+            place: *mut u32, place_len: usize, figures: *mut u64, figures_len: usize,
+        ) -> u16;
         pub fn wagonepoch_mesh(
             n: usize, elements: *const u16, elements_len: usize, starts: *mut u16, starts_len: usize, neighbours: *mut u16, neighbours_len: usize,
             scratch: *mut u16, scratch_len: usize, figures: *mut u64, figures_len: usize,
@@ -138,4 +143,28 @@ pub fn eliminate(starts: &[u16], neighbours: &[u16], counts: &[u16], numbering: 
         )
     })?;
     Ok((bytes, figures))
+}
+
+/// Where the rows of a store stand, one for each unknown: row q has the places from `place[q - 1]` on, for the unknowns `first[q - 1]` to q - 1.
+/// Behind the last row `place` has the count of places.
+pub struct StoreMap {
+    pub first: Vec<u16>,
+    pub place: Vec<u32>,
+}
+
+pub fn store_map(starts: &[u16], neighbours: &[u16], counts: &[u16], numbering: &[u16]) -> Result<StoreMap, String> {
+    let n = nodes(starts);
+    let (mut scratch, mut figures) = (vec![0; n], [0; 2]);
+    let mut map = StoreMap { first: vec![0; 6 * n], place: vec![0; 6 * n + 1] };
+    refused("store map", unsafe {
+        c::wagonepoch_store_map(
+            starts.as_ptr(), starts.len(), neighbours.as_ptr(), neighbours.len(), counts.as_ptr(), counts.len(),
+            numbering.as_ptr(), numbering.len(), scratch.as_mut_ptr(), scratch.len(), map.first.as_mut_ptr(), map.first.len(),
+            map.place.as_mut_ptr(), map.place.len(), figures.as_mut_ptr(), figures.len(),
+        )
+    })?;
+    let unknowns = figures[1] as usize;
+    map.first.truncate(unknowns);
+    map.place.truncate(unknowns + 1);
+    Ok(map)
 }
