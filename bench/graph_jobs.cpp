@@ -191,15 +191,21 @@ struct Reach {
   u32 bandwidth, profile;
 };
 
-// The scratch word of each number becomes the count of the unknowns before its own. The first unknown of all that a node has is that of the least
-// number around it.
-static Reach reach_in_unknowns(const u16 *starts, const u16 *neighbours, u32 n, const u16 *numbering, const u16 *counts, u16 *scratch) {
+// The scratch word of each number becomes the count of the unknowns before its own. Returns how many there are.
+static u32 unknowns_before(u32 n, const u16 *numbering, const u16 *counts, u16 *scratch) {
   for (u32 p = 0; p < n; p++) scratch[numbering[p] - 1] = counts[p];
-  for (u32 x = 0, before = 0; x < n; x++) {
+  u32 before = 0;
+  for (u32 x = 0; x < n; x++) {
     const u32 count = scratch[x];
     scratch[x] = u16(before);
     before += count;
   }
+  return before;
+}
+
+// The first unknown of all that a node has is that of the least number around it.
+static Reach reach_in_unknowns(const u16 *starts, const u16 *neighbours, u32 n, const u16 *numbering, const u16 *counts, u16 *scratch) {
+  unknowns_before(n, numbering, counts, scratch);
   u32 bandwidth = 0, profile = 0;
   for (u32 p = 0; p < n; p++) {
     const u32 first = first_of(starts, neighbours, numbering, p), count = counts[p];
@@ -246,6 +252,50 @@ u16 measures(const u16 *starts, size_t starts_len, const u16 *neighbours, size_t
   if (most_unknowns(counts, counts_len, n) == 0) return 15;
   if (!is_numbering(numbering, numbering_len, n, scratch)) return 7;
   bare_measures(starts, neighbours, counts, n, numbering, scratch, figures);
+  clear(scratch, n);
+  return 0;
+}
+
+// One unknown each: the first column of each row, in the order of the numbers.
+static u32 firsts_of_nodes(const u16 *starts, const u16 *neighbours, u32 n, const u16 *numbering, u16 *first) {
+  for (u32 p = 0; p < n; p++) first[numbering[p] - 1] = u16(first_of(starts, neighbours, numbering, p));
+  return n;
+}
+
+// The rows of a node have the same first column.
+static u32 firsts_of_unknowns(const u16 *starts, const u16 *neighbours, u32 n, const u16 *numbering, const u16 *counts, u16 *scratch, u16 *first) {
+  const u32 unknowns = unknowns_before(n, numbering, counts, scratch);
+  for (u32 p = 0; p < n; p++) {
+    const u16 column = u16(scratch[first_of(starts, neighbours, numbering, p) - 1] + 1);
+    u16 *row = first + scratch[numbering[p] - 1];
+    for (u32 i = 0; i < counts[p]; i++) row[i] = column;
+  }
+  return unknowns;
+}
+
+void bare_store_map(const u16 *starts, const u16 *neighbours, const u16 *counts, u32 n, const u16 *numbering, u16 *scratch, u16 *first, u32 *place,
+                    u64 *figures) {
+  const u32 rows = most_unknowns(counts, n, n) == 1 ? firsts_of_nodes(starts, neighbours, n, numbering, first)
+                                                    : firsts_of_unknowns(starts, neighbours, n, numbering, counts, scratch, first);
+  u32 begin = 0;
+  for (u32 q = 1; q <= rows; q++) {
+    place[q - 1] = begin;
+    begin += q - first[q - 1];
+  }
+  place[rows] = begin;
+  figures[0] = begin;
+  figures[1] = rows;
+}
+
+u16 store_map(const u16 *starts, size_t starts_len, const u16 *neighbours, size_t neighbours_len, const u16 *counts, size_t counts_len,
+              const u16 *numbering, size_t numbering_len, u16 *scratch, size_t scratch_len, u16 *first, size_t first_len, u32 *place,
+              size_t place_len, u64 *figures, size_t figures_len) {
+  if (u16 refusal = test_adjacency(starts, starts_len, neighbours, neighbours_len)) return refusal;
+  const u32 n = u32(starts_len - 1);
+  if (scratch_len < n || first_len < MAX_UNKNOWNS * n || place_len < MAX_UNKNOWNS * n + 1 || figures_len < 2) return 5;
+  if (most_unknowns(counts, counts_len, n) == 0) return 15;
+  if (!is_numbering(numbering, numbering_len, n, scratch)) return 7;
+  bare_store_map(starts, neighbours, counts, n, numbering, scratch, first, place, figures);
   clear(scratch, n);
   return 0;
 }

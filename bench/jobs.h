@@ -38,6 +38,9 @@ inline void clear(u16 *words, size_t count) { memset(words, 0, count * sizeof(u1
   u16 eliminate(const u16 *starts, size_t starts_len, const u16 *neighbours, size_t neighbours_len, const u16 *counts,                     \
                 size_t counts_len, const u16 *numbering, size_t numbering_len, u16 *scratch, size_t scratch_len, u8 *bytes,                \
                 size_t bytes_len, u64 *figures, size_t figures_len);                                                                       \
+  u16 store_map(const u16 *starts, size_t starts_len, const u16 *neighbours, size_t neighbours_len, const u16 *counts,                     \
+                size_t counts_len, const u16 *numbering, size_t numbering_len, u16 *scratch, size_t scratch_len, u16 *first,               \
+                size_t first_len, u32 *place, size_t place_len, u64 *figures, size_t figures_len);                                         \
   u16 mesh(size_t n, const u16 *elements, size_t elements_len, u16 *starts, size_t starts_len, u16 *neighbours, size_t neighbours_len,     \
            u16 *scratch, size_t scratch_len, u64 *figures, size_t figures_len);                                                            \
   u32 most_unknowns(const u16 *counts, size_t length, u32 n);                                                                              \
@@ -51,6 +54,8 @@ inline void clear(u16 *words, size_t count) { memset(words, 0, count * sizeof(u1
                                   u16 *passes, u16 *scratch, u64 *figures);                                                                \
   void bare_eliminate(const u16 *starts, const u16 *neighbours, const u16 *counts, u32 n, const u16 *numbering, u16 *scratch, u8 *bytes,   \
                       size_t bytes_len, u64 *figures);                                                                                     \
+  void bare_store_map(const u16 *starts, const u16 *neighbours, const u16 *counts, u32 n, const u16 *numbering, u16 *scratch,              \
+                      u16 *first, u32 *place, u64 *figures);                                                                               \
   void bare_mesh(u32 n, const u16 *elements, size_t elements_len, u16 *starts, u16 *neighbours, u64 *figures);                             \
   }
 

@@ -24,31 +24,36 @@ struct Calls {
   decltype(&wagonepoch_run) run, reverse_cuthill_mckee;
   decltype(&wagonepoch_measures) measures;
   decltype(&wagonepoch_eliminate) eliminate;
+  decltype(&wagonepoch_store_map) store_map;
 };
 
-#define CALLS_OF(build) \
-  {build::test_adjacency, build::rooted_levels, build::mesh, build::run, build::reverse_cuthill_mckee, build::measures, build::eliminate}
+#define CALLS_OF(build)                                                                                     \
+  {build::test_adjacency, build::rooted_levels, build::mesh, build::run, build::reverse_cuthill_mckee,      \
+   build::measures,       build::eliminate,     build::store_map}
 static const Calls PROGRAMS[] = {
     {wagonepoch_test_adjacency, wagonepoch_rooted_levels, wagonepoch_mesh, wagonepoch_run, wagonepoch_reverse_cuthill_mckee,
-     wagonepoch_measures, wagonepoch_eliminate},
+     wagonepoch_measures, wagonepoch_eliminate, wagonepoch_store_map},
     CALLS_OF(any_processor),
     CALLS_OF(this_processor),
 };
 
 // What is lent to a call, and its answer. A list may be longer than it need be.
 struct Lent {
-  Words starts, neighbours, numbers, levels, sizes, passes, scratch;
+  Words starts, neighbours, numbers, levels, sizes, passes, scratch, first;
+  std::vector<u32> place;
   std::vector<u8> bytes;
   std::vector<u64> figures;
   u16 answer;
 
   explicit Lent(size_t n, size_t byte_count = 0)
       : starts(n + 3, 60001), neighbours(32770, 60002), numbers(n + 2, 60003), levels(n + 2, 60004), sizes(n + 2, 60007),
-        passes(n + 2, 60008), scratch(6 * n + 2, 60005), bytes(byte_count + 2, 165), figures(12, 60006), answer(65535) {}
+        passes(n + 2, 60008), scratch(6 * n + 2, 60005), first(6 * n + 2, 60009), place(6 * n + 3, 4000000010), bytes(byte_count + 2, 165),
+        figures(12, 60006), answer(65535) {}
 
   bool operator==(const Lent &o) const {
     return answer == o.answer && starts == o.starts && neighbours == o.neighbours && numbers == o.numbers && levels == o.levels &&
-           sizes == o.sizes && passes == o.passes && scratch == o.scratch && bytes == o.bytes && figures == o.figures;
+           sizes == o.sizes && passes == o.passes && scratch == o.scratch && first == o.first && place == o.place && bytes == o.bytes &&
+           figures == o.figures;
   }
 };
 
@@ -112,6 +117,11 @@ static void eliminate_job(const Calls &c, const Given &g, Lent &l) {
                          data(g.numbering), g.numbering.size(), l.scratch.data(), l.scratch.size(), l.bytes.data(), l.bytes.size(),
                          l.figures.data(), l.figures.size());
 }
+static void map_job(const Calls &c, const Given &g, Lent &l) {
+  l.answer = c.store_map(data(g.starts), g.starts.size(), data(g.neighbours), g.neighbours.size(), data(g.counts), g.counts.size(),
+                         data(g.numbering), g.numbering.size(), l.scratch.data(), l.scratch.size(), l.first.data(), l.first.size(),
+                         l.place.data(), l.place.size(), l.figures.data(), l.figures.size());
+}
 
 static std::string mesh_name;
 
@@ -149,7 +159,8 @@ static void try_refusals(const Given &good, size_t byte_count) {
     damage(given, lent);
     agreed("a refusal", job, given, lent, wanted);
   };
-  for (const Job &job : {Job(test_job), Job(rooted_job), Job(run_job), Job(reverse_job), Job(measures_job), Job(eliminate_job)}) {
+  for (const Job &job :
+       {Job(test_job), Job(rooted_job), Job(run_job), Job(reverse_job), Job(measures_job), Job(eliminate_job), Job(map_job)}) {
     refused(job, 1, [](Given &g, Lent &) { g.starts.clear(); });
     refused(job, 1, [](Given &g, Lent &) { g.starts.resize(1); });
     refused(job, 1, [](Given &g, Lent &) { g.starts.resize(4098, g.starts.back()); });
@@ -168,7 +179,7 @@ static void try_refusals(const Given &good, size_t byte_count) {
       for (size_t p = row; p <= n; p++) g.starts[p]--;
     });
   }
-  for (const Job &job : {Job(run_job), Job(reverse_job), Job(measures_job), Job(eliminate_job), Job(mesh_job)}) {
+  for (const Job &job : {Job(run_job), Job(reverse_job), Job(measures_job), Job(eliminate_job), Job(map_job), Job(mesh_job)}) {
     refused(job, 5, [n](Given &, Lent &l) { l.scratch.resize(n - 1); });
     refused(job, 5, [](Given &, Lent &l) { l.figures.clear(); });
   }
@@ -185,7 +196,9 @@ static void try_refusals(const Given &good, size_t byte_count) {
     refused(job, 5, [n](Given &, Lent &l) { l.scratch.resize(6 * n - 1); });
     refused(job, 5, [](Given &, Lent &l) { l.figures.resize(6); });
   }
-  for (const Job &job : {Job(run_job), Job(reverse_job), Job(measures_job), Job(eliminate_job)}) {
+  refused(map_job, 5, [n](Given &, Lent &l) { l.first.resize(6 * n - 1); });
+  refused(map_job, 5, [n](Given &, Lent &l) { l.place.resize(6 * n); });
+  for (const Job &job : {Job(run_job), Job(reverse_job), Job(measures_job), Job(eliminate_job), Job(map_job)}) {
     refused(job, 15, [](Given &g, Lent &) { g.counts.pop_back(); });
     refused(job, 15, [](Given &g, Lent &) { g.counts.push_back(1); });
     refused(job, 15, [](Given &g, Lent &) { g.counts[0] = 0; });
@@ -194,7 +207,7 @@ static void try_refusals(const Given &good, size_t byte_count) {
     refused(job, 5, [](Given &g, Lent &l) { g.counts.clear(), l.figures.clear(); });
     refused(job, 15, [](Given &g, Lent &) { g.counts.clear(), g.numbering[0] = 0; });
   }
-  for (const Job &job : {Job(measures_job), Job(eliminate_job)}) {
+  for (const Job &job : {Job(measures_job), Job(eliminate_job), Job(map_job)}) {
     refused(job, 7, [](Given &g, Lent &) { g.numbering.pop_back(); });
     refused(job, 7, [](Given &g, Lent &) { g.numbering[0] = 0; });
     refused(job, 7, [n](Given &g, Lent &) { g.numbering[n - 1] = u16(n + 1); });
@@ -243,12 +256,17 @@ static Given numbered_by(const Given &given, const Lent &made) {
   return g;
 }
 
-// An order that a call made: the measures find the figures that it reported, and the elimination takes so many bytes as its profile asks for.
+// An order that a call made: the measures find the figures that it reported, the map has its profile, and the elimination takes so many bytes as
+// that asks for.
 static void try_order(const Given &given, const Lent &made) {
   const Given g = numbered_by(given, made);
   const Lent measured = agreed("measures", measures_job, g, Lent(g.n), 0);
   if (!std::equal(measured.figures.begin(), measured.figures.begin() + 3, made.figures.begin() + 2)) {
     printf("%s: other measures than the order's own\n", mesh_name.c_str());
+    exit(1);
+  }
+  if (agreed("store map", map_job, g, Lent(g.n), 0).figures[0] != made.figures[3]) {
+    printf("%s: a map of another profile than the order's own\n", mesh_name.c_str());
     exit(1);
   }
   agreed("elimination", eliminate_job, g, Lent(g.n, (made.figures[3] + 7) / 8), 0);
@@ -334,6 +352,7 @@ static Case compare(const Given &lists, const Sort &sort) {
   try_order(g, c.ran);
   try_order(g, c.turned);
   agreed("elimination, numbers as given" + said, eliminate_job, g, Lent(g.n, bytes), 0);
+  agreed("store map, numbers as given" + said, map_job, g, Lent(g.n), 0);
   if (g.n < 1500 && bytes < 2000000) try_refusals(g, bytes);  // larger ones take long and tell no more
   return c;
 }
@@ -384,6 +403,11 @@ static void time_numbered(const Given &g, u64 profile, const std::string &said, 
   time_job("elimination" + said, eliminate_job, g, lent,
            [&] {
              bare_eliminate(starts, neighbours, counts, n, numbering, own.scratch.data(), own.bytes.data(), bytes, own.figures.data());
+           },
+           quick);
+  time_job("store map" + said, map_job, g, Lent(n),
+           [&] {
+             bare_store_map(starts, neighbours, counts, n, numbering, own.scratch.data(), own.first.data(), own.place.data(), own.figures.data());
            },
            quick);
 }
