@@ -7,6 +7,7 @@ PART_REPORT = ('v', 'u', 'k', 'width', 'passes', 'direction')
 FIGURES = ('nodes', 'parts', 'bandwidth', 'profile', 'front', 'levels', 'width')
 MEASURE_FIGURES = ('bandwidth', 'profile', 'front')
 ELIMINATION_FIGURES = ('marked', 'new')
+MAP_FIGURES = ('profile', 'unknowns')
 
 
 def words(values):

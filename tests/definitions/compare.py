@@ -42,6 +42,7 @@ use Rattle.spec.specs.CallsNumbering.{measuresAnswer, measuresScratch}
 use Rattle.spec.specs.CallsCuthill.{cuthillAnswer, cuthillNumbers, cuthillLevels, cuthillPasses, cuthillScratch}
 use Rattle.spec.specs.CallsCuthill.{cuthillEliminateAnswer, cuthillEliminateBytes}
 use Rattle.spec.specs.CallsStore.{eliminationAnswer, eliminationScratch, eliminationBytes, runEliminateAnswer, runEliminateBytes}
+use Rattle.spec.specs.CallsMap.{storeMapAnswer, storeMapScratch, storeMapFirst, storeMapPlace}
 use Rattle.spec.specs.CallsMesh.{meshAnswer, meshStarts, meshNeighbours, meshScratch}
 use Rattle.spec.specs.Mesh.{startList, neighbourList}
 use Rattle.spec.specs.File.{fileCounts, fileGraph, fileRefusal, programOutput}

@@ -1,7 +1,7 @@
 """What the definitions must say of an input: each call of crate `spec`, and what the reference answers and leaves."""
 
 import calls
-from antt import (COMBINED_FIGURES, ELIMINATION_FIGURES, ENDS, FIGURES, LEVEL_FIGURES, MEASURE_FIGURES,
+from antt import (COMBINED_FIGURES, ELIMINATION_FIGURES, ENDS, FIGURES, LEVEL_FIGURES, MAP_FIGURES, MEASURE_FIGURES,
                   PART_REPORT, figures, nothing, one_number, outcome, record, truth, words)
 from graph import MOST_ENTRIES
 from idle_cases import is_connected, numbers_before_turning, store_of, without_lower
@@ -59,6 +59,8 @@ def of_graph(i):
                   'measuresAnswer', figures(MEASURE_FIGURES), ('measuresScratch',))
         + of_call(calls.elimination, counted + (i.numbering,), (i.words, i.bytes),
                   'eliminationAnswer', figures(ELIMINATION_FIGURES), ('eliminationScratch', 'eliminationBytes'))
+        + of_call(calls.store_map, counted + (i.numbering,), (i.words, i.first, i.place),
+                  'storeMapAnswer', figures(MAP_FIGURES), ('storeMapScratch', 'storeMapFirst', 'storeMapPlace'))
         + of_call(calls.run_and_eliminate, counted, run + (i.bytes,),
                   'runEliminateAnswer', run_elimination, (None, None, None, None, 'runEliminateBytes'))
         + of_call(calls.cuthill_and_eliminate, counted, run + (i.bytes,),

@@ -10,7 +10,7 @@ from store import byte_count
 from unknowns import MOST, ones
 
 # Everything that the calls on an adjacency are handed; lent buffers hold 9s.
-Input = namedtuple('Input', 'starts neighbours counts node numbering numbers levels sizes passes scratch words bytes')
+Input = namedtuple('Input', 'starts neighbours counts node numbering numbers levels sizes passes scratch words bytes first place')
 
 
 def random_edges(rng, n):
@@ -84,7 +84,7 @@ def given(rng, starts, neighbours):
     scratch = [9] * (8 * n) if rng.random() < 0.1 else lent(rng, scratch_words(n))
     numbers, levels, sizes, passes, words = [lent(rng, n) for _ in range(5)]
     return Input(starts, neighbours, counts, node, numbering, numbers, levels, sizes, passes, scratch, words,
-                 lent(rng, mark_bytes(starts, neighbours, counts, numbering)))
+                 lent(rng, mark_bytes(starts, neighbours, counts, numbering)), lent(rng, MOST * n), lent(rng, MOST * n + 1))
 
 
 def in_order(rng):
@@ -98,7 +98,8 @@ def in_order(rng):
             for node, numbering in ((1, list(range(1, n + 1))), (0, list(range(n))), (n + 1, [1] * (n + 1))):
                 for less in (0, 1):
                     few, most = [9] * (n - less), [9] * (scratch_words(n) - less)
-                    inputs.append(Input(*lists, bad, node, numbering, few, few, few, few, most, few, [9] * rng.randint(0, 2)))
+                    inputs.append(Input(*lists, bad, node, numbering, few, few, few, few, most, few, [9] * rng.randint(0, 2),
+                                        [9] * (MOST * n), [9] * (MOST * n + 1)))
     return inputs
 
 
