@@ -190,6 +190,7 @@ fn mapped(
         StoreMap::Refused(number) => refused(number),
         StoreMap::Accepted(f) => accepted(&[f.profile as u64, f.unknowns as u64]),
     }
+    test_vectors::show_places(place);
 }
 
 // The store map. No other call is lent a list of 32 bits: its length comes behind those of the other lists, and its entries behind the answer.
@@ -212,7 +213,6 @@ pub(crate) fn store_map(
         first,
         &mut place[..count],
     );
-    test_vectors::show_places(&place[..count]);
 }
 
 // What a numbering call with the elimination after it answers: its figures are followed by the elimination's answer.
