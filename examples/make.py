@@ -248,16 +248,17 @@ profile, front and width count unknowns.
     $ tools/grd.py examples/hinged_plates.grd
     examples/hinged_plates.grd: %(summary)s
 
-`c/hinge.c` builds the stiffness of such plates out of beams, factors it in the store of the unknowns and solves it, and a dense solve must give the
-same. It also sees that no place is filled that the elimination call left unmarked.
+`c/hinge.c` builds the stiffness of such plates out of beams, factors it in the store of the unknowns, whose rows stand where the store map says, and
+solves it, and a dense solve must give the same. It also sees that no place is filled that the elimination call left unmarked.
 
 ## Callers
 
-`c`, `fortran` and `rust` have callers of the library: `bracket` renumbers a mesh file, says how many passes the search for the ends of each part
-took and in which level, counted from the node with number 1, it is thickest, eliminates by the new numbers and opens the store, which has a row for
-each unknown. It also says what reverse Cuthill-McKee would give. In `c`, `grd.c` reads such a file, of either version, and makes its graph, refused
-as the program refuses it, `renumber.c` prints its listing, and `orders.c` prints both orders side by side: old number, number by the run, number by
-reverse Cuthill-McKee. For `bracket` and `encoder_plate` the two are the same; for `hub_sector` the second has bandwidth 148 and profile 39329.
+`c`, `fortran` and `rust` have callers of the library: `bracket` renumbers a mesh file, says how many passes the search for the ends of each part took
+and in which level, counted from the node with number 1, it is thickest, eliminates by the new numbers and opens the store, which has a row for each
+unknown: the store map says where it begins and with which column. It also says what reverse Cuthill-McKee would give. In `c`, `grd.c` reads such a
+file, of either version, and makes its graph, refused as the program refuses it, `renumber.c` prints its listing, and `orders.c` prints both orders
+side by side: old number, number by the run, number by reverse Cuthill-McKee. For `bracket` and `encoder_plate` the two are the same; for `hub_sector`
+the second has bandwidth 148 and profile 39329.
 '''
 
 
