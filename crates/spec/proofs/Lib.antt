@@ -15,3 +15,4 @@ pub mod WrongIdle
 pub mod UnknownTable
 pub mod WrongUnknowns
 pub mod MapTable
+pub mod WrongMap

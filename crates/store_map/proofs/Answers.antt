@@ -6,22 +6,20 @@ use Prim.Native.Nat.{ℕ, suc, _+_, _*_, _≤_, _<_}
 use native.Mathlib.Omega.{arith}
 use lib.Dec.{eqb, ltb}
 use lib.ListN.{length, drop}
-use borrow.Author.Tests.{lt-ltb, le-ltb, ne-eqb, ltb-false}
+use borrow.Author.Tests.{lt-ltb, le-ltb, ltb-false}
 use Rattle.basis.specs.Lists.{sum}
 use Rattle.basis.proofs.Logic.{or-none}
 use Rattle.spec.specs.CallsMap.{MapFigures, mapFigures, storeMapRefusal, storeMapAnswer, storeMapScratch, storeMapFirst, storeMapPlace}
 use Rattle.spec.specs.Graph.{Graph, graphOf, sizeOf}
-use Rattle.spec.specs.Lent.{Outcome, accepted, refused, outcome, zeroed, scratchAfter, short}
+use Rattle.spec.specs.Lent.{Outcome, accepted, refused, outcome, zeroed, short}
 use Rattle.spec.specs.Measures.{isNumbering, profile}
-use Rattle.spec.specs.Refusal.{refuse, _orElse_}
 use Rattle.spec.specs.StoreMap.{firstColumns, rowStarts}
 use Rattle.spec.specs.Unknowns.{maxCount, badCounts, renumberedUnknowns}
-use Rattle.laws.proofs.Refused.{graph-refusal-most}
+use Rattle.laws.proofs.Lent.{scratch-unused, scratch-used}
 use Rattle.laws.proofs.StoreMap.{columns-length, starts-length}
 use Rattle.laws.proofs.UnknownBounds.{counts-size, unknowns-most, renumbered-unknowns-size}
 use Rattle.graph.specs.Facts.{LegalLists, RefusedLists}
-use Rattle.graph.proofs.Answers.{refused-first, legal-next}
-use Rattle.graph.proofs.Ways.{Refuses, Accepts, answer-stays, buffer-stays, answer-new, buffer-new}
+use Rattle.graph.proofs.Ways.{Turn, last, next, Tests, Refuses, by-lists, by-short, by-next, by-last, by-none, past-next, lists-have, answer-stays, buffer-stays, answer-new, buffer-new}
 
 -- the answer and the three lists after the call
 pub record Answered (S N K x C F P : List ℕ) (a : Outcome MapFigures) (C′ F′ P′ : List ℕ) : Type 0 where
@@ -41,44 +39,37 @@ module _ (S N K x C F P : List ℕ) where
   abbrev pub anyShort : Bool
   anyShort = short C (sizeOf S) || short F (maxCount * sizeOf S) || short P (suc (maxCount * sizeOf S))
 
-  zeroed-scratch : (c : ℕ) → eqb c 0 || eqb c 7 ≡ true → code ≡ c → zeroed (sizeOf S) C ≡ storeMapScratch S N K x C F P
-  unfolding storeMapScratch scratchAfter
-  zeroed-scratch c t e = rw (e, t)
+  -- the refusals after which the scratch words are 0
+  abbrev used : ℕ → Bool
+  used c = eqb c 0 || eqb c 7
+
+  tests : Tests S N anyShort (next (badCounts (sizeOf S) K) 15 (last (not (isNumbering (sizeOf S) x)) 7)) code
+  unfolding storeMapRefusal
+  tests = record { is = refl }
 
   -- 1 to 5 and 15: all is untouched
-  untouched : {c : ℕ} → (c ≡ 7 → ⊥) → Refuses code c → Answered S N K x C F P (refused c) C F P
-  unfolding storeMapAnswer storeMapScratch storeMapFirst storeMapPlace scratchAfter
-  untouched {c} no-7 R = record {
+  untouched : {c : ℕ} → Refuses code c → used c ≡ false → Answered S N K x C F P (refused c) C F P
+  unfolding storeMapAnswer storeMapScratch storeMapFirst storeMapPlace
+  untouched R u = record {
     answer = answer-stays R _;
-    scratch = rw (R .is, ne-eqb c 0 (omega (arith, R .some)), ne-eqb c 7 no-7);
+    scratch = scratch-unused used (sizeOf S) C (R .is) u;
     first = buffer-stays R _;
     place = buffer-stays R _;
   }
 
-  -- what is tested after the two lists
-  abbrev later : Bool → Bool → Bool → ℕ
-  later s b n = refuse s 5 orElse refuse b 15 orElse refuse (not n) 7
-
   -- 1 to 4
   pub answered-lists : {c : ℕ} → RefusedLists S N c → Answered S N K x C F P (refused c) C F P
-  unfolding storeMapRefusal
-  answered-lists {c} R =
-      untouched (λ (e : c ≡ 7). omega (arith, R .refusal, graph-refusal-most S N))
-      (record { is = refused-first R (later anyShort (badCounts (sizeOf S) K) (isNumbering (sizeOf S) x)); some = R .some })
+  answered-lists R = untouched (by-lists tests R) (lists-have R (λ c. used c ≡ false) refl refl refl refl)
 
   module _ (L : LegalLists S N) where
-    refusal : {s b n : Bool} → anyShort ≡ s → badCounts (sizeOf S) K ≡ b → isNumbering (sizeOf S) x ≡ n → code ≡ later s b n
-    unfolding storeMapRefusal
-    refusal p k q = legal-next L (later anyShort (badCounts (sizeOf S) K) (isNumbering (sizeOf S) x)) ∙ rw (p, k, q)
-
     -- 5
     pub answered-5 : anyShort ≡ true → Answered S N K x C F P (refused 5) C F P
-    answered-5 s = untouched (λ e. omega arith) (record { is = refusal s refl refl; some = omega arith })
+    answered-5 s = untouched (by-short tests L s) refl
 
     module _ (room : anyShort ≡ false) where
       -- 15
       pub answered-15 : badCounts (sizeOf S) K ≡ true → Answered S N K x C F P (refused 15) C F P
-      answered-15 k = untouched (λ e. omega arith) (record { is = refusal room k refl; some = omega arith })
+      answered-15 k = untouched (by-next tests L room k (omega arith)) refl
 
       -- none of the three lists is short
       two : short C (sizeOf S) || short F (maxCount * sizeOf S) ≡ false
@@ -103,22 +94,27 @@ module _ (S N K x C F P : List ℕ) where
 
         -- 7: the n scratch words 0
         pub answered-7 : isNumbering (sizeOf S) x ≡ false → Answered S N K x C F P (refused 7) (zeroed (sizeOf S) C) F P
-        unfolding storeMapAnswer storeMapFirst storeMapPlace
+        unfolding storeMapAnswer storeMapScratch storeMapFirst storeMapPlace
         answered-7 f =
-            let R : Refuses code 7 = record { is = refusal room fit f; some = omega arith } in
-            record { answer = answer-stays R _; scratch = zeroed-scratch 7 refl (R .is); first = buffer-stays R _; place = buffer-stays R _ }
+            let R = by-last (past-next tests fit) L room (ap not f) (omega arith) in
+            record {
+              answer = answer-stays R _;
+              scratch = scratch-used used (sizeOf S) C (R .is) refl;
+              first = buffer-stays R _;
+              place = buffer-stays R _;
+            }
 
         -- none: the fronts of the two lists are new
         pub answered-0 : isNumbering (sizeOf S) x ≡ true → {r u : ℕ} {f p : List ℕ} → r ≡ profile h → u ≡ sum K
             → f ≡ firstColumns h → p ≡ rowStarts h
             → Answered S N K x C F P (accepted (record { profile = r; unknowns = u })) (zeroed (sizeOf S) C) (f ++ drop u F) (p ++ drop (u + 1) P)
-        unfolding storeMapAnswer storeMapFirst storeMapPlace mapFigures
+        unfolding storeMapAnswer storeMapScratch storeMapFirst storeMapPlace mapFigures
         answered-0 t {r} {u} er eu ef ep =
-            let A : Accepts code = record { is = refusal room fit t } in
+            let A = by-none (past-next tests fit) L room (ap not t) in
             let many : h .size ≡ u = renumbered-unknowns-size (graphOf S N) K x (counts-size (sizeOf S) K fit) t ∙ sym eu in
             record {
               answer = answer-new A (λ i. record { profile = er i; unknowns = sym many i });
-              scratch = zeroed-scratch 0 refl (A .is);
+              scratch = scratch-used used (sizeOf S) C (A .is) refl;
               first = buffer-new A u F ef (columns-length h ∙ many);
               place = buffer-new A (u + 1) P ep (starts-length h ∙ ap (λ (k : ℕ). k + 1) many);
             }
