@@ -16,15 +16,15 @@
    UNKNOWNS. A node has one to six unknowns, a hinge node three and a shell node six, and the store is laid out in unknowns. `counts` has exactly
    n words: how many unknowns each node has, by node. A caller with one unknown a node hands n ones, and gets what these calls gave before
    version 1.6.0. The unknowns take consecutive numbers in the order of the new numbers of their nodes. Any two of one node adjoin, and any two of
-   two nodes that adjoin. There are at most 24,576. The six calls that number, measure, map the store, eliminate or report a part
-   take the counts.
+   two nodes that adjoin. There are at most 24,576. The seven calls that number, import a numbering, measure, map the store, eliminate or report a
+   part take the counts.
      in unknowns   bandwidth, profile and front; the width of wagonepoch_run, wagonepoch_reverse_cuthill_mckee and wagonepoch_part_report; the
                    rows and places of the store, marks and joined pairs, and so the length of the mark bytes
      in nodes      new numbers, parts, levels and passes; sizes and widths of wagonepoch_rooted_levels, wagonepoch_ends and
                    wagonepoch_combined_levels; n, and so the length of every other list: also that of the two lists of
                    wagonepoch_store_map, which are as long as six unknowns a node would need
 
-   ANSWERS. 0, or the number of the first test that refuses. Tests run in this order, 15 between 5 and 6:
+   ANSWERS. 0, or the number of the first test that refuses. Tests run in this order, 15 between 5 and 6, and 13 before 7:
 
      1   n is 0 or over 4,096, or `starts` is empty
      2   the first start is not 0, starts fall, or the last start is not the length of `neighbours` or is over 32,768
@@ -33,8 +33,10 @@
      5   a lent list is short, `figures` too, the mark bytes excepted
      15  a count is not 1 to 6, or `counts` has not n words
      6   the node given is 0 or above n
+     13  `pairs` has an odd number of words, or an old number given twice or outside 1 to n
      7   the numbering given is not n words, each of 1..n once
      8   the mark bytes are short
+     14  bandwidth, profile or front is not what wagonepoch_measures finds
      9   unknown element kind, or a record runs past the end
      10  an element's node is 0 or above n
      11  over 32,768 neighbour entries result
@@ -44,7 +46,7 @@
 
    WHAT IS LEFT. Where a call answers 0 its figures stand in the front of `figures`, its results in the front of their lists, and the scratch
    words that it asks for are 0. A longer list keeps its excess. A refusal leaves every lent list as it was, but for the first n scratch words,
-   which are 0 after 7, 8 and 11. Lent lists need not be cleared.
+   which are 0 after 7, 8, 11 and 14. Lent lists need not be cleared.
 
    ONE CALL AFTER ANOTHER. wagonepoch_mesh makes the two lists, wagonepoch_run or wagonepoch_reverse_cuthill_mckee the numbers of their nodes,
    wagonepoch_store_map the places of the store by both, and wagonepoch_eliminate its marks. That these go together holds as long as all but the
@@ -184,6 +186,23 @@ uint16_t wagonepoch_reverse_cuthill_mckee(const uint16_t *starts, size_t starts_
                                           uint16_t *passes, size_t passes_len,
                                           uint16_t *scratch, size_t scratch_len,
                                           uint64_t *figures, size_t figures_len);
+
+/* A numbering from another mesh tool, with the figures that its supplier sent: whether it is one, and whether they are those of our measures.
+   `pairs` has two words for each listed node, old number then new, in any order; a node that is not listed keeps its own number. It may be empty,
+   and may list a node with its own number. `bandwidth`, `profile` and `front` are in unknowns, and are compared whole, to the last of their 64 bits.
+   Lent: numbers n (the new number of each node, listed or not), scratch n. No figures.
+   The n numbers of wagonepoch_run or wagonepoch_reverse_cuthill_mckee, listed in any order, with or without the nodes that keep their number, are
+   accepted with its third, fourth and fifth figure and the same counts, and come back whole.
+   The call has 8 KB of its own on the stack.
+   Refusals: 1 to 5, 15, 13, and 7 and 14, which leave the first n scratch words 0. Where new numbers are 0, above n or taken twice, also by a node
+   that keeps its own, it is 7. */
+uint16_t wagonepoch_import_numbering(const uint16_t *starts, size_t starts_len,
+                                     const uint16_t *neighbours, size_t neighbours_len,
+                                     const uint16_t *counts, size_t counts_len,
+                                     const uint16_t *pairs, size_t pairs_len,
+                                     uint64_t bandwidth, uint64_t profile, uint64_t front,
+                                     uint16_t *numbers, size_t numbers_len,
+                                     uint16_t *scratch, size_t scratch_len);
 
 /* Elimination under a numbering of the nodes, as for the measures: which places of the store are ever used.
    Here p, q and r are unknowns by their numbers. With f_q the least of q and the unknowns that adjoin q, the pair p < q with p >= f_q has place

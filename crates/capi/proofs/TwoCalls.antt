@@ -71,7 +71,7 @@ module _ (whole : Run) {result : ℕ → PartResult} (S N K X₀ L₀ P₀ P X L
   unfolding figuresC written
   figures-are = rw (numbering-figures, passed .0, answer-is) (read-back (whole .figures) P₀)
 
-  numbering-claim : ClaimAs whole result S N K (figuresIn P) (take (sizeOf S) X) (take (sizeOf S) L)
+  pub numbering-claim : ClaimAs whole result S N K (figuresIn P) (take (sizeOf S) X) (take (sizeOf S) L)
   unfolding lentC
   numbering-claim = rw (figures-are, numbering-numbers, numbering-levels, passed .0) (claims (whole .figures) answer-is)
 

@@ -1,7 +1,7 @@
 -- The number that C is told, of an answer of the library. Assumes nothing.
-use mathlib.Core.Path.{_≡_, refl, sym, ap, _∙_}
+use mathlib.Core.Path.{_≡_, sym, ap, _∙_}
 use Prim.Native.Nat.{ℕ}
-use Rattle.spec.specs.Lent.{Outcome, accepted, refused, outcome}
+use Rattle.spec.specs.Lent.{outcome}
 use Rattle.laws.proofs.Lent.{outcome-accepted, outcome-refused}
 use Rattle.numbering_import.specs.Answer.{meaning}
 use Rattle.numbering_import.specs.declared.answer.ImportAnswer.{ImportAnswer}

@@ -28,7 +28,13 @@ pub fn import_numbering(
         front: front,
     };
     match numbering_import::import_numbering(
-        starts, neighbours, counts, pairs, sent, numbers, scratch,
+        starts,
+        neighbours,
+        counts,
+        pairs,
+        sent,
+        numbers,
+        scratch,
     ) {
         ImportAnswer::Accepted => 0,
         ImportAnswer::Refused(c) => c,

@@ -15,7 +15,6 @@ use Rattle.spec.specs.CallsNumbering.{MeasureFigures, measureFigures}
 use Rattle.spec.specs.Graph.{graphOf, sizeOf}
 use Rattle.spec.specs.Lent.{Outcome, accepted, refused, outcome, filled, zeroed, scratchAfter}
 use Rattle.spec.specs.Measures.{isNumbering, orderOf}
-use Rattle.spec.specs.Refusal.{refuse, _orElse_}
 use Rattle.spec.specs.Unknowns.{renumberedUnknowns}
 use Rattle.laws.proofs.Lent.{zeroed-all}
 use Rattle.graph.proofs.Ways.{Refuses, answer-stays, buffer-stays}

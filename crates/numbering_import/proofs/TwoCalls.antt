@@ -17,13 +17,13 @@ use Rattle.laws.proofs.Import.{numbered-import}
 
 -- A is the meaning of what the numbering call answered, X and L are what it left. Its numbers are handed over by any listing ps of them; E is the
 -- meaning of what this call answered, lent B and C, and B′ is what it left in the numbers: refused by nothing but a short buffer, it hands them back.
-pub two-calls : {whole : Run} {result : ℕ → PartResult} {S N K B C B′ : List ℕ} (X L : List ℕ) {A : Outcome Figures} {E : Outcome (Unit {0})}
+pub two-calls : {whole : Run} {result : ℕ → PartResult} (S N K X L B C : List ℕ) {B′ : List ℕ} {A : Outcome Figures} {E : Outcome (Unit {0})}
     → ((F : Figures) → A ≡ accepted F → NumberedAs whole result S N K F (take (sizeOf S) X) (take (sizeOf S) L))
     → (F : Figures) → A ≡ accepted F → (ps : List ℕ) → Listing (sizeOf S) (take (sizeOf S) X) ps
     → E ≡ importAnswer S N K (pairsOf (take (sizeOf S) X) ps) (threeOf F) B C
     → B′ ≡ importNumbers S N K (pairsOf (take (sizeOf S) X) ps) (threeOf F) B C
     → (E ≡ outcome (refuse (short B (sizeOf S) || short C (sizeOf S)) 5) tt)
     × (B′ ≡ filled (refuse (short B (sizeOf S) || short C (sizeOf S)) 5) (take (sizeOf S) X) B)
-two-calls {B = B} {C} X L ran F e ps listed answered left =
+two-calls S N K X L B C ran F e ps listed answered left =
     let I = numbered-import (ran F e) in
     (answered ∙ I .accepts ps B C listed, left ∙ I .whole ps B C listed)

@@ -37,7 +37,12 @@ fn numbering_refusal(
     let n = words.len();
     if graph_envelope::legal::numbered(numbering, n, words) {
         let found = numbering_measures::legal::figures(
-            starts, neighbours, counts, numbering, words, total,
+            starts,
+            neighbours,
+            counts,
+            numbering,
+            words,
+            total,
         );
         if same_figures(sent, found) { 0 } else { 14 }
     } else {

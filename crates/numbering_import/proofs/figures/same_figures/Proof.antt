@@ -1,6 +1,5 @@
 -- `numbering_import::figures::same_figures` meets its contract: each figure is compared whole. Assumes nothing.
-use mathlib.Core.Path.{_≡_, sym, ap, _∙_}
-use Prim.Native.Nat.{ℕ}
+use mathlib.Core.Path.{sym, ap, _∙_}
 use borrow.Author.Needs.{needs}
 use lib.Dec.{eqb}
 use Rattle.numbering_ones.specs.Three.{three}

@@ -1,12 +1,11 @@
 -- `numbering_import::numbers::put_pairs` meets its contract: the pairs passed are put over the nodes' own numbers. Assumes nothing.
 use mathlib.Core.Path.{_≡_, refl, sym, ap, _∙_}
 use mathlib.Core.List.{List}
-use Prim.Native.Nat.{ℕ, _+_, _-_, _*_, _≤_, _<_}
+use Prim.Native.Nat.{ℕ, _-_, _≤_}
 use native.Mathlib.Omega.{arith}
 use borrow.Author.Needs.{needs}
 use denote.Ref.{now}
 use lib.ListN.{length, getD, length-set}
-use Rattle.basis.specs.Lists.{upFrom}
 use Rattle.basis.proofs.ByNumber.{wordOf}
 use Rattle.basis.proofs.Puts.{puts-none, puts-step}
 use Rattle.spec.specs.CallsImport.{oldNumbers}

@@ -1,5 +1,5 @@
 -- `numbering_import::numbers::supply` meets its contract: own numbers, and the pairs over them. Assumes nothing.
-use mathlib.Core.Path.{_≡_, sym, ap, _∙_}
+use mathlib.Core.Path.{sym, ap, _∙_}
 use Prim.Native.Nat.{ℕ}
 use borrow.Author.Needs.{needs}
 use denote.Ref.{now}
