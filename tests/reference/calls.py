@@ -1,4 +1,4 @@
-"""The entry points with their lent buffers and refusals; document 01's 'Lent buffers' and table, with A.2, A.3, A.6, A.7 and A.9 of document 02.
+"""The entry points with their lent buffers and refusals; document 01's 'Lent buffers' and table, with A.2, A.3, A.5, A.6, A.7 and A.9 of document 02.
 
 Every call answers ('accepted', tuple) or ('refused', number).
 A.6: "Calls that number, measure, eliminate or report a part take the counts", behind the neighbours.
@@ -11,6 +11,7 @@ from cuthill import reverse_cuthill_mckee as cuthill_of_graph
 from ends import ends_of_part
 from graph import (MOST_ENTRIES, adjacency_refusal, from_edges, lists_of, part_of,
                    rows_of, small_graphs, wrong_node_count)
+from imported import full_numbering, wrong_pairs
 from levels import by_old_number, depth, size_list, width
 from levels import rooted_levels as levels_from
 from listing import (MOST_FILE_WORDS, count_refusal, counts_of_file, element_refusal, header_refusal,
@@ -200,6 +201,34 @@ def measures(starts, neighbours, counts, numbering, scratch):
         return refused(7)
     adjoins = adjoining_of(starts, neighbours, counts, numbering)
     return accepted(bandwidth(adjoins), profile(adjoins), front(adjoins))
+
+
+def import_numbering(starts, neighbours, counts, pairs, bandwidth, profile, front, numbers, scratch):
+    """(); the three figures are in unknowns"""
+    number = adjacency_refusal(starts, neighbours)
+    if number:
+        return refused(number)
+    n = len(starts) - 1
+    # "a lent numbering of n words and scratch n"
+    if is_short((numbers, n), (scratch, n)):
+        return refused(5)
+    # A.6: 15 comes "after 5, ahead of 6, 7 and 13"
+    if wrong_counts(n, counts):
+        return refused(15)
+    # "13 .. tested after 5; then 7; then 14"; it leaves the scratch words "untouched"
+    if wrong_pairs(n, pairs):
+        return refused(13)
+    numbering = full_numbering(n, pairs)
+    # The n scratch words are 0 for refusals 7 and 14 as well as when accepted: the measures leave them so.
+    state, value = measures(starts, neighbours, counts, numbering, scratch)
+    if state == 'refused':
+        return refused(value)
+    # "the three figures are those of our measures"
+    if value != (bandwidth, profile, front):
+        return refused(14)
+    # "It hands the full numbering back in the lent one."
+    put(numbers, numbering)
+    return accepted()
 
 
 def elimination(starts, neighbours, counts, numbering, scratch, mark_bytes):

@@ -20,15 +20,15 @@ def calls_with_counts():
 
 
 def counts_refused(checks):
-    """15 comes after 5 and ahead of 6, 7 and 8, and nothing is written."""
+    """15 comes after 5 and ahead of 6, 7, 8 and 13, and nothing is written."""
     for name, call, more, sizes in calls_with_counts():
         for counts in WRONG_COUNTS:
             case = '%s, %d counts from %r' % (name, len(counts), counts[:1])
             lent = [words(3 * size + 1) for size in sizes]
             untouched(checks, case, call, [*PATH, counts] + more, lent + mark_bytes_of(name, 9), 15)
-            # A wrong node or numbering, and no mark bytes.
+            # A wrong node, numbering or list of pairs, and no mark bytes.
             for wrong in [0, 4, 65535] if more == [1] else [[], [1, 1, 2], [1, 2, 3, 4]] if more else []:
-                untouched(checks, case + ', given %r' % wrong, call, [*PATH, counts, wrong], lent + mark_bytes_of(name, 0), 15)
+                untouched(checks, case + ', given %r' % wrong, call, [*PATH, counts, wrong] + more[1:], lent + mark_bytes_of(name, 0), 15)
             for t in range(len(sizes)):
                 short = [words(3 * size - (i == t)) for i, size in enumerate(sizes)]
                 untouched(checks, case + ', buffer %d short' % t, call, [*PATH, counts] + more, short + mark_bytes_of(name, 0), 5)

@@ -78,6 +78,8 @@ ADJACENCY_CALLS = [
     ('measures', calls.measures, [ONES, [1, 2, 3]], [1]),
     ('elimination', calls.elimination, [ONES, [1, 2, 3]], [1]),
     ('run and eliminate', calls.run_and_eliminate, [ONES], [1, 1, 1, 6]),
+    # A.5: numbers 1, 3, 2 of PATH, and their figures.
+    ('import', calls.import_numbering, [ONES, [2, 3, 3, 2], 2, 2, 2], [1, 1]),
 ]
 
 
@@ -102,7 +104,7 @@ def short_buffers(checks):
             lent = [words(3 * size) for size in sizes]
             lent[t].pop()
             # 5 comes before 15, 6 and 7.
-            given = [0 if x == 1 else [] for x in more]
+            given = [0 if x == 1 else [] if isinstance(x, list) else x for x in more]
             untouched(checks, '%s, buffer %d short' % (name, t), call,
                       [*PATH] + given, lent + mark_bytes_of(name, 0), 5)
 
@@ -167,6 +169,8 @@ def accepted_buffers(checks):
             ('measures', calls.measures, [ones, [4, 1, 2, 3]], [words(5)], (3, 4, 3), [[0] * 4 + [OLD]]),
             ('elimination', calls.elimination, [ones, [4, 1, 2, 3]], [words(5), [OLD_BYTE] * 2], (3, 1),
              [[0] * 4 + [OLD], [0b111, OLD_BYTE]]),
+            ('import', calls.import_numbering, [ones, [2, 1, 3, 2, 4, 3, 1, 4], 3, 4, 3], [words(5), words(6)], (),
+             [[4, 1, 2, 3, OLD], [0] * 4 + [OLD, OLD]]),
             ('run and eliminate', calls.run_and_eliminate, [ones],
              [words(5), words(5), words(5), words(25), [OLD_BYTE] * 2],
              ((4, 2, 1, 2, 2, 4, 1), ('accepted', (2, 0))),
@@ -414,21 +418,21 @@ def any_words(rng):
 
 
 def random_input(checks):
-    """No call may fault; refusals 1 to 6 and 15 leave all lent words, whatever is handed in."""
+    """No call may fault; refusals 1 to 6, 13 and 15 leave all lent words, whatever is handed in."""
     rng = random.Random(1976)
     for _ in range(3000):
         starts = rng.choice([any_words(rng), [0] + sorted(any_words(rng))])
         neighbours = any_words(rng)
         for name, call, more, sizes in ADJACENCY_CALLS:
-            given = [rng.choice([0, 1, 2, 65535]) if x == 1 else any_words(rng) if x != ONES or rng.random() < 0.2
+            given = [rng.choice([0, 1, 2, 65535]) if isinstance(x, int) else any_words(rng) if x != ONES or rng.random() < 0.2
                      else [rng.randint(1, 6) for _ in starts[1:]] for x in more]
             lent = [words(rng.randint(0, 40)) for _ in sizes] + mark_bytes_of(name, rng.randint(0, 2))
             before = [list(buffer) for buffer in lent]
             state, value = call(starts, neighbours, *given, *lent)
-            if state == 'refused' and value in (1, 2, 3, 4, 5, 6, 15):
+            if state == 'refused' and value in (1, 2, 3, 4, 5, 6, 13, 15):
                 checks.equal(name + ', any words', lent, before)
             else:
-                checks.holds(name + ', any words', state == 'accepted' or value in (7, 8))
+                checks.holds(name + ', any words', state == 'accepted' or value in (7, 8, 14))
 
 
 def random_files(checks):
