@@ -21,8 +21,9 @@ TOP = os.path.dirname(os.path.dirname(HERE))
 sys.path[:0] = [os.path.join(TOP, 'tests', 'reference'), HERE]
 
 import graphs
+import imports
 import meshes
-from expected import of_file, of_graph, of_mesh, of_store
+from expected import of_file, of_graph, of_import, of_mesh, of_store
 
 HEAD = '''-- Made by compare.py. Assumes nothing.
 use Prim.Native.Nat.{ℕ}
@@ -43,6 +44,7 @@ use Rattle.spec.specs.CallsCuthill.{cuthillAnswer, cuthillNumbers, cuthillLevel
 use Rattle.spec.specs.CallsCuthill.{cuthillEliminateAnswer, cuthillEliminateBytes}
 use Rattle.spec.specs.CallsStore.{eliminationAnswer, eliminationScratch, eliminationBytes, runEliminateAnswer, runEliminateBytes}
 use Rattle.spec.specs.CallsMap.{storeMapAnswer, storeMapScratch, storeMapFirst, storeMapPlace}
+use Rattle.spec.specs.CallsImport.{importAnswer, importNumbers, importScratch}
 use Rattle.spec.specs.CallsMesh.{meshAnswer, meshStarts, meshNeighbours, meshScratch}
 use Rattle.spec.specs.Mesh.{startList, neighbourList}
 use Rattle.spec.specs.File.{fileCounts, fileGraph, fileRefusal, programOutput}
@@ -121,6 +123,10 @@ def main():
         wrong += run(folder, 'random graphs of 5 to 8 nodes', graphs.at_random(rng, asked.graphs * 2 // 3, 5, 8), of_graph_and_store)
         wrong += run(folder, 'random graphs of 9 to 12 nodes', graphs.at_random(rng, asked.graphs // 3, 9, 12), of_graph_and_store)
         wrong += run(folder, 'bad counts among other refusals', graphs.in_order(rng), of_graph)
+        wrong += run(folder, 'numberings from other tools, on all graphs of up to 4 nodes', imports.all_small(rng, 4), of_import)
+        wrong += run(folder, 'numberings from other tools, on random graphs', imports.at_random(rng, asked.graphs, 5, 10), of_import)
+        wrong += run(folder, 'numberings of the engine', imports.engine_made(rng, asked.graphs // 2), of_import)
+        wrong += run(folder, 'lists of pairs among other refusals', imports.in_order(), of_import)
         wrong += run(folder, 'meshes', meshes.mesh_inputs(rng, asked.files), of_mesh)
         wrong += run(folder, 'files', meshes.file_inputs(rng, asked.files), of_file)
         wrong += run(folder, 'files with counts', meshes.counted_inputs(rng), of_file)

@@ -87,6 +87,15 @@ def of_store(i):
     return rows
 
 
+def of_import(i):
+    """Equations for the call that takes a numbering from another tool; the supplier's figures are a record, behind the pairs."""
+    lists, lent = (i.starts, i.neighbours, i.counts, i.pairs), (i.numbers, i.scratch)
+    arguments = '%s %s %s' % (terms(*lists), record(MEASURE_FIGURES, i.figures), terms(*lent))
+    answer, after = called(calls.import_numbering, lists + tuple(i.figures), lent)
+    rows = [('importAnswer', outcome(answer, nothing))] + [(name, words(buffer)) for name, buffer in zip(('importNumbers', 'importScratch'), after)]
+    return [('%s %s' % (name, arguments), due) for name, due in rows]
+
+
 def of_mesh(i):
     """Equations for the mesh call."""
     return of_call(calls.mesh, (i.n, i.elements), (i.starts, i.neighbours, i.scratch),
