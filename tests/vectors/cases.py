@@ -22,10 +22,11 @@ from examples import GRAPHS
 from graph import degree, from_edges, lists_of, part_of, parts_of, pieces_of, rows_of, small_graphs
 from measures import profile
 from unknowns import MOST, ones, wrong_counts
-from vectors import PLACE_PATTERN, answer_text, byte_pattern, changed, number, of_words, pattern, place_pattern, shown
+from vectors import PLACE_PATTERN, answer_text, byte_pattern, changed, number, of_words, pattern, place_pattern, shown, wide_number
 
-# Given lists, a given node (n for the mesh), lengths of what is lent, 0 where nothing is said. `kind` says what the case is for.
-Case = namedtuple('Case', 'kind call starts neighbours counts given node first second third fourth bytes places', defaults=(0,) * 6)
+# Given lists, a given node (n for the mesh), lengths of what is lent and given figures, 0 where nothing is said. `kind` says what the case is for.
+Case = namedtuple('Case', 'kind call starts neighbours counts given node first second third fourth bytes places bandwidth profile front',
+                  defaults=(0,) * 9)
 
 # A call: its number in the program, the reference's call, and which of a case's fields it is given and lent, in its order.
 Call = namedtuple('Call', 'number reference given lent')
@@ -44,6 +45,7 @@ CALLS = {
     'reverse Cuthill-McKee': Call(11, calls.reverse_cuthill_mckee, 'starts neighbours counts', 'first second third fourth'),
     'reverse Cuthill-McKee and eliminate': Call(12, calls.cuthill_and_eliminate, 'starts neighbours counts', 'first second third fourth bytes'),
     'store map': Call(13, calls.store_map, 'starts neighbours counts given', 'first second places'),
+    'import': Call(14, calls.import_numbering, 'starts neighbours counts given bandwidth profile front', 'first second'),
 }
 
 # The calls with the run's buffers.
@@ -66,7 +68,9 @@ def encoded(c):
     assert len(c.given) <= MOST_GIVEN and c.bytes <= MOST_BYTES
     lists = b''.join(number(len(words)) + of_words(words) for words in (c.starts, c.neighbours, c.counts, c.given))
     lengths = b''.join(number(size) for size in (c.node, c.first, c.second, c.third, c.fourth, c.bytes))
-    return number(CALLS[c.call].number) + lists + lengths + (number(c.places) if has_places(c) else b'')
+    places = number(c.places) if has_places(c) else b''
+    figures = b''.join(wide_number(figure) for figure in (c.bandwidth, c.profile, c.front)) if 'front' in CALLS[c.call].given else b''
+    return number(CALLS[c.call].number) + lists + lengths + places + figures
 
 
 def has_places(c):

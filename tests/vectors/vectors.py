@@ -69,6 +69,11 @@ def number(value):
     return value.to_bytes(4, 'little')
 
 
+def wide_number(value):
+    """Eight bytes, low byte first."""
+    return value.to_bytes(8, 'little')
+
+
 def of_words(words):
     """Two bytes a word, low byte first."""
     return b''.join(word.to_bytes(2, 'little') for word in words)

@@ -6,6 +6,8 @@ use levels::answer::RootedAnswer;
 use libc::STDOUT_FILENO;
 use mesh::Entries;
 use numbering::answer::RunAnswer;
+use numbering_import::ImportAnswer;
+use numbering_import::SuppliedFigures;
 use numbering_measures::MeasuresAnswer;
 use numbering_report::answer::Direction;
 use numbering_report::answer::PartReport;
@@ -133,6 +135,44 @@ pub(crate) fn measures(
         MeasuresAnswer::Accepted(m) => {
             accepted(&[m.bandwidth as u64, m.profile as u64, m.front as u64])
         }
+    }
+}
+
+// The next figure of the input: two numbers, the low one first.
+fn figure() -> u64 {
+    let low = test_vectors::number() % 4294967296;
+    let high = test_vectors::number() % 4294967296;
+    (low + 4294967296 * high) as u64
+}
+
+// The three figures stand behind the case, which no other call has.
+pub(crate) fn import_numbering(
+    starts: &[u16],
+    neighbours: &[u16],
+    counts: &[u16],
+    pairs: &[u16],
+    numbers: &mut [u16],
+    scratch: &mut [u16],
+) {
+    let bandwidth = figure();
+    let profile = figure();
+    let front = figure();
+    let figures = SuppliedFigures {
+        bandwidth,
+        profile,
+        front,
+    };
+    match numbering_import::import_numbering(
+        starts,
+        neighbours,
+        counts,
+        pairs,
+        figures,
+        numbers,
+        scratch,
+    ) {
+        ImportAnswer::Refused(number) => refused(number),
+        ImportAnswer::Accepted => accepted(&[0u64; 0]),
     }
 }
 

@@ -1,8 +1,9 @@
 // Runs the entry points on cases from standard input and writes a line for each: the answer, and the end contents of what was lent. The cases
 // and the expected lines come from an independent program: tests/vectors/entry_points.py.
 //
-// A case: the call's number; four given lists (starts, neighbours, counts of unknowns, and a numbering or elements); a given node, or n; the
-// lengths of four lent lists and of the lent bytes, and for the store map that of its places. A call leaves alone what it doesn't need.
+// A case: the call's number; four given lists (starts, neighbours, counts of unknowns, and a numbering, pairs or elements); a given node, or n; the
+// lengths of four lent lists and of the lent bytes; then for the store map the length of its places, and for the call that takes a numbering
+// from another tool three figures. A call leaves alone what it doesn't need.
 mod calls;
 
 // One call.
@@ -29,6 +30,7 @@ fn run(
         7 => calls::combined(starts, neighbours, node, first, second),
         10 => calls::part_report(starts, neighbours, counts, node, first),
         13 => calls::store_map(starts, neighbours, counts, given, first, second),
+        14 => calls::import_numbering(starts, neighbours, counts, given, first, second),
         _ => calls::number(
             call,
             starts,
