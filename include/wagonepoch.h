@@ -48,9 +48,10 @@
    words that it asks for are 0. A longer list keeps its excess. A refusal leaves every lent list as it was, but for the first n scratch words,
    which are 0 after 7, 8, 11 and 14. Lent lists need not be cleared.
 
-   ONE CALL AFTER ANOTHER. wagonepoch_mesh makes the two lists, wagonepoch_run or wagonepoch_reverse_cuthill_mckee the numbers of their nodes,
-   wagonepoch_store_map the places of the store by both, and wagonepoch_eliminate its marks. That these go together holds as long as all but the
-   first are handed the same counts, and nobody writes the two lists or the numbers between the calls. */
+   ONE CALL AFTER ANOTHER. wagonepoch_mesh makes the two lists, wagonepoch_run or wagonepoch_reverse_cuthill_mckee the numbers of their nodes, or
+   wagonepoch_import_numbering takes them from another tool; wagonepoch_store_map makes the places of the store by both, and wagonepoch_eliminate
+   its marks. That these go together holds as long as all but the first are handed the same counts, and nobody writes the two lists or the numbers
+   between the calls. */
 
 #ifndef WAGONEPOCH_H
 #define WAGONEPOCH_H
@@ -188,11 +189,12 @@ uint16_t wagonepoch_reverse_cuthill_mckee(const uint16_t *starts, size_t starts_
                                           uint64_t *figures, size_t figures_len);
 
 /* A numbering from another mesh tool, with the figures that its supplier sent: whether it is one, and whether they are those of our measures.
-   `pairs` has two words for each listed node, old number then new, in any order; a node that is not listed keeps its own number. It may be empty,
-   and may list a node with its own number. `bandwidth`, `profile` and `front` are in unknowns, and are compared whole, to the last of their 64 bits.
+   `pairs` has two words for each listed node, old number then new, in any order, as NASTRAN's SEQGP cards have them; a node that is not listed
+   keeps its own number. It may be empty, and may list a node with its own number. `bandwidth`, `profile` and `front` are in unknowns, and are
+   compared whole, to the last of their 64 bits.
    Lent: numbers n (the new number of each node, listed or not), scratch n. No figures.
    The n numbers of wagonepoch_run or wagonepoch_reverse_cuthill_mckee, listed in any order, with or without the nodes that keep their number, are
-   accepted with its third, fourth and fifth figure and the same counts, and come back whole.
+   accepted with its third, fourth and fifth figure and the same counts, and come back whole; so is every numbering with the figures of its measures.
    The call has 8 KB of its own on the stack.
    Refusals: 1 to 5, 15, 13, and 7 and 14, which leave the first n scratch words 0. Where new numbers are 0, above n or taken twice, also by a node
    that keeps its own, it is 7. */
