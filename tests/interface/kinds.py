@@ -4,6 +4,7 @@ import cases
 import counted_cases
 import idle_cases
 import mapped_cases
+import pair_cases
 import paper
 import shapes
 from calls import reverse_cuthill_mckee, scratch_words, whole_run
@@ -51,6 +52,8 @@ def every_call(kind, graph, node, numbering, n):
     yield Case(kind, 'whole run', *graph, [], 0, n, n, n, scratch_words(n))
     yield Case(kind, 'reverse Cuthill-McKee', *graph, [], 0, n, n, n, scratch_words(n))
     yield Case(kind, 'measures', *graph, numbering, 0, n)
+    pairs = [word for pair in enumerate(numbering[:n], 1) for word in pair]
+    yield pair_cases.of_pairs(kind, graph, pairs, pair_cases.figures_for(graph, numbering), n, n)
     need = cases.byte_count(graph, numbering) if len(lists[0]) == n + 1 else 2
     yield Case(kind, 'elimination', *graph, numbering, 0, n, bytes=need)
     yield cases.store_map(kind, graph, numbering, cases.map_lengths(n))
@@ -80,6 +83,10 @@ def wide():
     # the counts of three nodes: as many words as sixteen bits would take for 3, and such as eight bits would take for 1 and 6
     for counts in ([1] * 65539, [1, 1, 1] + [0] * 65536, [257] * 3, [262] * 3, [65535] * 3, [32769] * 3):
         yield from every_call(kind, (*from_edges(*shapes.path(3)), counts), 1, [1, 2, 3], 3)
+    # pairs of three nodes: as many words as sixteen bits would take for none, two, six and an even number, all else right
+    path = (*from_edges(*shapes.path(3)), ones(3))
+    for pairs in ([1, 1] * 32768, [2, 2] + [1, 1] * 32768, [1, 1, 2, 2, 3, 3] + [0] * 65536, [1] * 65537, [3, 3] * 100000):
+        yield pair_cases.of_pairs(kind, path, pairs, (1, 2, 2), 3, 3)
     for n in (65536, 65539, 2 ** 32 + 3, 2 ** 63, 2 ** 64 - 1):
         yield Case(kind, 'mesh', [], [], [], [1, 1, 2], n, 4, 32768, 4)
     for words in ([65535], [10, 65535], [1, 65535, 1], [1, 4096, 1] + [65535] * 65535):
@@ -194,6 +201,7 @@ def at_random(draw, count):
     yield from cases.cuthill_orders(draw, count // 5)
     yield from counted_cases.turned_by_counts(draw, count // 5)
     yield from mapped_cases.at_random(draw, count // 2)
+    yield from pair_cases.at_random(draw, count // 5)
 
 
 def some(draw, count):
@@ -201,7 +209,8 @@ def some(draw, count):
     for made in (cases.small(draw, 1, 5), cases.of_table(draw), of_paper(draw, 20), at_random(draw, count), cases.limits(draw), wide(),
                  cases.of_many_parts(draw), cases.collapsed_meshes(), cases.full_meshes(), cases.long_meshes(), cases.scratch_sizes(draw),
                  cases.level_sizes(draw), counted_cases.wrong_lists(draw), counted_cases.as_many_each(draw), mapped_cases.maps(draw, count // 5),
-                 full_size(draw)):
+                 full_size(draw), pair_cases.small(draw, 4), pair_cases.every_list(draw), pair_cases.every_figure(draw),
+                 pair_cases.at_each_place(draw), pair_cases.limits(draw)):
         for c in made:
             yield from of_case(draw, c)
     yield from among_ones(draw, 12)
@@ -213,7 +222,7 @@ def some(draw, count):
 
 def more(draw, count):
     """What every further round of a long run adds: random kinds, and full size with the nodes named anew."""
-    for made in (cases.some_of_five(draw, count), at_random(draw, count), cases.of_full_size(draw)):
+    for made in (cases.some_of_five(draw, count), at_random(draw, count), cases.of_full_size(draw), pair_cases.full_size(draw)):
         for c in made:
             yield from of_case(draw, c)
     yield from among_ones(draw, 12)

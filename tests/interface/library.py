@@ -11,7 +11,7 @@ from header import declared
 
 SHARED = os.path.join(TOP, 'target', 'staticlib', 'libcapi.so')
 CODES = {'uint8_t': 'B', 'uint16_t': 'H', 'uint32_t': 'I', 'uint64_t': 'Q'}
-NUMBERS = {'uint16_t': ctypes.c_uint16, 'size_t': ctypes.c_size_t}
+NUMBERS = {'uint16_t': ctypes.c_uint16, 'uint64_t': ctypes.c_uint64, 'size_t': ctypes.c_size_t}
 
 # Elements behind the end of every list: no call may write them. They also keep the pointer of an empty list from being null.
 BEHIND = 8

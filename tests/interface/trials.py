@@ -37,6 +37,7 @@ FUNCTIONS = {
     'measures': ('measures',), 'part report': ('part_report',), 'whole run': ('run',), 'reverse Cuthill-McKee': ('reverse_cuthill_mckee',),
     'elimination': ('eliminate',), PAIRS[0]: ('run', 'eliminate'), PAIRS[1]: ('reverse_cuthill_mckee', 'eliminate'), 'mesh': ('mesh',),
     TURNED_BACK: ('reverse_cuthill_mckee', 'measures', 'eliminate'), 'store map': ('store_map',), MAPPED: ('run', 'store_map'),
+    'import': ('import_numbering',),
 }
 # Eliminations of a star whose centre has number 1, one unknown each and enough of everything lent: by sums, where the reference would take hours.
 STAR = 'star, centre first'
