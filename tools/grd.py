@@ -35,6 +35,8 @@ MEANING = {
     10: 'an element has a node that is 0 or above n',
     11: 'the elements give more than 32,768 neighbour entries',
     12: 'this is no GRD file of version 1 or 2: wrong first letters or version, more than 65,535 bytes or fewer than 9, or bytes missing or left over',
+    13: 'the given pairs are an odd number of words, or an old number is 0, above n or given twice',
+    14: 'the bandwidth, profile or front given is not that of the numbering',
     15: "a node's count of unknowns is not 1 to 6",
 }
 

@@ -142,35 +142,35 @@ def included_name(line, text):
 
 # Cards from lines.
 
-def cards(lines):
-    """Each card with the fields of all its lines, continuation marks left out."""
+def cards(lines, read=frozenset(CARDS)):
+    """Each card with the fields of all its lines, continuation marks left out. Of the cards of these names every field is read."""
     card, mark = None, ''
     for line, text in lines:
         name, fields, next_mark = split(line, text)
         if name[:1] in ('', '+', '*'):
             if card is None:
                 raise Fault(line, 'a continuation without a card before it')
-            go_on(card, mark, line, name, fields)
+            go_on(card, mark, line, name, fields, read)
         else:
             if card:
-                yield ended(card, mark)
+                yield ended(card, mark, read)
             card = Card(line, name.rstrip('*').rstrip().upper(), fields)
-        test_room(card, line, name, fields)
+        test_room(card, line, name, fields, read)
         mark = next_mark
     if card:
-        yield ended(card, mark)
+        yield ended(card, mark, read)
 
 
-def test_room(card, line, name, fields):
+def test_room(card, line, name, fields, read):
     """A card that is read must have no fields beyond its line; others, such as equations, may."""
     room = 4 if large(name) else 8
-    if len(fields) > room and (card.name in CARDS or card.name == 'GRID'):
+    if len(fields) > room and (card.name in read or card.name == 'GRID'):
         raise Fault(line, '%d fields in a line, and it has room for %d' % (len(fields) + 1, room + 2))
 
 
-def go_on(card, mark, line, name, fields):
+def go_on(card, mark, line, name, fields, read):
     """The fields of one more line."""
-    if card.name in CARDS and label(mark) and label(name) and label(mark) != label(name):
+    if card.name in read and label(mark) and label(name) and label(mark) != label(name):
         raise Fault(line, 'continuation %s does not follow its card, which ends with %s' % (name, mark))
     if not large(name):
         # the second half of a large-field pair may be left out
@@ -178,9 +178,9 @@ def go_on(card, mark, line, name, fields):
     card.fields.extend(fields)
 
 
-def ended(card, mark):
-    """A connection card must have the continuation that it asks for: without it a wedge of 15 nodes would pass for one of 6."""
-    if card.name in CARDS and mark[:1] in ('+', '*') and label(mark):
+def ended(card, mark, read):
+    """A card that is read must have the continuation that it asks for: without it a wedge of 15 nodes would pass for one of 6."""
+    if card.name in read and mark[:1] in ('+', '*') and label(mark):
         raise Fault(card.line, 'card %s ends with %s, and its continuation does not follow' % (card.name, mark))
     return card
 

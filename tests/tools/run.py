@@ -13,6 +13,7 @@ import cover_cases
 import drawing_cases
 import explain_cases
 import export_cases
+import from_seqgp_cases
 import gmsh_cases
 import grd_cases
 import nastran_cases
@@ -28,7 +29,7 @@ import thickness_cases
 def main():
     counted = harness.Cases()
     for module in (grd_cases, cover_cases, gmsh_cases, abaqus_cases, nastran_cases, collapsed_cases, slip_cases, export_cases,
-                   command_cases, counts_cases, output_cases, seqgp_cases, picture_cases, drawing_cases, page_cases, thickness_cases, explain_cases,
+                   command_cases, counts_cases, output_cases, seqgp_cases, from_seqgp_cases, picture_cases, drawing_cases, page_cases, thickness_cases, explain_cases,
                    archive_cases, script_cases):
         try:
             module.cases(counted)
