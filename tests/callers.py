@@ -1,11 +1,13 @@
 #!/usr/bin/env python3
 """The examples in C, Fortran and Rust: built over the static library, run on three meshes and on broken files, held to the independent program.
 
-`renumber` must print what the program prints for every file, so it is run on many, and `orders` on a tenth of them; `hinge` has a mesh of its own.
+`renumber` must print what the program prints for every file, so it is run on many, and `orders` on a tenth of them; `hinge` has a mesh of its own;
+`import` is run on the three meshes with numberings of ours and others, and so is tools/from_seqgp.py, by the library and by the independent program.
 One without its compiler here is skipped, as 'skipped: no gfortran'. The library is built first where it is older than the crates.
 """
 
 import os
+import random
 import shutil
 import subprocess
 import sys
@@ -32,6 +34,7 @@ EXAMPLES = {
     'renumber': ('cc', C_WORDS.format('renumber', 'renumber')),
     'orders': ('cc', C_WORDS.format('orders', 'orders')),
     'hinge': ('cc', C_WORDS.format('hinge', 'hinge')),
+    'import': ('cc', C_WORDS.format('import', 'import')),
     'Fortran': ('gfortran', '-std=f2008 -Wall -Werror -fcheck=all -O2 -J {out} examples/fortran/wagonepoch.f90 examples/fortran/bracket.f90 '
                 + LIBRARY + ' -o {out}/Fortran'),
     'Rust': ('rustc', '--edition 2021 -D warnings -O -L target/staticlib -l static=capi examples/rust/bracket.rs -o {out}/Rust'),
@@ -122,6 +125,91 @@ def expected_hinge():
     ]) + '\n'
 
 
+def paired(numbers, kept):
+    """The pairs of a numbering, by a fixed draw in another order, with or without the nodes that keep their number."""
+    pairs = [pair for pair in enumerate(numbers, 1) if kept or pair[0] != pair[1]]
+    return [word for pair in random.Random(5).sample(pairs, len(pairs)) for word in pair]
+
+
+def numberings(file):
+    """Pairs and figures for `import`: of the run, of reverse Cuthill-McKee and of the old order, and such as are refused."""
+    lists = lists_of(file)
+    n = len(lists[0]) - 1
+    (run, _, figures), (reverse, _, others) = [order(call, *lists) for call in (calls.whole_run, calls.reverse_cuthill_mckee)]
+    pairs, found = paired(run, True), list(figures[2:5])
+    return {'run': (pairs, found), 'reverse Cuthill-McKee': (paired(reverse, False), list(others[2:5])),
+            'old order': ([], list(value(calls.measures(*lists, list(range(1, n + 1)), [0] * n)))), 'wrong front': (pairs, found[:2] + [found[2] + 1]),
+            'wide profile': (pairs, [found[0], found[1] + 2 ** 32, found[2]]), 'a pair again': (pairs + pairs[:2], found), 'odd': (pairs[:-1], found),
+            'no number': (pairs[:-1] + [n + 1], found), 'no node': ([0] + pairs[1:], found), 'long': (pairs * 40, found)}
+
+
+def expected_import(file, pairs, figures):
+    """What `import` prints, and its status."""
+    lists = lists_of(file)
+    n = len(lists[0]) - 1
+    numbers = [0] * n
+    text = 'mesh: nodes {} unknowns {} entries {}\n'.format(n, sum(lists[2]), len(lists[1]))
+    kind, number = calls.import_numbering(*lists, pairs, *figures, numbers, [0] * n)
+    if kind == 'refused':
+        return text + 'import: refused {}\n'.format(number), 1
+    counts = value(calls.elimination(*lists, numbers, [0] * n, [0] * ((figures[1] + 7) // 8)))
+    return text + 'import: pairs {} bandwidth {} profile {} front {}\n'.format(len(pairs) // 2, *figures) + 'store: places {} marked {} new {}\n'.format(
+        figures[1], *counts), 0
+
+
+def try_import(meshes, out):
+    """The same as try_example, of `import`, which is handed two files."""
+    why, made = built('import', out), 0
+    if why:
+        return why
+    for name, file in meshes.items():
+        for kind, (pairs, figures) in numberings(file).items():
+            made += 1
+            with open(os.path.join(out, 'mesh'), 'wb') as f, open(os.path.join(out, 'pairs'), 'w') as g:
+                f.write(file)
+                g.write(' '.join(map(str, figures + pairs)) + '\n')
+            run = subprocess.run([os.path.join(out, word) for word in ('import', 'mesh', 'pairs')], stdout=subprocess.PIPE, text=True)
+            due = expected_import(file, pairs, figures)
+            if (run.stdout, run.returncode) != due:
+                print('import, %s, %s: printed\n%swith status %d, wanted\n%swith status %d' % (name, kind, run.stdout, run.returncode, *due))
+                return 'FAILED: ' + name
+    return 'ok (%d numberings)' % made
+
+
+def of_cards(mesh, out, *words):
+    """What tools/from_seqgp.py says of the cards in `cards`, its status, and what it writes."""
+    path = os.path.join(out, 'numbering')
+    if os.path.exists(path):
+        os.remove(path)
+    run = subprocess.run([sys.executable, 'tools/from_seqgp.py', 'examples/%s.grd' % mesh, os.path.join(out, 'cards'), '-o', path, *words],
+                         stdout=subprocess.PIPE, stderr=subprocess.STDOUT, text=True)
+    text = ''
+    if os.path.exists(path):
+        with open(path) as f:
+            text = f.read()
+    return run.stdout, run.returncode, text
+
+
+def try_cards(meshes, out):
+    """tools/from_seqgp.py over the library says and writes what it does over the independent program."""
+    if not shutil.which('cc'):
+        return 'skipped: no cc'
+    made = 0
+    for name, file in meshes.items():
+        for kind, (pairs, figures) in numberings(file).items():
+            if kind in ('odd', 'old order', 'long'):
+                continue
+            made += 1
+            with open(os.path.join(out, 'cards'), 'w') as f:
+                f.writelines('SEQGP,%s\n' % ','.join(map(str, pairs[at:at + 8])) for at in range(0, len(pairs), 8))
+            words = ['--figures', *map(str, figures)]
+            by_library, by_reference = of_cards(name, out, *words), of_cards(name, out, '--independent', *words)
+            if by_library != by_reference or by_library[1] != expected_import(file, pairs, figures)[1]:
+                print('from_seqgp.py, %s, %s: %r, and by the independent program %r' % (name, kind, by_library, by_reference))
+                return 'FAILED: ' + name
+    return 'ok (%d numberings)' % made
+
+
 def broken(mesh):
     """The mesh with its end, its header or an element damaged."""
     return {'empty': b'', 'short header': mesh[:8], 'mark': b'grd' + mesh[3:], 'version': mesh[:3] + b'\3' + mesh[4:], 'cut': mesh[:-1],
@@ -199,13 +287,15 @@ def main():
     for name in MESHES:
         with open('examples/%s.grd' % name, 'rb') as f:
             meshes[name] = f.read()
+    whole = dict(meshes)
     meshes.update(broken(meshes['bracket']), **broken_counts(meshes['hinged_plates']))
     many = {'file %d (%s)' % (i, kind): file for i, (kind, file) in list(enumerate(all_files(), 1))[::STEP]}
     with tempfile.TemporaryDirectory() as out:
         more = {'renumber': many, 'orders': dict(list(many.items())[::10])}
         files = {example: dict(meshes, **more.get(example, {})) for example in EXAMPLES}
         files['hinge'] = {'its own plates': b''}
-        results = {example: try_example(example, files[example], out) for example in EXAMPLES}
+        results = {example: try_example(example, files[example], out) for example in EXAMPLES if example != 'import'}
+        results.update({'import': try_import(whole, out), 'from_seqgp.py': try_cards(whole, out)})
         for example in more if os.path.exists('/dev/full') else ():
             if results[example].startswith('ok') and not not_written(example, out):
                 results[example] = 'FAILED: a full device'
