@@ -29,6 +29,7 @@ program bracket
   call print_measures('before', numbers)
   call stop_if(wagonepoch_run(starts, n + 1, neighbours, entries, counts, n, numbers, n, levels, n, passes, n, scratch, 6 * n, &
                               figures, 7_c_size_t), 'run')
+  call hand_on()
   call number_unknowns()
   parts = int(figures(2))
   length = (figures(4) + 7) / 8
@@ -112,6 +113,16 @@ contains
     call stop_if(wagonepoch_measures(starts, n + 1, neighbours, entries, counts, n, numbering, n, scratch, n, figures, &
                                      3_c_size_t), 'measures')
     print '(a,a,i0,a,i0,a,i0)', when, ': bandwidth ', figures(1), ' profile ', figures(2), ' front ', figures(3)
+  end subroutine
+
+  ! The run's numbers as another program would hand them on, in pairs, old number then new, and get them back.
+  subroutine hand_on()
+    integer(c_int16_t) :: pairs(2 * n), back(n)
+    pairs(1::2) = [(int(p, c_int16_t), p = 1, int(n))]
+    pairs(2::2) = numbers(1:n)
+    call stop_if(wagonepoch_import_numbering(starts, n + 1, neighbours, entries, counts, n, pairs, 2 * n, figures(3), figures(4), &
+                                             figures(5), back, n, scratch, n), 'import')
+    if (any(back /= numbers(1:n))) stop 2
   end subroutine
 
   ! The order for a solver that expects reverse Cuthill-McKee, with lists of its own.

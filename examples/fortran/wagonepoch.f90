@@ -51,6 +51,18 @@ module wagonepoch
       integer(c_int16_t) :: answer
     end function
 
+    ! the three figures are unsigned in C; no mesh has any above 2^31
+    function wagonepoch_import_numbering(starts, starts_len, neighbours, neighbours_len, counts, counts_len, pairs, pairs_len, &
+                                         bandwidth, profile, front, numbers, numbers_len, scratch, scratch_len) bind(C) &
+                                         result(answer)
+      import
+      integer(c_int16_t), intent(in) :: starts(*), neighbours(*), counts(*), pairs(*)
+      integer(c_int64_t), value :: bandwidth, profile, front
+      integer(c_int16_t), intent(inout) :: numbers(*), scratch(*)
+      integer(c_size_t), value :: starts_len, neighbours_len, counts_len, pairs_len, numbers_len, scratch_len
+      integer(c_int16_t) :: answer
+    end function
+
     function wagonepoch_eliminate(starts, starts_len, neighbours, neighbours_len, counts, counts_len, numbering, numbering_len, &
                                   scratch, scratch_len, bytes, bytes_len, figures, figures_len) bind(C) result(answer)
       import

@@ -152,6 +152,11 @@ fn run() -> Result<(), String> {
     print_measures("reverse Cuthill-McKee", &graph, &reverse.numbers)?;
     print_passes(&run.passes);
     print_thickest(&graph, &run.numbers)?;
+    // as another program would hand the numbers on, and get them back
+    let pairs: Vec<u16> = before.iter().zip(&run.numbers).flat_map(|(&old, &new)| [old, new]).collect();
+    let figures = [run.figures[2], run.figures[3], run.figures[4]];
+    let numbers = wagonepoch::import_numbering(&graph.starts, &graph.neighbours, &graph.counts, &pairs, figures)?;
+    assert_eq!(numbers, run.numbers);
     let (bytes, [marked, new]) = wagonepoch::eliminate(&graph.starts, &graph.neighbours, &graph.counts, &run.numbers, run.figures[3])?;
     println!("elimination: marked {marked} new {new}");
     open_store(&graph, &Store::new(&graph, &run.numbers, bytes)?);

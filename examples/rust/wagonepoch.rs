@@ -19,6 +19,11 @@ mod c {
             numbers: *mut u16, numbers_len: usize, levels: *mut u16, levels_len: usize, passes: *mut u16, passes_len: usize,
             scratch: *mut u16, scratch_len: usize, figures: *mut u64, figures_len: usize,
         ) -> u16;
+        pub fn wagonepoch_import_numbering(
+            starts: *const u16, starts_len: usize, neighbours: *const u16, neighbours_len: usize, counts: *const u16, counts_len: usize,
+            pairs: *const u16, pairs_len: usize, bandwidth: u64, profile: u64, front: u64,
+            numbers: *mut u16, numbers_len: usize, scratch: *mut u16, scratch_len: usize,
+        ) -> u16;
         pub fn wagonepoch_eliminate(
             starts: *const u16, starts_len: usize, neighbours: *const u16, neighbours_len: usize, counts: *const u16, counts_len: usize,
             numbering: *const u16, numbering_len: usize, scratch: *mut u16, scratch_len: usize, bytes: *mut u8, bytes_len: usize,
@@ -130,6 +135,20 @@ pub fn run(starts: &[u16], neighbours: &[u16], counts: &[u16]) -> Result<Order, 
 
 pub fn reverse_cuthill_mckee(starts: &[u16], neighbours: &[u16], counts: &[u16]) -> Result<Order, String> {
     order_by("reverse Cuthill-McKee", c::wagonepoch_reverse_cuthill_mckee, starts, neighbours, counts)
+}
+
+/// The full numbering of another tool's pairs, old number then new, one after the other; a node that no pair names keeps its number. The figures are
+/// the tool's bandwidth, profile and front, in unknowns, which must be those of the numbering.
+pub fn import_numbering(starts: &[u16], neighbours: &[u16], counts: &[u16], pairs: &[u16], figures: [u64; 3]) -> Result<Vec<u16>, String> {
+    let n = nodes(starts);
+    let (mut numbers, mut scratch) = (vec![0; n], vec![0; n]);
+    refused("import", unsafe {
+        c::wagonepoch_import_numbering(
+            starts.as_ptr(), starts.len(), neighbours.as_ptr(), neighbours.len(), counts.as_ptr(), counts.len(), pairs.as_ptr(), pairs.len(),
+            figures[0], figures[1], figures[2], numbers.as_mut_ptr(), n, scratch.as_mut_ptr(), n,
+        )
+    })?;
+    Ok(numbers)
 }
 
 /// The mark bytes, for a numbering of this profile; the marks that are 1, and the newly joined pairs.
