@@ -1,4 +1,4 @@
-// The adjacency test, the rooted levels, the measures and the elimination: see jobs.h. BUILD is the namespace of this compilation.
+// The adjacency test, the rooted levels, the measures, the import and the elimination: see jobs.h. BUILD is the namespace of this compilation.
 #include "jobs.h"
 
 #include <algorithm>
@@ -254,6 +254,59 @@ u16 measures(const u16 *starts, size_t starts_len, const u16 *neighbours, size_t
   bare_measures(starts, neighbours, counts, n, numbering, scratch, figures);
   clear(scratch, n);
   return 0;
+}
+
+// Whether the words are pairs of another old number each, from 1 to n: as many are marked as there are pairs.
+static bool are_pairs(const u16 *pairs, size_t length, u32 n, u16 *marks) {
+  if (length % 2 != 0 || length > 2 * size_t(n)) return false;
+  clear(marks, n);
+  bool out = false;
+  for (size_t i = 0; i < length; i += 2) {
+    const u32 at = pairs[i] - 1u;
+    out |= at >= n;
+    marks[at < n ? at : 0] = 1;
+  }
+  u32 count = 0;
+  for (u32 i = 0; i < n; i++) count += marks[i];
+  return !out && 2 * size_t(count) == length;
+}
+
+// The full numbering: who is in no pair keeps his number.
+static void number_by(const u16 *pairs, size_t length, u32 n, u16 *numbering) {
+  for (u32 p = 0; p < n; p++) numbering[p] = u16(p + 1);
+  for (size_t i = 0; i < length; i += 2) numbering[pairs[i] - 1] = pairs[i + 1];
+}
+
+// Whether the three figures are those of the numbering.
+static bool has_figures(const u16 *starts, const u16 *neighbours, const u16 *counts, u32 n, const u16 *numbering, const u64 *figures, u16 *words) {
+  u64 found[3];
+  bare_measures(starts, neighbours, counts, n, numbering, words, found);
+  return memcmp(found, figures, sizeof found) == 0;
+}
+
+bool bare_import(const u16 *starts, const u16 *neighbours, const u16 *counts, u32 n, const u16 *pairs, size_t pairs_len, const u64 *figures,
+                 u16 *numbers) {
+  u16 words[MAX_NODES];
+  number_by(pairs, pairs_len, n, numbers);
+  return has_figures(starts, neighbours, counts, n, numbers, figures, words);
+}
+
+u16 import_numbering(const u16 *starts, size_t starts_len, const u16 *neighbours, size_t neighbours_len, const u16 *counts, size_t counts_len,
+                     const u16 *pairs, size_t pairs_len, u64 bandwidth, u64 profile, u64 front, u16 *numbers, size_t numbers_len,
+                     u16 *scratch, size_t scratch_len) {
+  if (u16 refusal = test_adjacency(starts, starts_len, neighbours, neighbours_len)) return refusal;
+  const u32 n = u32(starts_len - 1);
+  if (numbers_len < n || scratch_len < n) return 5;
+  if (most_unknowns(counts, counts_len, n) == 0) return 15;
+  u16 words[MAX_NODES];
+  if (!are_pairs(pairs, pairs_len, n, words)) return 13;
+  number_by(pairs, pairs_len, n, scratch);
+  const u64 figures[3] = {bandwidth, profile, front};
+  u16 answer = 7;
+  if (is_numbering(scratch, n, n, words)) answer = has_figures(starts, neighbours, counts, n, scratch, figures, words) ? 0 : 14;
+  if (answer == 0) memcpy(numbers, scratch, n * sizeof(u16));
+  clear(scratch, n);
+  return answer;
 }
 
 // One unknown each: the first column of each row, in the order of the numbers.

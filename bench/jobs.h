@@ -1,5 +1,6 @@
 // The jobs of the C interface once more, in C++ and made for speed. include/wagonepoch.h says what each call is given and lent and what it answers;
-// the arguments here are the same, and so are the rules: the tests in their order, the lent words as the only memory, scratch words 0 at the end.
+// the arguments here are the same, and so are the rules: the tests in their order, the lent words as the only memory, scratch words 0 at the end; the
+// import has 4,096 words of its own besides, as the proved one has.
 // Where every node has one unknown, the way of one unknown is taken.
 // The bare stages do the same work without the tests and without clearing, and take what memory they like.
 #ifndef JOBS_H
@@ -35,6 +36,9 @@ inline void clear(u16 *words, size_t count) { memset(words, 0, count * sizeof(u1
   u16 reverse_cuthill_mckee(const u16 *starts, size_t starts_len, const u16 *neighbours, size_t neighbours_len, const u16 *counts,         \
                             size_t counts_len, u16 *numbers, size_t numbers_len, u16 *levels, size_t levels_len, u16 *passes,              \
                             size_t passes_len, u16 *scratch, size_t scratch_len, u64 *figures, size_t figures_len);                        \
+  u16 import_numbering(const u16 *starts, size_t starts_len, const u16 *neighbours, size_t neighbours_len, const u16 *counts,              \
+                       size_t counts_len, const u16 *pairs, size_t pairs_len, u64 bandwidth, u64 profile, u64 front, u16 *numbers,         \
+                       size_t numbers_len, u16 *scratch, size_t scratch_len);                                                              \
   u16 eliminate(const u16 *starts, size_t starts_len, const u16 *neighbours, size_t neighbours_len, const u16 *counts,                     \
                 size_t counts_len, const u16 *numbering, size_t numbering_len, u16 *scratch, size_t scratch_len, u8 *bytes,                \
                 size_t bytes_len, u64 *figures, size_t figures_len);                                                                       \
@@ -52,6 +56,8 @@ inline void clear(u16 *words, size_t count) { memset(words, 0, count * sizeof(u1
                 u64 *figures);                                                                                                             \
   void bare_reverse_cuthill_mckee(const u16 *starts, const u16 *neighbours, const u16 *counts, u32 n, u16 *numbers, u16 *levels,           \
                                   u16 *passes, u16 *scratch, u64 *figures);                                                                \
+  bool bare_import(const u16 *starts, const u16 *neighbours, const u16 *counts, u32 n, const u16 *pairs, size_t pairs_len,                 \
+                   const u64 *figures, u16 *numbers);                                                                                      \
   void bare_eliminate(const u16 *starts, const u16 *neighbours, const u16 *counts, u32 n, const u16 *numbering, u16 *scratch, u8 *bytes,   \
                       size_t bytes_len, u64 *figures);                                                                                     \
   void bare_store_map(const u16 *starts, const u16 *neighbours, const u16 *counts, u32 n, const u16 *numbering, u16 *scratch,              \

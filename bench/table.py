@@ -8,9 +8,10 @@ BELOW = '## Measured\n'
 # Our two orders, by the calls that make them.
 ORDERS = ('whole run', 'reverse Cuthill-McKee')
 # The calls that take counts of unknowns, and what the timing program says of counts that are not all 1.
-COUNTED = ('measures', *ORDERS, 'elimination', 'store map')
+COUNTED = ('measures', *ORDERS, 'import', 'elimination', 'store map')
 SORTS = ('mixed unknowns', 'six unknowns each')
-CALLS = ('adjacency test', 'rooted levels', 'mesh', *COUNTED, *('%s, numbers as given' % call for call in ('measures', 'elimination', 'store map')),
+CALLS = ('adjacency test', 'rooted levels', 'mesh', *COUNTED,
+         *('%s, numbers as given' % call for call in ('measures', 'import', 'elimination', 'store map')),
          *('%s, %s' % (call, sort) for sort in SORTS for call in COUNTED))
 EACH, MEAN = 2.0, 1.5
 

@@ -23,16 +23,18 @@ struct Calls {
   decltype(&wagonepoch_mesh) mesh;
   decltype(&wagonepoch_run) run, reverse_cuthill_mckee;
   decltype(&wagonepoch_measures) measures;
+  decltype(&wagonepoch_import_numbering) import_numbering;
   decltype(&wagonepoch_eliminate) eliminate;
   decltype(&wagonepoch_store_map) store_map;
 };
 
-#define CALLS_OF(build)                                                                                     \
-  {build::test_adjacency, build::rooted_levels, build::mesh, build::run, build::reverse_cuthill_mckee,      \
-   build::measures,       build::eliminate,     build::store_map}
+#define CALLS_OF(build)                                                                           \
+  {build::test_adjacency,        build::rooted_levels, build::mesh,             build::run,       \
+   build::reverse_cuthill_mckee, build::measures,      build::import_numbering, build::eliminate, \
+   build::store_map}
 static const Calls PROGRAMS[] = {
     {wagonepoch_test_adjacency, wagonepoch_rooted_levels, wagonepoch_mesh, wagonepoch_run, wagonepoch_reverse_cuthill_mckee,
-     wagonepoch_measures, wagonepoch_eliminate, wagonepoch_store_map},
+     wagonepoch_measures, wagonepoch_import_numbering, wagonepoch_eliminate, wagonepoch_store_map},
     CALLS_OF(any_processor),
     CALLS_OF(this_processor),
 };
@@ -62,6 +64,8 @@ struct Given {
   size_t n;
   Words elements, starts, neighbours, counts, numbering;
   u16 root;
+  Words pairs;      // of old and new number
+  u64 supplied[3];  // bandwidth, profile and front that come with the pairs
 };
 
 // The counts of unknowns that the calls are tried with, and what their lines say of them.
@@ -112,6 +116,11 @@ static void measures_job(const Calls &c, const Given &g, Lent &l) {
   l.answer = c.measures(data(g.starts), g.starts.size(), data(g.neighbours), g.neighbours.size(), data(g.counts), g.counts.size(),
                         data(g.numbering), g.numbering.size(), l.scratch.data(), l.scratch.size(), l.figures.data(), l.figures.size());
 }
+static void import_job(const Calls &c, const Given &g, Lent &l) {
+  l.answer = c.import_numbering(data(g.starts), g.starts.size(), data(g.neighbours), g.neighbours.size(), data(g.counts), g.counts.size(),
+                                data(g.pairs), g.pairs.size(), g.supplied[0], g.supplied[1], g.supplied[2], l.numbers.data(),
+                                l.numbers.size(), l.scratch.data(), l.scratch.size());
+}
 static void eliminate_job(const Calls &c, const Given &g, Lent &l) {
   l.answer = c.eliminate(data(g.starts), g.starts.size(), data(g.neighbours), g.neighbours.size(), data(g.counts), g.counts.size(),
                          data(g.numbering), g.numbering.size(), l.scratch.data(), l.scratch.size(), l.bytes.data(), l.bytes.size(),
@@ -150,6 +159,27 @@ static Lent agreed(const std::string &call, const Job &job, const Given &given, 
   return ends[0];
 }
 
+typedef std::function<void(const Job &, u16, const std::function<void(Given &, Lent &)> &)> Refused;
+
+// Refusals of the import, whose pairs are all nodes with their new numbers: 5, 13, 7 and 14, each before the next.
+static void try_pairs(const Refused &refused, size_t n) {
+  refused(import_job, 5, [n](Given &, Lent &l) { l.numbers.resize(n - 1); });
+  refused(import_job, 5, [n](Given &g, Lent &l) { l.scratch.resize(n - 1), g.pairs.pop_back(); });
+  refused(import_job, 13, [](Given &g, Lent &) { g.pairs.pop_back(), g.supplied[0]++; });
+  refused(import_job, 13, [](Given &g, Lent &) { g.pairs[0] = 0, g.pairs[1] = 0; });
+  refused(import_job, 13, [n](Given &g, Lent &) { g.pairs[2 * n - 2] = u16(n + 1); });
+  refused(import_job, 13, [](Given &g, Lent &) { g.pairs.insert(g.pairs.end(), {g.pairs[0], g.pairs[1]}); });
+  refused(import_job, 7, [](Given &g, Lent &) { g.pairs[1] = 0, g.supplied[0]++; });
+  refused(import_job, 7, [n](Given &g, Lent &) { g.pairs[2 * n - 1] = u16(n + 1); });
+  if (n > 1) {
+    refused(import_job, 13, [n](Given &g, Lent &) { g.pairs[2 * n - 2] = g.pairs[0]; });
+    refused(import_job, 7, [n](Given &g, Lent &) { g.pairs[2 * n - 1] = g.pairs[1]; });
+    refused(import_job, 7, [](Given &g, Lent &) { g.pairs = {1, 2}; });
+  }
+  for (size_t at : {size_t(0), size_t(1), size_t(2)})
+    for (u64 change : {u64(1), ~u64(0), u64(1) << 32}) refused(import_job, 14, [=](Given &g, Lent &) { g.supplied[at] += change; });
+}
+
 // Refusals: each of a few damages to what is given or lent, and the number that it must get.
 static void try_refusals(const Given &good, size_t byte_count) {
   const size_t n = good.n;
@@ -160,7 +190,7 @@ static void try_refusals(const Given &good, size_t byte_count) {
     agreed("a refusal", job, given, lent, wanted);
   };
   for (const Job &job :
-       {Job(test_job), Job(rooted_job), Job(run_job), Job(reverse_job), Job(measures_job), Job(eliminate_job), Job(map_job)}) {
+       {Job(test_job), Job(rooted_job), Job(run_job), Job(reverse_job), Job(measures_job), Job(import_job), Job(eliminate_job), Job(map_job)}) {
     refused(job, 1, [](Given &g, Lent &) { g.starts.clear(); });
     refused(job, 1, [](Given &g, Lent &) { g.starts.resize(1); });
     refused(job, 1, [](Given &g, Lent &) { g.starts.resize(4098, g.starts.back()); });
@@ -198,15 +228,16 @@ static void try_refusals(const Given &good, size_t byte_count) {
   }
   refused(map_job, 5, [n](Given &, Lent &l) { l.first.resize(6 * n - 1); });
   refused(map_job, 5, [n](Given &, Lent &l) { l.place.resize(6 * n); });
-  for (const Job &job : {Job(run_job), Job(reverse_job), Job(measures_job), Job(eliminate_job), Job(map_job)}) {
+  for (const Job &job : {Job(run_job), Job(reverse_job), Job(measures_job), Job(import_job), Job(eliminate_job), Job(map_job)}) {
     refused(job, 15, [](Given &g, Lent &) { g.counts.pop_back(); });
     refused(job, 15, [](Given &g, Lent &) { g.counts.push_back(1); });
     refused(job, 15, [](Given &g, Lent &) { g.counts[0] = 0; });
     refused(job, 15, [n](Given &g, Lent &) { g.counts[n - 1] = 7; });
-    // 15 comes after 5 and before 7
-    refused(job, 5, [](Given &g, Lent &l) { g.counts.clear(), l.figures.clear(); });
-    refused(job, 15, [](Given &g, Lent &) { g.counts.clear(), g.numbering[0] = 0; });
+    // 15 comes after 5 and before 7 and 13
+    refused(job, 5, [n](Given &g, Lent &l) { g.counts.clear(), l.figures.clear(), l.scratch.resize(n - 1); });
+    refused(job, 15, [](Given &g, Lent &) { g.counts.clear(), g.numbering[0] = 0, g.pairs.push_back(0); });
   }
+  try_pairs(refused, n);
   for (const Job &job : {Job(measures_job), Job(eliminate_job), Job(map_job)}) {
     refused(job, 7, [](Given &g, Lent &) { g.numbering.pop_back(); });
     refused(job, 7, [](Given &g, Lent &) { g.numbering[0] = 0; });
@@ -250,10 +281,34 @@ static void try_roots(const Given &good) {
   }
 }
 
+// The pairs of the numbering, by old number, and figures with them.
+static void supply(Given &g, const u64 *figures) {
+  g.pairs.clear();
+  for (size_t p = 0; p < g.n; p++) g.pairs.insert(g.pairs.end(), {u16(p + 1), g.numbering[p]});
+  std::copy(figures, figures + 3, g.supplied);
+}
+
 static Given numbered_by(const Given &given, const Lent &made) {
   Given g = given;
   g.numbering.assign(made.numbers.begin(), made.numbers.begin() + long(g.n));
+  supply(g, made.figures.data() + 2);
   return g;
+}
+
+// The pairs from the last to the first, without those of one number: they give the same numbering, in a list as long as it must be.
+static void try_import(const Given &given) {
+  agreed("import", import_job, given, Lent(given.n), 0);
+  Given g = given;
+  g.pairs.clear();
+  for (size_t p = g.n; p > 0; p--)
+    if (g.numbering[p - 1] != p) g.pairs.insert(g.pairs.end(), {u16(p), g.numbering[p - 1]});
+  Lent lent(g.n);
+  lent.numbers.resize(g.n);
+  lent.scratch.resize(g.n);
+  if (agreed("import", import_job, g, lent, 0).numbers != g.numbering) {
+    printf("%s: other numbers than were handed in\n", mesh_name.c_str());
+    exit(1);
+  }
 }
 
 // An order that a call made: the measures find the figures that it reported, the map has its profile, and the elimination takes so many bytes as
@@ -269,6 +324,7 @@ static void try_order(const Given &given, const Lent &made) {
     printf("%s: a map of another profile than the order's own\n", mesh_name.c_str());
     exit(1);
   }
+  try_import(g);
   agreed("elimination", eliminate_job, g, Lent(g.n, (made.figures[3] + 7) / 8), 0);
 }
 
@@ -326,7 +382,7 @@ static Words words_of(const std::string &path) {
 
 // The lists of a mesh, its nodes numbered as given.
 static Given lists_of(const Words &file) {
-  Given g = {file[1], Words(file.begin() + 3, file.end()), {}, {}, {}, {}, 1};
+  Given g = {file[1], Words(file.begin() + 3, file.end()), {}, {}, {}, {}, 1, {}, {}};
   const long n = file[1];
   const Lent lists = agreed("mesh", mesh_job, g, Lent(g.n), 0);
   g.starts.assign(lists.starts.begin(), lists.starts.begin() + n + 1);
@@ -344,13 +400,16 @@ struct Case {
 
 // Compares the calls that take counts.
 static Case compare(const Given &lists, const Sort &sort) {
-  const Given g = with_unknowns(lists, sort);
+  Given g = with_unknowns(lists, sort);
   const std::string said = sort.said;
-  const Case c = {g, agreed("whole run" + said, run_job, g, Lent(g.n), 0), agreed("measures" + said, measures_job, g, Lent(g.n), 0),
+  const Lent measured = agreed("measures" + said, measures_job, g, Lent(g.n), 0);
+  supply(g, measured.figures.data());
+  const Case c = {g, agreed("whole run" + said, run_job, g, Lent(g.n), 0), measured,
                   agreed("reverse Cuthill-McKee" + said, reverse_job, g, Lent(g.n), 0)};
   const size_t bytes = (c.measured.figures[1] + 7) / 8;
   try_order(g, c.ran);
   try_order(g, c.turned);
+  try_import(g);
   agreed("elimination, numbers as given" + said, eliminate_job, g, Lent(g.n, bytes), 0);
   agreed("store map, numbers as given" + said, map_job, g, Lent(g.n), 0);
   if (g.n < 1500 && bytes < 2000000) try_refusals(g, bytes);  // larger ones take long and tell no more
@@ -400,6 +459,8 @@ static void time_numbered(const Given &g, u64 profile, const std::string &said, 
   using namespace this_processor;
   time_job("measures" + said, measures_job, g, lent,
            [&] { bare_measures(starts, neighbours, counts, n, numbering, own.scratch.data(), own.figures.data()); }, quick);
+  time_job("import" + said, import_job, g, lent,
+           [&] { bare_import(starts, neighbours, counts, n, data(g.pairs), g.pairs.size(), g.supplied, own.numbers.data()); }, quick);
   time_job("elimination" + said, eliminate_job, g, lent,
            [&] {
              bare_eliminate(starts, neighbours, counts, n, numbering, own.scratch.data(), own.bytes.data(), bytes, own.figures.data());
