@@ -6,9 +6,10 @@
   compare.py --replay FILE                           one case again that was saved
 
 Of each case the answer, every list given or lent, the figures among them, and eight elements behind each list are compared word by word, after
-each call where the run or reverse Cuthill-McKee, and then the elimination or the store map by its numbers, are called. The map's profile must also
-be the run's. Under reverse Cuthill-McKee's numbers turned back the marks counted must also be as many as the profile; with c unknowns of every node bandwidth and front must also be c(b + 1) - 1 and c times those of
-one each. A case that differs, or that ends the process, is saved in target/failed. All expected values come from tests/reference.
+each call where the run or reverse Cuthill-McKee, and then the elimination or the store map by its numbers, are called, or before the elimination
+the import of its numbers with its figures. The map's profile must also be the run's. Under reverse Cuthill-McKee's numbers turned back the marks
+counted must also be as many as the profile; with c unknowns of every node bandwidth and front must also be c(b + 1) - 1 and c times those of one
+each. A case that differs, or that ends the process, is saved in target/failed. All expected values come from tests/reference.
 """
 
 import argparse
@@ -41,7 +42,7 @@ class Tally:
         for counts, name in ((self.kinds, trial.kind), (self.answers, said)):
             of_call = counts.setdefault(trial.call, {})
             of_call[name] = of_call.get(name, 0) + 1
-        needs = [FIGURES[function] for function in FUNCTIONS[trial.call]]
+        needs = [FIGURES[function] for function in FUNCTIONS[trial.call] if FIGURES[function]]
         self.short[trial.call] = self.short.get(trial.call, 0) + any(length < need for length, need in zip(trial.figures, needs))
         self.differ[trial.call] = self.differ.get(trial.call, 0) + (text != '')
 

@@ -12,7 +12,7 @@ from cases import CALLS, Case, fields
 from count_lists import counted, counts_of
 from graph import from_edges, small_graphs
 from library import FIGURES
-from trials import ALIKE, FILLS, FUNCTIONS, MAPPED, ONES, PAIRS, STAR, TURNED_BACK, ZEROS, Trial
+from trials import ALIKE, FILLS, FUNCTIONS, IMPORTED, MAPPED, ONES, PAIRS, STAR, TURNED_BACK, ZEROS, Trial
 from unknowns import MOST, ones
 
 
@@ -146,6 +146,20 @@ def turned_back(draw, count):
         yield trial(draw, kind, TURNED_BACK, list(graph), sizes + [other, cases.lent(draw, need)])
 
 
+def imported(draw, count):
+    """A.5: the run or reverse Cuthill-McKee, then the import of its numbers with its figures, which is accepted, then the elimination by what that
+    gave; one scratch or two, now and then a short list for the import, and mark bytes short, exact and long. One graph of full size."""
+    graphs = [counted(draw, lists) for n in range(1, 4) for lists in small_graphs(n)]
+    graphs += [counted(draw, cases.random_graph(draw, 1 + draw.below(40))) for _ in range(count)]
+    for graph in graphs + [(*from_edges(*shapes.renamed(draw, *shapes.grid(512, 8, True))), ones(4096))]:
+        n = len(graph[0]) - 1
+        for call, chain in zip((whole_run, reverse_cuthill_mckee), IMPORTED):
+            sizes = [cases.enough(draw, size) for size in cases.run_lengths(graph)]
+            other = None if draw.chance(0.5) else cases.lent(draw, n)
+            lengths = sizes + [other, cases.lent(draw, cases.run_byte_count(graph, call)), 2 * n, cases.lent(draw, n)]
+            yield trial(draw, 'full size' if n == 4096 else 'engine made', chain, list(graph), lengths)
+
+
 def alike_each(draw, lists, c):
     """The numbering calls and the measures with c unknowns of every node; of full size without reverse Cuthill-McKee, under old numbers."""
     n = len(lists[0]) - 1
@@ -217,6 +231,7 @@ def some(draw, count):
     yield from stars()
     yield from mapped(draw, count // 2)
     yield from turned_back(draw, count // 2)
+    yield from imported(draw, count // 10)
     yield from alike(draw, count // 50)
 
 
@@ -228,4 +243,5 @@ def more(draw, count):
     yield from among_ones(draw, 12)
     yield from mapped(draw, count // 2)
     yield from turned_back(draw, count // 2)
+    yield from imported(draw, count // 10)
     yield from alike(draw, count // 50)

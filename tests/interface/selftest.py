@@ -17,7 +17,7 @@ from cases import CALLS, Case, fields, map_lengths
 from graph import from_edges
 from kinds import every_call
 from library import BEHIND, FIGURES, Library, Span
-from trials import ALIKE, FUNCTIONS, MAPPED, PAIRS, TURNED_BACK, Trial, difference, got
+from trials import ALIKE, FUNCTIONS, IMPORTED, MAPPED, PAIRS, TURNED_BACK, Trial, difference, got
 
 
 class Altered:
@@ -58,7 +58,8 @@ def trials():
     on_graph = list(every_call('self-test', (*from_edges(3, [(1, 2), (2, 3)]), [2, 1, 3]), 1, [1, 2, 3], 3))
     for c in on_graph + [Case('self-test', 'mesh', [], [], [], [1, 1, 2], 3, 4, 32768, 3)]:
         given, lent = fields(c, CALLS[c.call].given), [size + 1 for size in fields(c, CALLS[c.call].lent)]
-        chained = [(chain, lent[:4] + [other] + lent[4:]) for chain in (*PAIRS, TURNED_BACK) for other in (None, 4)]
+        chained = [(chain, lent[:4] + [other] + lent[4:] + ([6, 4] if chain in IMPORTED else []))
+                   for chain in (*PAIRS, TURNED_BACK, *IMPORTED) for other in (None, 4)]
         chained += [(MAPPED, lent[:4] + [other] + [size + 1 for size in map_lengths(3)[1:]]) for other in (None, 4)]
         for call, lengths in chained if c.call == 'run and eliminate' else [(c.call, lent)]:
             yield Trial(c.kind, call, given, lengths, [FIGURES[function] + 1 for function in FUNCTIONS[call] if FIGURES[function]], 0)

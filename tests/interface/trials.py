@@ -2,7 +2,8 @@
 
 A trial has one call, or the whole run or reverse Cuthill-McKee and then the elimination on the n numbers that it left, in the memory that it left
 them in; or reverse Cuthill-McKee, and on its numbers, which the trial turns back in that memory, the measures and the elimination; or the whole run
-and then the store map on its numbers.
+and then the store map on its numbers; or the run or reverse Cuthill-McKee, then the import of its numbers, which the trial writes down as pairs,
+with its figures, and the elimination on what that left.
 """
 
 import json
@@ -29,6 +30,9 @@ TURNED_BACK = 'reverse Cuthill-McKee turned back, then measures and eliminate'
 # The store of a run, for a caller who fills it: lent as to a pair, with the map's two lists in place of the bytes.
 MAPPED = 'run, then store map'
 LENT_TO_MAPPED = LENT_TO_PAIR[:-1] + ('first', 'place')
+# A.5: lent as to a pair, and for the import 2n words of pairs and a list of numbers of its own; it has the elimination's scratch.
+IMPORTED = ('run, then import and eliminate', 'reverse Cuthill-McKee, then import and eliminate')
+LENT_TO_IMPORTED = LENT_TO_PAIR + ('pairs', 'other numbers')
 FIGURE_LISTS = ('figures', 'other figures', 'third figures')
 
 # The functions that a trial calls, one after the other.
@@ -37,7 +41,8 @@ FUNCTIONS = {
     'measures': ('measures',), 'part report': ('part_report',), 'whole run': ('run',), 'reverse Cuthill-McKee': ('reverse_cuthill_mckee',),
     'elimination': ('eliminate',), PAIRS[0]: ('run', 'eliminate'), PAIRS[1]: ('reverse_cuthill_mckee', 'eliminate'), 'mesh': ('mesh',),
     TURNED_BACK: ('reverse_cuthill_mckee', 'measures', 'eliminate'), 'store map': ('store_map',), MAPPED: ('run', 'store_map'),
-    'import': ('import_numbering',),
+    'import': ('import_numbering',), IMPORTED[0]: ('run', 'import_numbering', 'eliminate'),
+    IMPORTED[1]: ('reverse_cuthill_mckee', 'import_numbering', 'eliminate'),
 }
 # Eliminations of a star whose centre has number 1, one unknown each and enough of everything lent: by sums, where the reference would take hours.
 STAR = 'star, centre first'
@@ -72,7 +77,8 @@ def filled(fill, code, count):
 def before(trial):
     """Numbers and lists by name, as they are before the first call."""
     if len(FUNCTIONS[trial.call]) > 1:
-        names = GIVEN_TO_PAIR + (LENT_TO_MAPPED if trial.call == MAPPED else LENT_TO_PAIR) + FIGURE_LISTS
+        buffers = LENT_TO_MAPPED if trial.call == MAPPED else LENT_TO_IMPORTED if trial.call in IMPORTED else LENT_TO_PAIR
+        names = GIVEN_TO_PAIR + buffers + FIGURE_LISTS
     else:
         names = [parameter.name for parameter in PARAMETERS[FUNCTIONS[trial.call][0]]]
     lengths = [length or 0 for length in list(trial.lent) + list(trial.figures)]
@@ -97,16 +103,29 @@ def steps(trial, values):
         return [(first, whole(values, *values))]
     n = max(0, len(values['starts']) - 1)
     scratch = 'scratch' if trial.lent[LENT_TO_PAIR.index('other scratch')] is None else 'other scratch'
+    begin = [(first, whole(values, *GIVEN_TO_PAIR, 'numbers', 'levels', 'passes', 'scratch', 'figures'))]
+    if trial.call in IMPORTED:
+        return begin + [
+            ('import_numbering', whole(values, *GIVEN_TO_PAIR, 'pairs') + [(name, None) for name in SUPPLIED] + whole(values, 'other numbers', scratch)),
+            ('eliminate', whole(values, *GIVEN_TO_PAIR) + [('other numbers', n)] + whole(values, scratch, 'bytes', 'other figures'))]
     lent = {'measures': [scratch], 'eliminate': [scratch, 'bytes'], 'store_map': [scratch, 'first', 'place']}
-    return [(first, whole(values, *GIVEN_TO_PAIR, 'numbers', 'levels', 'passes', 'scratch', 'figures'))] + [
-        (function, whole(values, *GIVEN_TO_PAIR) + [('numbers', n)] + whole(values, *lent[function], figures))
-        for function, figures in zip(others, FIGURE_LISTS[1:])]
+    return begin + [(function, whole(values, *GIVEN_TO_PAIR) + [('numbers', n)] + whole(values, *lent[function], figures))
+                    for function, figures in zip(others, FIGURE_LISTS[1:])]
 
 
-def turn_back(trial, function, lists):
-    """What the trial itself does after a call that accepted: the numbers as they were before A.3's turning, in their place."""
+# Bandwidth, profile and front, and where a numbering call has them among its figures.
+SUPPLIED = {'bandwidth': 2, 'profile': 3, 'front': 4}
+
+
+def between(trial, function, lists, numbers):
+    """What the trial itself does after a call that accepted. A.12: the numbers as they were before A.3's turning, in their place. A.5: the numbers as
+    pairs, by new number, in the lists, and the figures among the numbers."""
     if trial.call == TURNED_BACK and function == 'reverse_cuthill_mckee':
         calls.put(lists['numbers'], idle_cases.turned_back(trial.given[:2], lists['numbers']))
+    if trial.call in IMPORTED and function == FUNCTIONS[trial.call][0]:
+        n = len(trial.given[0]) - 1
+        calls.put(lists['pairs'], [word for new, old in sorted(zip(lists['numbers'][:n], range(1, n + 1))) for word in (old, new)])
+        numbers.update({name: lists['figures'][at] for name, at in SUPPLIED.items()})
 
 
 # By the reference.
@@ -164,7 +183,7 @@ def wanted(trial):
         made.append((answer, list(in_memory(values).values())))
         if answer:
             break
-        turn_back(trial, function, values)
+        between(trial, function, values, values)
     return made
 
 
@@ -184,7 +203,7 @@ def got(library, trial):
         made.append((answer, [array(words.typecode, words) for words in memory.values()]))
         if answer:
             break
-        turn_back(trial, function, memory)
+        between(trial, function, memory, values)
     return made
 
 
