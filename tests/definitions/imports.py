@@ -77,8 +77,8 @@ def engine_made(rng, count):
     return inputs
 
 
-# Lists of pairs for n nodes, none of which is good with other figures than its own: 13, then 7, then such as are good.
 def lists_of_pairs(n):
+    """For n nodes: such as 13 refuses, then such as 7 refuses, of one node all but the last, then good ones."""
     return [[1], [0, 1], [n + 1, 1], [1, 1, 1, 1], [1, 0, 1, 0], [1, 1, n], [1, 0], [n, n + 1], [1, 65535], [1, n], [], [1, 1]]
 
 
