@@ -35,14 +35,14 @@ def run(why, *words):
     except FileNotFoundError:
         raise Stop(0, '%s, and %s is not on the path; --independent takes tests/reference' % (why, words[0]), 'the library') from None
     if done.returncode:
-        raise Stop(0, '%s, and it is not built: %s' % (why, done.stdout.decode('utf-8', 'replace').strip().split('\n')[-1]), 'the library')
+        raise Stop(0, '%s, and this fails: %s' % (why, done.stdout.decode('utf-8', 'replace').strip().split('\n')[-1]), 'the library')
 
 
 def build():
     """The shared library, proved and built where it is older than the crates."""
     if older(STATIC, newest(os.path.join(TOP, 'crates'))):
         print('proving and building the library; what was proved before is not proved again', file=sys.stderr, flush=True)
-        run('it is older than its sources', 'rt', 'staticlib', 'capi')
+        run('it is not built, or older than its sources', 'rt', 'staticlib', 'capi')
     if older(SHARED, os.path.getmtime(STATIC)):
         # under another name first, so that nobody loads half of it
         part = '%s.%d' % (SHARED, os.getpid())

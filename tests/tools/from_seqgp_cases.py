@@ -1,5 +1,6 @@
 """Numberings from SEQGP cards: free, small and large field, continuations; what is refused, told by card and number; cards of our own."""
 
+import os
 import random
 
 from grd_cases import HINGE, SAMPLE
@@ -48,6 +49,7 @@ def cases(c):
     own_cards(c)
     same_as_the_call(c)
     outputs(c)
+    no_library(c)
 
 
 def fields(c):
@@ -188,3 +190,15 @@ def outputs(c):
             (2, 'other.txt: stands there already and is not a numbering of from_seqgp.py; --force writes over it\n'))
     c.equal('from_seqgp: over the cards', run(from_seqgp.main, words + ['b.bdf', '--force'], files)[::2],
             (2, 'b.bdf: is an input (b.bdf), and stays as it is\n'))
+
+
+def no_library(c):
+    """Where the library can't be built it is said so, and nothing is written."""
+    path, static = os.environ['PATH'], engine.STATIC
+    try:
+        os.environ['PATH'], engine.STATIC = '', os.path.join(engine.FOLDER, 'none.a')
+        got = run(from_seqgp.main, ['a.bdf', 'b.bdf', '--figures', *FIGURES, '-o', 'out.txt'], {'a.bdf': MESH, 'b.bdf': SMALL})
+    finally:
+        os.environ['PATH'], engine.STATIC = path, static
+    c.equal('from_seqgp: no library', got, (2, '', 'proving and building the library; what was proved before is not proved again\n'
+            'the library: it is not built, or older than its sources, and rt is not on the path; --independent takes tests/reference\n', {}))
