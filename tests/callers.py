@@ -138,7 +138,8 @@ def numberings(file):
     (run, _, figures), (reverse, _, others) = [order(call, *lists) for call in (calls.whole_run, calls.reverse_cuthill_mckee)]
     pairs, found = paired(run, True), list(figures[2:5])
     return {'run': (pairs, found), 'reverse Cuthill-McKee': (paired(reverse, False), list(others[2:5])),
-            'old order': ([], list(value(calls.measures(*lists, list(range(1, n + 1)), [0] * n)))), 'wrong front': (pairs, found[:2] + [found[2] + 1]),
+            'old order': ([], list(value(calls.measures(*lists, list(range(1, n + 1)), [0] * n)))),
+            'wrong front': (pairs, found[:2] + [found[2] + 1]),
             'wide profile': (pairs, [found[0], found[1] + 2 ** 32, found[2]]), 'a pair again': (pairs + pairs[:2], found), 'odd': (pairs[:-1], found),
             'no number': (pairs[:-1] + [n + 1], found), 'no node': ([0] + pairs[1:], found), 'long': (pairs * 40, found)}
 
@@ -153,8 +154,8 @@ def expected_import(file, pairs, figures):
     if kind == 'refused':
         return text + 'import: refused {}\n'.format(number), 1
     counts = value(calls.elimination(*lists, numbers, [0] * n, [0] * ((figures[1] + 7) // 8)))
-    return text + 'import: pairs {} bandwidth {} profile {} front {}\n'.format(len(pairs) // 2, *figures) + 'store: places {} marked {} new {}\n'.format(
-        figures[1], *counts), 0
+    text += 'import: pairs {} bandwidth {} profile {} front {}\n'.format(len(pairs) // 2, *figures)
+    return text + 'store: places {} marked {} new {}\n'.format(figures[1], *counts), 0
 
 
 def try_import(meshes, out):

@@ -87,8 +87,8 @@ class Proved:
 
     def measures(self, starts, neighbours, counts, numbering):
         """Bandwidth, profile and front of a legal numbering."""
-        figures = array('Q', [0, 0, 0])
-        refusal = self.call('measures', *[array('H', words) for words in (starts, neighbours, counts, numbering)], array('H', [0] * len(counts)), figures)
+        scratch, figures = array('H', [0] * len(counts)), array('Q', [0, 0, 0])
+        refusal = self.call('measures', *[array('H', words) for words in (starts, neighbours, counts, numbering)], scratch, figures)
         if refusal:
             raise Stop(0, 'refused %d' % refusal, 'the numbering')
         return tuple(figures)

@@ -100,7 +100,8 @@ def no_numbering(pairs, places):
             yield refused(7, pair.line, 'new number %d is given twice, to grid point %d and, on %s, to %d'
                           % (pair.new, pair.old, line_name(other.line, pair.line), other.old))
         elif pair.new in keeps:
-            yield refused(7, pair.line, 'new number %d of grid point %d is that of a grid point that no card names, and keeps it' % (pair.new, pair.old))
+            yield refused(7, pair.line, 'new number %d of grid point %d is that of a grid point that no card names, and keeps it'
+                          % (pair.new, pair.old))
         else:
             first[pair.new] = pair
 

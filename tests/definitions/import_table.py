@@ -29,8 +29,8 @@ GRAPHS = [
 ]
 LISTS = {name: lists for name, _, lists in GRAPHS}
 
-HEAD = '''-- Numberings from other mesh tools (document 02, A.5) on small graphs: a table by computation. Every value is the independent program's. Every
--- buffer is lent full of 9s, so that a word that the call writes shows.
+HEAD = '''-- Numberings from other mesh tools (document 02, A.5) on small graphs: a table by computation. Every value is the independent program's.
+-- Every buffer is lent full of 9s, so that a word that the call writes shows.
 -- Made by tests/definitions/import_table.py from tests/reference. Assumes nothing.
 use Prim.Native.Nat.{ℕ}
 use mathlib.Core.Path.{_≡_, refl}
@@ -70,8 +70,10 @@ ENGINE = [4, 1, 1, 2, 2, 3, 3, 4]
 
 # Rows: name, what it shows ('' where the row before says it), the graph, the counts, the pairs, the figures, words lent.
 ROWS = [
-    ('whole', 'a numbering, all nodes listed in order; a longer list keeps its excess', 'sample', [1] * 5, [1, 2, 2, 3, 3, 4, 4, 1, 5, 5], (1, 4, 2), 6, 7),
-    ('kept-left-out', '"Nodes not in the list keep their own number": the same without node 5, in another order', 'sample', [1] * 5, ENGINE, (1, 4, 2), 5, 5),
+    ('whole', 'a numbering, all nodes listed in order; a longer list keeps its excess',
+     'sample', [1] * 5, [1, 2, 2, 3, 3, 4, 4, 1, 5, 5], (1, 4, 2), 6, 7),
+    ('kept-left-out', '"Nodes not in the list keep their own number": the same without node 5, in another order',
+     'sample', [1] * 5, ENGINE, (1, 4, 2), 5, 5),
     ('empty', 'no pair: the old order, with document 01\'s figures of it', 'sample', [1] * 5, [], (3, 7, 3), 5, 5),
     ('own-number', 'a node by its own number', 'sample', [1] * 5, [3, 3], (3, 7, 3), 5, 5),
     ('old-then-new', '"old number then new": read the other way the numbers would be 3, 1, 2, 4, 5, with the figures of the second row',
@@ -96,7 +98,8 @@ ROWS = [
     ('new-twice', '', 'path', ONES, [1, 2, 2, 1, 3, 1], (1, 2, 2), 4, 4),
     ('new-of-kept', '', 'path', ONES, [1, 3], (1, 2, 2), 4, 4),
     ('new-of-kept-turn', '', 'path', ONES, [1, 2, 2, 3], (1, 2, 2), 4, 4),
-    ('bandwidth-off', '14: each figure one off, and larger by what 32 bits hold; the n scratch words are 0', 'path', ONES, [2, 3, 3, 2], (1, 2, 2), 4, 4),
+    ('bandwidth-off', '14: each figure one off, and larger by what 32 bits hold; the n scratch words are 0',
+     'path', ONES, [2, 3, 3, 2], (1, 2, 2), 4, 4),
     ('bandwidth-over', '', 'path', ONES, [2, 3, 3, 2], (3, 2, 2), 4, 4),
     ('profile-off', '', 'path', ONES, [2, 3, 3, 2], (2, 1, 2), 4, 4),
     ('profile-over', '', 'path', ONES, [2, 3, 3, 2], (2, 3, 2), 4, 4),

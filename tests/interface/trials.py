@@ -105,8 +105,9 @@ def steps(trial, values):
     scratch = 'scratch' if trial.lent[LENT_TO_PAIR.index('other scratch')] is None else 'other scratch'
     begin = [(first, whole(values, *GIVEN_TO_PAIR, 'numbers', 'levels', 'passes', 'scratch', 'figures'))]
     if trial.call in IMPORTED:
+        figures = [(name, None) for name in SUPPLIED]
         return begin + [
-            ('import_numbering', whole(values, *GIVEN_TO_PAIR, 'pairs') + [(name, None) for name in SUPPLIED] + whole(values, 'other numbers', scratch)),
+            ('import_numbering', whole(values, *GIVEN_TO_PAIR, 'pairs') + figures + whole(values, 'other numbers', scratch)),
             ('eliminate', whole(values, *GIVEN_TO_PAIR) + [('other numbers', n)] + whole(values, scratch, 'bytes', 'other figures'))]
     lent = {'measures': [scratch], 'eliminate': [scratch, 'bytes'], 'store_map': [scratch, 'first', 'place']}
     return begin + [(function, whole(values, *GIVEN_TO_PAIR) + [('numbers', n)] + whole(values, *lent[function], figures))

@@ -52,7 +52,8 @@ WRONG_PAIRS = [
     ('an old number twice, other pairs between', [3, 1, 1, 2, 2, 3, 3, 1]), ('all pairs twice', [1, 2, 2, 3, 3, 1] * 2),
     ('eight words', [1, 1, 2, 2, 3, 3, 1, 1]), ('70,000 words', [1, 1] * 35000), ('70,001 words', [1, 1] * 35000 + [2]),
     ('65,536 words behind six', [1, 1, 2, 2, 3, 3] + [0] * 65536),
-    ('an old number twice, new number 0', [1, 0, 1, 0]), ('old number 4, new number 65,535', [4, 65535]), ('an odd word behind a wrong number', [1, 9, 2]),
+    ('an old number twice, new number 0', [1, 0, 1, 0]), ('old number 4, new number 65,535', [4, 65535]),
+    ('an odd word behind a wrong number', [1, 9, 2]),
 ]
 
 # For three nodes: each is 7, whatever the figures are.

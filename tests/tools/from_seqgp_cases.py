@@ -107,15 +107,18 @@ def refusals(c):
         'b.bdf:%d: refused 13: the mesh has no grid point %d' % row for row in ((1, 0), (1, 6), (2, -1), (2, 70000))))
     fails(c, '13 before 7', 'SEQGP,1,9,2,9\nSEQGP,6,1\n', 'b.bdf:2: refused 13: the mesh has no grid point 6')
     fails(c, 'new number above n, and 0', 'SEQGP,1,6,2,0\nSEQGP,3,70000,4,-3\n', '\n'.join(
-        'b.bdf:%d: refused 7: grid point %d has new number %d, and the new numbers are 1 to 5' % row for row in ((1, 1, 6), (1, 2, 0), (2, 3, 70000), (2, 4, -3))))
+        'b.bdf:%d: refused 7: grid point %d has new number %d, and the new numbers are 1 to 5' % row
+        for row in ((1, 1, 6), (1, 2, 0), (2, 3, 70000), (2, 4, -3))))
     fails(c, 'new twice', 'SEQGP,1,2,2,3\nSEQGP,3,2,4,1\n', 'b.bdf:2: refused 7: new number 2 is given twice, to grid point 3 and, on line 1, to 1')
     fails(c, 'new number of a point that keeps it', 'SEQGP,1,5\n',
           'b.bdf:1: refused 7: new number 5 of grid point 1 is that of a grid point that no card names, and keeps it')
-    fails(c, '7 before 14', 'SEQGP,1,5\n', 'b.bdf:1: refused 7: new number 5 of grid point 1 is that of a grid point that no card names, and keeps it',
+    fails(c, '7 before 14', 'SEQGP,1,5\n',
+          'b.bdf:1: refused 7: new number 5 of grid point 1 is that of a grid point that no card names, and keeps it',
           figures=('9', '9', '9'))
     fails(c, 'a wrong front', SMALL, 'b.bdf: refused 14: front 3 was sent, and the numbering has 2', figures=('1', '4', '3'))
     fails(c, 'all figures wrong', SMALL, 'b.bdf: refused 14: bandwidth 4294967297 was sent, and the numbering has 1\n'
-          'b.bdf: refused 14: profile 0 was sent, and the numbering has 4\nb.bdf: refused 14: front 18446744073709551615 was sent, and the numbering has 2',
+          'b.bdf: refused 14: profile 0 was sent, and the numbering has 4\n'
+          'b.bdf: refused 14: front 18446744073709551615 was sent, and the numbering has 2',
           figures=('4294967297', '0', '18446744073709551615'))
 
 
@@ -133,7 +136,8 @@ def unknowns(c):
     """The figures count unknowns: two of each node, by an option and by a file of version 2."""
     accepts(c, 'two unknowns each', SMALL, '--unknowns', '2', figures=('3', '21', '4'))
     fails(c, 'two unknowns each, figures in nodes', SMALL, 'b.bdf: refused 14: bandwidth 1 was sent, and the numbering has 3\n'
-          'b.bdf: refused 14: profile 4 was sent, and the numbering has 21\nb.bdf: refused 14: front 2 was sent, and the numbering has 4', '--unknowns', '2')
+          'b.bdf: refused 14: profile 4 was sent, and the numbering has 21\nb.bdf: refused 14: front 2 was sent, and the numbering has 4',
+          '--unknowns', '2')
     bars = ((1, 1, 2), (1, 1, 4), (1, 2, 3), (1, 3, 5))
     for name, mesh, figures in (('one each', SAMPLE, FIGURES), ('two each', grd_file(5, *bars, counts=[2] * 5), ('3', '21', '4'))):
         got = run(from_seqgp.main, ['--independent', 'a.grd', 'b.bdf', '--figures', *figures, '-o', 'out.txt'], {'a.grd': mesh, 'b.bdf': SMALL})
@@ -171,7 +175,8 @@ def same_as_the_call(c):
     places, seen = {p: p for p in range(1, 5)}, set()
     for _ in range(400):
         olds = rng.sample(range(1, 5), rng.randint(0, 4)) + [rng.randint(0, 5)] * (rng.random() < 0.2)
-        pairs = [from_seqgp.Pair(Line(i, ('b',)), old, rng.choice([old, rng.randint(0 if rng.random() < 0.1 else 1, 4)])) for i, old in enumerate(olds)]
+        news = [rng.choice([old, rng.randint(0 if rng.random() < 0.1 else 1, 4)]) for old in olds]
+        pairs = [from_seqgp.Pair(Line(i, ('b',)), *pair) for i, pair in enumerate(zip(olds, news))]
         refusal, _, graph = from_seqgp.imported(by, mesh, pairs, places, [1, 3, 2])
         seen.add(refusal)
         wrong, none = list(from_seqgp.wrong_pairs(pairs, places)), list(from_seqgp.no_numbering(pairs, places))
