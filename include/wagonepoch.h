@@ -24,7 +24,7 @@
                    wagonepoch_combined_levels; n, and so the length of every other list: also that of the two lists of
                    wagonepoch_store_map, which are as long as six unknowns a node would need
 
-   ANSWERS. 0, or the number of the first test that refuses. Tests run in this order, 15 between 5 and 6, and 13 before 7:
+   ANSWERS. 0, or the number of the first test that refuses. Tests run in this order, 15 between 5 and 6, 13 and 14 about 7:
 
      1   n is 0 or over 4,096, or `starts` is empty
      2   the first start is not 0, starts fall, or the last start is not the length of `neighbours` or is over 32,768
@@ -33,10 +33,10 @@
      5   a lent list is short, `figures` too, the mark bytes excepted
      15  a count is not 1 to 6, or `counts` has not n words
      6   the node given is 0 or above n
-     13  `pairs` has an odd number of words, or an old number given twice or outside 1 to n
-     7   the numbering given is not n words, each of 1..n once
+     13  the pairs given are an odd number of words, or have an old number that is 0, above n or given twice
+     7   the numbering given is not n words, each of 1..n once; of pairs, the full numbering
+     14  a bandwidth, profile or front given is not that of the numbering
      8   the mark bytes are short
-     14  bandwidth, profile or front is not what wagonepoch_measures finds
      9   unknown element kind, or a record runs past the end
      10  an element's node is 0 or above n
      11  over 32,768 neighbour entries result
@@ -188,16 +188,17 @@ uint16_t wagonepoch_reverse_cuthill_mckee(const uint16_t *starts, size_t starts_
                                           uint16_t *scratch, size_t scratch_len,
                                           uint64_t *figures, size_t figures_len);
 
-/* A numbering from another mesh tool, with the figures that its supplier sent: whether it is one, and whether they are those of our measures.
-   `pairs` has two words for each listed node, old number then new, in any order, as NASTRAN's SEQGP cards have them; a node that is not listed
-   keeps its own number. It may be empty, and may list a node with its own number. `bandwidth`, `profile` and `front` are in unknowns, and are
-   compared whole, to the last of their 64 bits.
-   Lent: numbers n (the new number of each node, listed or not), scratch n. No figures.
-   The n numbers of wagonepoch_run or wagonepoch_reverse_cuthill_mckee, listed in any order, with or without the nodes that keep their number, are
-   accepted with its third, fourth and fifth figure and the same counts, and come back whole; so is every numbering with the figures of its measures.
-   The call has 8 KB of its own on the stack.
-   Refusals: 1 to 5, 15, 13, and 7 and 14, which leave the first n scratch words 0. Where new numbers are 0, above n or taken twice, also by a node
-   that keeps its own, it is 7. */
+/* A numbering that another mesh tool made, as pairs of words: old number, new number, old number, new number, and so on, in any order, as NASTRAN's
+   SEQGP cards have them. A node that is in no pair keeps its own number; a node may be listed with its own number, and the list may be empty. The
+   tool's bandwidth, profile and front come with it, in unknowns; they are compared whole with what wagonepoch_measures finds of the full numbering.
+   Lent: numbers n (the full numbering: the new number of each node), scratch n. There are no figures: they are the caller's own.
+   Accepted exactly if the pairs give a numbering, have no old number twice, and the three figures are those of wagonepoch_measures. What
+   wagonepoch_run or wagonepoch_reverse_cuthill_mckee made is accepted, its n numbers as pairs in any order, with or without the nodes that keep
+   their number, with its third, fourth and fifth figure, on the same two lists and counts; and so is every numbering with its own measures.
+   The n numbers are a numbering for wagonepoch_store_map and wagonepoch_eliminate, whose mark bytes the profile gives. The call has 8 KB of its own
+   on the stack.
+   Refusals: 1 to 5, 15, 13, which leave both lists as they were, then 7 and 14, which leave the numbers as they were and the first n scratch words
+   0. A new number that is 0, above n or taken twice, also by a node that keeps it, is 7. */
 uint16_t wagonepoch_import_numbering(const uint16_t *starts, size_t starts_len,
                                      const uint16_t *neighbours, size_t neighbours_len,
                                      const uint16_t *counts, size_t counts_len,
