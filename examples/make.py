@@ -258,7 +258,7 @@ and in which level, counted from the node with number 1, it is thickest, elimina
 unknown: the store map says where it begins and with which column. It also says what reverse Cuthill-McKee would give. In `c`, `grd.c` reads such a
 file, of either version, and makes its graph, refused as the program refuses it, `renumber.c` prints its listing, and `orders.c` prints both orders
 side by side: old number, number by the run, number by reverse Cuthill-McKee. For `bracket` and `encoder_plate` the two are the same; for `hub_sector`
-the second has bandwidth 148 and profile 39329.
+the second has bandwidth 148 and profile 39329. `import.c` takes a numbering of another tool, a text of three figures and pairs, and eliminates by it.
 '''
 
 
