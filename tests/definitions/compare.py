@@ -1,10 +1,10 @@
 #!/usr/bin/env python3
-"""The definitions of crate `spec` against the independent program.
+"""The definitions of `spec` and the crates of that family against the independent program.
 
   compare.py [--seed N] [--graphs N] [--files N]
 
-Each equation (a call of `spec` on an input, and what tests/reference answers and leaves) is a theorem by computation.
-They are checked in a temporary repository with copies of the crates basis and spec, in batches. Run by hand; it takes
+Each equation (a defined call on an input, and what tests/reference answers and leaves) is a theorem by computation.
+They are checked in a temporary repository with copies of the crates basis, spec and spec_import, in batches. Run by hand; it takes
 a quarter of an hour and is no part of the gate. Exit status 1 where a definition and the reference differ.
 """
 
@@ -44,11 +44,11 @@ use Rattle.spec.specs.CallsCuthill.{cuthillAnswer, cuthillNumbers, cuthillLevel
 use Rattle.spec.specs.CallsCuthill.{cuthillEliminateAnswer, cuthillEliminateBytes}
 use Rattle.spec.specs.CallsStore.{eliminationAnswer, eliminationScratch, eliminationBytes, runEliminateAnswer, runEliminateBytes}
 use Rattle.spec.specs.CallsMap.{storeMapAnswer, storeMapScratch, storeMapFirst, storeMapPlace}
-use Rattle.spec.specs.CallsImport.{importAnswer, importNumbers, importScratch}
+use Rattle.spec_import.specs.CallsImport.{importAnswer, importNumbers, importScratch}
 use Rattle.spec.specs.CallsMesh.{meshAnswer, meshStarts, meshNeighbours, meshScratch}
 use Rattle.spec.specs.Mesh.{startList, neighbourList}
 use Rattle.spec.specs.File.{fileCounts, fileGraph, fileRefusal, programOutput}
-use Rattle.spec.proofs.Compute.{computes}
+use Rattle.spec_import.proofs.Compute.{computesImport}
 '''
 BATCH = 60
 
@@ -60,18 +60,17 @@ def theorems(inputs, equations):
         for part, (left, right) in enumerate(equations(i)):
             name = 'case-%d-%d' % (number, part)
             names[name] = (left, right)
-            text.append('%s : %s ≡ %s\nunfolding computes\n%s = refl\n' % (name, left, right, name))
+            text.append('%s : %s ≡ %s\nunfolding computesImport\n%s = refl\n' % (name, left, right, name))
     return '\n'.join(text), names
 
 
 def repository(folder):
     """A repository with the definitions and room for one batch."""
-    for crate in ('basis', 'spec'):
-        shutil.copytree(os.path.join(TOP, 'crates', crate), os.path.join(folder, 'crates', crate))
-    shutil.rmtree(os.path.join(folder, 'crates', 'spec', 'must-fail'), ignore_errors=True)
+    for crate in ('basis', 'spec', 'spec_import'):
+        shutil.copytree(os.path.join(TOP, 'crates', crate), os.path.join(folder, 'crates', crate), ignore=shutil.ignore_patterns('must-fail'))
     for part in ('src', 'proofs'):
         os.makedirs(os.path.join(folder, 'crates', 'batch', part))
-    write(folder, 'crates.txt', 'basis:\nspec: basis\nbatch: basis spec\n')
+    write(folder, 'crates.txt', 'basis:\nspec: basis\nspec_import: basis spec\nbatch: basis spec spec_import\n')
     write(folder, 'crates/batch/src/lib.rt', '// Theorems only.\n')
     write(folder, 'crates/batch/proofs/Lib.antt', 'pub mod Batch\n')
 

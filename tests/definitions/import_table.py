@@ -1,7 +1,7 @@
 #!/usr/bin/env python3
 """The table of crate `spec` of numberings from other mesh tools (document 02, A.5): lists of pairs, figures, and the order of the refusals.
 
-  import_table.py            print crates/spec/proofs/ImportTable.antt; `rt fmt` lays it out
+  import_table.py            print crates/spec_import/proofs/ImportTable.antt; `rt fmt` lays it out
   import_table.py --check    say whether the file stands as this script prints it, layout aside
 
 Every expected value is what tests/reference answers or leaves; nothing is taken from the definitions.
@@ -36,10 +36,10 @@ use Prim.Native.Nat.{ℕ}
 use mathlib.Core.Path.{_≡_, refl}
 use mathlib.Core.List.{List, [], _∷_}
 use lib.ListN.{replicate}
 use Rattle.spec.specs.CallsNumbering.{MeasureFigures}
-use Rattle.spec.specs.CallsImport.{importAnswer, importNumbers, importScratch}
-use Rattle.spec.proofs.Compute.{computes}
+use Rattle.spec_import.specs.CallsImport.{importAnswer, importNumbers, importScratch}
+use Rattle.spec_import.proofs.Compute.{computesImport}
 use Rattle.spec.proofs.Called.{Lists, numberOf}
 
 -- what the call refuses by, 0 where it accepts, and what it leaves of the two lent lists
 record Imported : Type 0 where
@@ -148,9 +148,9 @@ def graph(name, why, lists):
 def text():
     return '\n'.join([
         HEAD, *[graph(*one) for one in GRAPHS], '-- ---- the table\n', 'record ImportTable : Type 0 where', *[row(*one) for one in ROWS], '',
-        'import-table : ImportTable', ' '.join(['unfolding computes numberOf lent sent imported'] + [name for name, *_ in GRAPHS]),
+        'import-table : ImportTable', ' '.join(['unfolding computesImport numberOf lent sent imported'] + [name for name, *_ in GRAPHS]),
         'import-table = record {', *['  %s = refl;' % name for name, *_ in ROWS], '}', ''])
 
 
 if __name__ == '__main__':
-    sys.exit(kept('ImportTable.antt', text()))
+    sys.exit(kept('ImportTable.antt', text(), 'spec_import'))

@@ -1,4 +1,4 @@
-"""What the scripts of tables share: a table of crate `spec` is printed, or held to the file that stands, layout aside."""
+"""What the scripts of tables share: a table of the definitions is printed, or held to the file that stands, layout aside."""
 
 import os
 import sys
@@ -11,12 +11,12 @@ def tokens(text):
     return ' '.join(text.split()).replace('; }', ' }').split()
 
 
-def kept(name, text):
+def kept(name, text, crate='spec'):
     """What a script does with the text of the table of that name; the exit status."""
     if sys.argv[1:] != ['--check']:
         print(text, end='')
         return 0
-    with open(os.path.join(TOP, 'crates', 'spec', 'proofs', name), encoding='utf-8') as f:
+    with open(os.path.join(TOP, 'crates', crate, 'proofs', name), encoding='utf-8') as f:
         same = tokens(f.read()) == tokens(text)
     print('%s: %s' % (name, 'as tests/reference has it' if same else 'NOT as tests/reference has it'))
     return 0 if same else 1

@@ -8,10 +8,10 @@ use mathlib.Core.List.{List}
 use Prim.Native.Nat.{ℕ}
 use lib.ListN.{getD, take}
 use Rattle.spec.specs.CallsCuthill.{cuthillAnswer, cuthillNumbers, cuthillLevels}
-use Rattle.spec.specs.CallsImport.{importRefusal, importAnswer, importNumbers}
+use Rattle.spec_import.specs.CallsImport.{importRefusal, importAnswer, importNumbers}
 use Rattle.spec.specs.CallsNumbering.{runAnswer, runNumbers, runLevels}
 use Rattle.spec.specs.Claim.{NumberedAs}
-use Rattle.spec.specs.ClaimImport.{pairsOf, Listing}
+use Rattle.spec_import.specs.ClaimImport.{pairsOf, Listing}
 use Rattle.spec.specs.Cuthill.{cuthillRun}
 use Rattle.spec.specs.Graph.{graphOf, graphRefusal, sizeOf}
 use Rattle.spec.specs.Lent.{filled, short}
@@ -19,7 +19,7 @@ use Rattle.spec.specs.Numbering.{PartResult, Run, run}
 use Rattle.spec.specs.Refusal.{refuse}
 use Rattle.laws.proofs.Claim.{claim}
 use Rattle.laws.proofs.CuthillRun.{cuthill-claim}
-use Rattle.laws.proofs.Import.{numbered-import}
+use Rattle.numbering_import.proofs.Import.{numbered-import}
 use Rattle.capi_figures.specs.Figures.{number, answerC, lentC, figuresC, runList}
 use Rattle.capi_figures.specs.Claimed.{figuresIn}
 use Rattle.capi_import.specs.Sent.{sentC}

@@ -1,7 +1,7 @@
 // The call of document 02's A.5. No list of figures is lent: the three are the caller's own.
 ghost use mathlib.Core.Path.{_≡_};
 ghost use Rattle.basis.specs.Moments.{was, left};
-ghost use Rattle.spec.specs.CallsImport.{importRefusal, importNumbers, importScratch};
+ghost use Rattle.spec_import.specs.CallsImport.{importRefusal, importNumbers, importScratch};
 ghost use Rattle.capi_import.specs.Sent.{sentC};
 
 // A numbering from another mesh tool, as pairs of old number and new, with its three figures.

@@ -1,7 +1,7 @@
 // What the C interface does of a numbering from another mesh tool: three figures as plain numbers, and the answer as one.
 ghost use mathlib.Core.Path.{_≡_};
 ghost use Rattle.basis.specs.Moments.{was, left};
-ghost use Rattle.spec.specs.CallsImport.{importRefusal, importNumbers, importScratch};
+ghost use Rattle.spec_import.specs.CallsImport.{importRefusal, importNumbers, importScratch};
 ghost use Rattle.capi_import.specs.Sent.{sentC};
 use numbering_import::ImportAnswer;
 use numbering_import::SuppliedFigures;

@@ -9,7 +9,7 @@ use lib.ListN.{length, take, drop, take-append-drop, drop-of-length-le}
 use lib.Seq.{length-take-le}
 use borrow.Author.Tests.{lt-ltb, le-ltb}
 use Rattle.basis.proofs.Logic.{or-left, or-right, or-neither}
-use Rattle.spec.specs.CallsImport.{supplied, refuses13, sameFigures, importRefusal, importAnswer, importNumbers, importScratch}
+use Rattle.spec_import.specs.CallsImport.{supplied, refuses13, sameFigures, importRefusal, importAnswer, importNumbers, importScratch}
 use Rattle.spec.specs.CallsNumbering.{MeasureFigures, measureFigures}
 use Rattle.spec.specs.Graph.{graphOf, sizeOf}
 use Rattle.spec.specs.Lent.{Outcome, refused, filled, scratchAfter, short}

@@ -12,9 +12,9 @@ use Rattle.basis.specs.Perm.{Once}
 use Rattle.basis.proofs.Index.{getD-map-upFrom}
 use Rattle.basis.proofs.Lists.{any-none, length-upFrom}
 use Rattle.basis.proofs.Logic.{by-test, or-none}
-use Rattle.spec.specs.CallsImport.{oldNumbers, newNumber, supplied, givenTwice, refuses13}
+use Rattle.spec_import.specs.CallsImport.{oldNumbers, newNumber, supplied, givenTwice, refuses13}
 use Rattle.spec.specs.Graph.{outside}
-use Rattle.laws.proofs.Import.{once-given}
+use Rattle.numbering_import.proofs.Import.{once-given}
 
 -- ---- the words of a pair
 

@@ -10,7 +10,7 @@ use lib.Seq.{drop-length}
 use borrow.Author.Tests.{eq-eqb, ne-eqb}
 use Rattle.basis.specs.Lists.{overwrite}
 use Rattle.basis.proofs.Logic.{and-none}
-use Rattle.spec.specs.CallsImport.{supplied, refuses13, sameFigures}
+use Rattle.spec_import.specs.CallsImport.{supplied, refuses13, sameFigures}
 use Rattle.spec.specs.CallsNumbering.{MeasureFigures, measureFigures}
 use Rattle.spec.specs.Graph.{graphOf, sizeOf}
 use Rattle.spec.specs.Lent.{Outcome, accepted, refused, outcome, filled, zeroed, scratchAfter}

@@ -1,3 +1,4 @@
+pub mod Import
 pub mod ByPair
 pub mod Seen
 pub mod Supplied

@@ -13,9 +13,9 @@ use Rattle.basis.specs.Lists.{anyb}
 use Rattle.basis.proofs.Index.{index-once, once-index, zeros-at}
 use Rattle.basis.proofs.Logic.{eq-or-ne, or-left, or-right, or-neither, passes}
 use Rattle.basis.proofs.Walk.{any-at, any-walked}
-use Rattle.spec.specs.CallsImport.{givenTwice}
+use Rattle.spec_import.specs.CallsImport.{givenTwice}
 use Rattle.spec.specs.Graph.{outside}
-use Rattle.laws.proofs.Import.{once-given, given-once}
+use Rattle.numbering_import.proofs.Import.{once-given, given-once}
 
 -- after i old numbers: each was one of 1..n and none was met before
 pub record Seen (l S₀ seen : List ℕ) (i : ℕ) : Type 0 where

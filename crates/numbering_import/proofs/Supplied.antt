@@ -11,7 +11,7 @@ use Rattle.basis.proofs.ByNumber.{wordOf, numberPuts, number-all}
 use Rattle.basis.proofs.Index.{getD-upFrom, getD-map-upFrom, memb-getD}
 use Rattle.basis.proofs.Lists.{length-upFrom}
 use Rattle.basis.proofs.Puts.{length-puts}
-use Rattle.spec.specs.CallsImport.{oldNumbers, supplied, refuses13}
+use Rattle.spec_import.specs.CallsImport.{oldNumbers, supplied, refuses13}
 use Rattle.numbering_import.proofs.ByPair.{new-at, supplied-length, supplied-at, Fine, pairs-fine}
 
 -- the new number of pair i

@@ -6,14 +6,14 @@ use mathlib.Core.Bool.{_||_}
 use mathlib.Core.List.{List}
 use Prim.Native.Nat.{ℕ}
 use lib.ListN.{take}
-use Rattle.spec.specs.CallsImport.{importAnswer, importNumbers}
+use Rattle.spec_import.specs.CallsImport.{importAnswer, importNumbers}
 use Rattle.spec.specs.Claim.{NumberedAs}
-use Rattle.spec.specs.ClaimImport.{pairsOf, Listing, threeOf}
+use Rattle.spec_import.specs.ClaimImport.{pairsOf, Listing, threeOf}
 use Rattle.spec.specs.Graph.{sizeOf}
 use Rattle.spec.specs.Lent.{Outcome, accepted, outcome, filled, short}
 use Rattle.spec.specs.Numbering.{Figures, PartResult, Run}
 use Rattle.spec.specs.Refusal.{refuse}
-use Rattle.laws.proofs.Import.{numbered-import}
+use Rattle.numbering_import.proofs.Import.{numbered-import}
 
 -- A is the meaning of what the numbering call answered, X and L are what it left. Its numbers are handed over by any listing ps of them; E is the
 -- meaning of what this call answered, lent B and C, and B′ is what it left in the numbers: refused by nothing but a short buffer, it hands them back.

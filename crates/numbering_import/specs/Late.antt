@@ -2,7 +2,7 @@
 use mathlib.Core.Bool.{not}
 use mathlib.Core.List.{List}
 use Prim.Native.Nat.{ℕ}
-use Rattle.spec.specs.CallsImport.{supplied, refuses13, sameFigures}
+use Rattle.spec_import.specs.CallsImport.{supplied, refuses13, sameFigures}
 use Rattle.spec.specs.CallsNumbering.{MeasureFigures, measureFigures}
 use Rattle.spec.specs.Graph.{graphOf, sizeOf}
 use Rattle.spec.specs.Measures.{isNumbering}

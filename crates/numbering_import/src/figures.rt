@@ -1,6 +1,6 @@
 // The three figures.
 ghost use mathlib.Core.Path.{_≡_};
-ghost use Rattle.spec.specs.CallsImport.{sameFigures};
+ghost use Rattle.spec_import.specs.CallsImport.{sameFigures};
 ghost use Rattle.numbering_ones.specs.Three.{three};
 ghost use Rattle.numbering_import.specs.Answer.{sentThree};
 use crate::answer::SuppliedFigures;

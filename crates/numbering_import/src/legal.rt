@@ -4,7 +4,7 @@ ghost use mathlib.Core.Bool.{false, not};
 ghost use lib.ListN.{length, replicate};
 ghost use Rattle.basis.specs.Lists.{sum};
 ghost use Rattle.basis.specs.Moments.{was, left};
-ghost use Rattle.spec.specs.CallsImport.{supplied, refuses13};
+ghost use Rattle.spec_import.specs.CallsImport.{supplied, refuses13};
 ghost use Rattle.spec.specs.Lent.{outcome, filled, scratchAfter};
 ghost use Rattle.spec.specs.Unknowns.{badCounts};
 ghost use Rattle.laws.specs.Handed.{sizeNow, sizeWas};

@@ -2,7 +2,7 @@
 // has the figures that were sent. Linear in nodes, entries and pairs.
 ghost use mathlib.Core.Path.{_≡_};
 ghost use Rattle.basis.specs.Moments.{was, left};
-ghost use Rattle.spec.specs.CallsImport.{importAnswer, importNumbers, importScratch};
+ghost use Rattle.spec_import.specs.CallsImport.{importAnswer, importNumbers, importScratch};
 ghost use Rattle.numbering_import.specs.Answer.{sentThree, meaning};
 
 mod answer;

@@ -5,7 +5,7 @@ ghost use Prim.Native.Nat.{_≤_};
 ghost use lib.ListN.{length};
 ghost use Rattle.basis.specs.Lists.{upFrom};
 ghost use Rattle.basis.specs.Moments.{was, left};
-ghost use Rattle.spec.specs.CallsImport.{refuses13, supplied};
+ghost use Rattle.spec_import.specs.CallsImport.{refuses13, supplied};
 use graph_words::wide;
 
 // Every node has its own number.

@@ -4,7 +4,7 @@ ghost use mathlib.Core.Bool.{_||_};
 ghost use lib.ListN.{length, replicate};
 ghost use Rattle.basis.specs.Lists.{anyb};
 ghost use Rattle.basis.specs.Moments.{was};
-ghost use Rattle.spec.specs.CallsImport.{oldNumbers, givenTwice, refuses13};
+ghost use Rattle.spec_import.specs.CallsImport.{oldNumbers, givenTwice, refuses13};
 ghost use Rattle.spec.specs.Graph.{outside};
 use graph_words::wide;
 

@@ -16,5 +16,3 @@ pub mod UnknownTable
 pub mod WrongUnknowns
 pub mod MapTable
 pub mod WrongMap
-pub mod ImportTable
-pub mod WrongImport

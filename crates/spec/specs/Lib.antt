@@ -17,10 +17,8 @@ pub mod CallsNumbering
 pub mod CallsStore
 pub mod CallsCuthill
 pub mod CallsMesh
-pub mod CallsImport
 pub mod Claim
 pub mod ClaimCuthill
-pub mod ClaimImport
 pub mod NoIdle
 pub mod StoreMap
 pub mod CallsMap

@@ -1,7 +1,7 @@
 -- `capi_import::import_numbering` meets its contract: the call is `numbering_import::import_numbering`, and its answer is told as a number.
 -- Assumes nothing.
 use borrow.Author.Needs.{needs}
-use Rattle.spec.specs.CallsImport.{importAnswer}
+use Rattle.spec_import.specs.CallsImport.{importAnswer}
 use Rattle.capi_import.proofs.Answers.{told-accepted, told-refused}
 use Rattle.capi_import.proofs.import_numbering.Statement.{statement}
 use Rattle.capi_import.proofs.import_numbering.Tie as tie

@@ -6,7 +6,7 @@ use native.Mathlib.Omega.{arith}
 use borrow.Author.Needs.{needs}
 use denote.Ref.{now}
 use lib.ListN.{length, length-replicate}
-use Rattle.spec.specs.CallsImport.{supplied, refuses13}
+use Rattle.spec_import.specs.CallsImport.{supplied, refuses13}
 use Rattle.spec.specs.Graph.{sizeOf}
 use Rattle.numbering_import.specs.Answer.{sentThree}
 use Rattle.numbering_import.proofs.Late.{done-13, done-late, done-none, zeros-own}

@@ -8,7 +8,7 @@ use denote.Ref.{now}
 use lib.ListN.{length, getD, length-set}
 use Rattle.basis.proofs.ByNumber.{wordOf}
 use Rattle.basis.proofs.Puts.{puts-none, puts-step}
-use Rattle.spec.specs.CallsImport.{oldNumbers}
+use Rattle.spec_import.specs.CallsImport.{oldNumbers}
 use Rattle.numbering_import.proofs.Supplied.{newAt, putsOf, old-range, puts-all}
 use Rattle.numbering_import.proofs.ByPair.{olds-length, olds-at}
 use Rattle.numbering_import.proofs.numbers.put_pairs.Statement.{statement}

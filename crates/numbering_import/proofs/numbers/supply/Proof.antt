@@ -4,7 +4,7 @@ use Prim.Native.Nat.{ℕ}
 use borrow.Author.Needs.{needs}
 use denote.Ref.{now}
 use Rattle.basis.specs.Lists.{upFrom}
-use Rattle.spec.specs.CallsImport.{supplied, refuses13}
+use Rattle.spec_import.specs.CallsImport.{supplied, refuses13}
 use Rattle.numbering_import.proofs.numbers.supply.Statement.{statement}
 use Rattle.numbering_import.proofs.numbers.supply.Tie as tie
 

@@ -5,7 +5,7 @@ use native.Mathlib.Omega.{arith}
 use borrow.Author.Needs.{needs}
 use denote.Ref.{now}
 use lib.ListN.{length, getD}
-use Rattle.spec.specs.CallsImport.{oldNumbers}
+use Rattle.spec_import.specs.CallsImport.{oldNumbers}
 use Rattle.numbering_import.proofs.ByPair.{olds-length, olds-at}
 use Rattle.numbering_import.proofs.Seen.{Seen, seen-none, seen-more, seen-all, met-zero, met-high, met-again}
 use Rattle.numbering_import.proofs.pairs.bad_olds.Statement.{statement}

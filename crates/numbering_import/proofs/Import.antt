@@ -17,19 +17,19 @@ use Rattle.basis.proofs.Lists.{any-none, any-fails, length-upFrom, upFrom-in, u
 use Rattle.basis.proofs.Logic.{by-test, clash, and-make, or-neither}
 use Rattle.basis.proofs.Perm.{perm-memb}
 use Rattle.spec.specs.CallsCuthill.{cuthillAnswer, cuthillNumbers}
-use Rattle.spec.specs.CallsImport.{oldNumbers, newNumber, supplied, givenTwice, refuses13, sameFigures, importRefusal, importAnswer, importNumbers}
+use Rattle.spec_import.specs.CallsImport.{oldNumbers, newNumber, supplied, givenTwice, refuses13, sameFigures, importRefusal, importAnswer, importNumbers}
 use Rattle.spec.specs.CallsNumbering.{MeasureFigures, measureFigures, runAnswer, runNumbers}
 use Rattle.spec.specs.Claim.{NumberedAs}
-use Rattle.spec.specs.ClaimImport.{pairsOf, Listing, threeOf, ImportClaim}
+use Rattle.spec_import.specs.ClaimImport.{pairsOf, Listing, threeOf, ImportClaim}
 use Rattle.spec.specs.Graph.{graphOf, graphRefusal, sizeOf, outside, ofNode}
 use Rattle.spec.specs.Lent.{accepted, outcome, short}
 use Rattle.spec.specs.Measures.{isNumbering}
 use Rattle.spec.specs.Numbering.{Figures, PartResult, Run}
 use Rattle.spec.specs.Refusal.{refuse, _orElse_}
 use Rattle.spec.specs.Unknowns.{badCounts, renumberedUnknowns}
 use Rattle.laws.proofs.Claim.{claim}
 use Rattle.laws.proofs.CuthillRun.{cuthill-claim}
 use Rattle.laws.proofs.Numberings.{numbering-length}
 
 -- ---- lists in which no number is given twice
 

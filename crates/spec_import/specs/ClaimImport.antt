@@ -7,12 +7,12 @@ use mathlib.Core.Bool.{false, _||_}
 use mathlib.Core.List.{List, [], _∷_}
 use mathlib.Core.Path.{_≡_}
 use Rattle.basis.specs.Lists.{anyb, memb}
 use Rattle.spec.specs.Refusal.{refuse}
 use Rattle.spec.specs.Lent.{outcome, filled, short}
 use Rattle.spec.specs.Graph.{sizeOf, outside, ofNode}
 use Rattle.spec.specs.Numbering.{Figures}
 use Rattle.spec.specs.CallsNumbering.{MeasureFigures}
-use Rattle.spec.specs.CallsImport.{givenTwice, importAnswer, importNumbers}
+use Rattle.spec_import.specs.CallsImport.{givenTwice, importAnswer, importNumbers}
 
 -- the pairs of the listed nodes, "old number then new", in the order of the list
 unfoldable pub pairsOf : List ℕ → List ℕ → List ℕ

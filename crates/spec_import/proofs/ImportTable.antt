@@ -5,10 +5,10 @@ use Prim.Native.Nat.{ℕ}
 use mathlib.Core.Path.{_≡_, refl}
 use mathlib.Core.List.{List, [], _∷_}
 use lib.ListN.{replicate}
 use Rattle.spec.specs.CallsNumbering.{MeasureFigures}
-use Rattle.spec.specs.CallsImport.{importAnswer, importNumbers, importScratch}
-use Rattle.spec.proofs.Compute.{computes}
+use Rattle.spec_import.specs.CallsImport.{importAnswer, importNumbers, importScratch}
+use Rattle.spec_import.proofs.Compute.{computesImport}
 use Rattle.spec.proofs.Called.{Lists, numberOf}
 
 -- what the call refuses by, 0 where it accepts, and what it leaves of the two lent lists
 record Imported : Type 0 where
@@ -117,7 +117,7 @@ record ImportTable : Type 0 where
   four-first : imported unpaired [] (1 ∷ []) (sent 9 9 9) 2 2 ≡ record { by = 4; numbers = lent 2; scratch = lent 2 }
 
 import-table : ImportTable
-unfolding computes numberOf lent sent imported one unpaired path ring sample
+unfolding computesImport numberOf lent sent imported one unpaired path ring sample
 import-table = record {
   whole = refl;
   kept-left-out = refl;

@@ -7,12 +7,12 @@ use mathlib.Core.Path.{_≡_, refl, ap}
 use native.Mathlib.Omega.{arith}
 use lib.ListN.{replicate}
 use Rattle.basis.specs.Lists.{memb}
 use Rattle.spec.specs.CallsNumbering.{MeasureFigures}
-use Rattle.spec.specs.CallsImport.{givenTwice}
-use Rattle.spec.specs.ClaimImport.{pairsOf, Listing, ImportClaim}
+use Rattle.spec_import.specs.CallsImport.{givenTwice}
+use Rattle.spec_import.specs.ClaimImport.{pairsOf, Listing, ImportClaim}
 use Rattle.spec.specs.Graph.{ofNode}
-use Rattle.spec.proofs.Compute.{computes}
+use Rattle.spec_import.proofs.Compute.{computesImport}
 use Rattle.spec.proofs.Called.{numberOf}
 
 -- ---- the path 1-2-3, numbered 2-1-3: bandwidth 2, profile 3, front 3; with two unknowns of node 1, 3, 6 and 4
 
@@ -39,7 +39,7 @@ third (suc (suc (suc (suc p)))) lo hi out = absurd (omega arith)
 
 -- the pairs of a list of nodes
 pairs-listed : pairsOf X (2 ∷ 1 ∷ []) ≡ 2 ∷ 1 ∷ 1 ∷ 2 ∷ []
-unfolding computes
+unfolding computesImport
 pairs-listed = refl
 
 -- node 3 need not be listed
@@ -49,21 +49,21 @@ listed = record { inside = refl; once = refl; kept = third }
 
 -- figures in nodes
 pub no-node-figures : ImportClaim S N (2 ∷ 1 ∷ 1 ∷ []) X (three 2 3 3) → ⊥
-unfolding computes numberOf
+unfolding computesImport numberOf
 no-node-figures C =
     let z : _≡_ {A = ℕ} 14 0 = ap numberOf (C .accepts (2 ∷ 1 ∷ []) (replicate 3 9) (replicate 3 9) listed) in
     absurd (omega (arith, z))
 
 -- those of the old numbers
 pub no-old-figures : ImportClaim S N (1 ∷ 1 ∷ 1 ∷ []) X (three 1 2 2) → ⊥
-unfolding computes numberOf
+unfolding computesImport numberOf
 no-old-figures C =
     let z : _≡_ {A = ℕ} 14 0 = ap numberOf (C .accepts (2 ∷ 1 ∷ []) (replicate 3 9) (replicate 3 9) listed) in
     absurd (omega (arith, z))
 
 -- rows {2}, {}, {}
 pub no-broken-lists : (M : MeasureFigures) → ImportClaim (0 ∷ 1 ∷ 1 ∷ 1 ∷ []) (2 ∷ []) (1 ∷ 1 ∷ 1 ∷ []) X M → ⊥
-unfolding computes numberOf
+unfolding computesImport numberOf
 no-broken-lists M C =
     let z : _≡_ {A = ℕ} 4 0 = ap numberOf (C .accepts (2 ∷ 1 ∷ []) (replicate 3 9) (replicate 3 9) listed) in
     absurd (omega (arith, z))

@@ -1,0 +1,2 @@
+pub mod CallsImport
+pub mod ClaimImport
