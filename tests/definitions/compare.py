@@ -4,7 +4,7 @@
   compare.py [--seed N] [--graphs N] [--files N]
 
 Each equation (a defined call on an input, and what tests/reference answers and leaves) is a theorem by computation.
-They are checked in a temporary repository with copies of the crates basis, spec and spec_import, in batches. Run by hand; it takes
+They are checked in a temporary repository with copies of the crates basis, spec, spec_claims and spec_import, in batches. Run by hand; it takes
 a quarter of an hour and is no part of the gate. Exit status 1 where a definition and the reference differ.
 """
 
@@ -34,7 +34,7 @@ use lib.ListN.{replicate}
 use Rattle.spec.specs.Graph.{graphOf}
 use Rattle.spec.specs.Lent.{refused, accepted}
 use Rattle.spec.specs.Measures.{renumbered}
-use Rattle.spec.specs.NoIdle.{connected, lowerNeighbours, fullBytes, beforeTurning, turnedBack}
+use Rattle.spec_claims.specs.NoIdle.{connected, lowerNeighbours, fullBytes, beforeTurning, turnedBack}
 use Rattle.spec.specs.Numbering.{Forward, Reversed}
 use Rattle.spec.specs.CallsLevels.{adjacencyAnswer, rootedAnswer, rootedLevels, rootedSizes, endsAnswer, endsScratch}
 use Rattle.spec.specs.CallsLevels.{combinedAnswer, combinedLevels, combinedScratch}
@@ -48,6 +48,7 @@ use Rattle.spec_import.specs.CallsImport.{importAnswer, importNumbers, importSc
 use Rattle.spec.specs.CallsMesh.{meshAnswer, meshStarts, meshNeighbours, meshScratch}
 use Rattle.spec.specs.Mesh.{startList, neighbourList}
 use Rattle.spec.specs.File.{fileCounts, fileGraph, fileRefusal, programOutput}
+use Rattle.spec_claims.proofs.Compute.{computesClaims}
 use Rattle.spec_import.proofs.Compute.{computesImport}
 '''
 BATCH = 60
@@ -60,17 +61,17 @@ def theorems(inputs, equations):
         for part, (left, right) in enumerate(equations(i)):
             name = 'case-%d-%d' % (number, part)
             names[name] = (left, right)
-            text.append('%s : %s ≡ %s\nunfolding computesImport\n%s = refl\n' % (name, left, right, name))
+            text.append('%s : %s ≡ %s\nunfolding computesClaims computesImport\n%s = refl\n' % (name, left, right, name))
     return '\n'.join(text), names
 
 
 def repository(folder):
     """A repository with the definitions and room for one batch."""
-    for crate in ('basis', 'spec', 'spec_import'):
+    for crate in ('basis', 'spec', 'spec_claims', 'spec_import'):
         shutil.copytree(os.path.join(TOP, 'crates', crate), os.path.join(folder, 'crates', crate), ignore=shutil.ignore_patterns('must-fail'))
     for part in ('src', 'proofs'):
         os.makedirs(os.path.join(folder, 'crates', 'batch', part))
-    write(folder, 'crates.txt', 'basis:\nspec: basis\nspec_import: basis spec\nbatch: basis spec spec_import\n')
+    write(folder, 'crates.txt', 'basis:\nspec: basis\nspec_claims: basis spec\nspec_import: basis spec\nbatch: basis spec spec_claims spec_import\n')
     write(folder, 'crates/batch/src/lib.rt', '// Theorems only.\n')
     write(folder, 'crates/batch/proofs/Lib.antt', 'pub mod Batch\n')
 

@@ -10,7 +10,7 @@ use lib.ListN.{getD, take}
 use Rattle.spec.specs.CallsCuthill.{cuthillAnswer, cuthillNumbers, cuthillLevels}
 use Rattle.spec_import.specs.CallsImport.{importRefusal, importAnswer, importNumbers}
 use Rattle.spec.specs.CallsNumbering.{runAnswer, runNumbers, runLevels}
-use Rattle.spec.specs.Claim.{NumberedAs}
+use Rattle.spec_claims.specs.Claim.{NumberedAs}
 use Rattle.spec_import.specs.ClaimImport.{pairsOf, Listing}
 use Rattle.spec.specs.Cuthill.{cuthillRun}
 use Rattle.spec.specs.Graph.{graphOf, graphRefusal, sizeOf}

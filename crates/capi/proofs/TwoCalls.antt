@@ -12,7 +12,7 @@ use Rattle.basis.specs.Lists.{overwrite}
 use Rattle.spec.specs.CallsCuthill.{cuthillAnswer, cuthillNumbers, cuthillLevels}
 use Rattle.spec.specs.CallsNumbering.{runAnswer, runNumbers, runLevels}
 use Rattle.spec.specs.CallsStore.{EliminationFigures, eliminationFigures, eliminationAnswer, eliminationBytes}
-use Rattle.spec.specs.Claim.{JoinedPlace, ClaimAs}
+use Rattle.spec_claims.specs.Claim.{JoinedPlace, ClaimAs}
 use Rattle.spec.specs.Cuthill.{cuthillRun}
 use Rattle.spec.specs.Graph.{Graph, graphOf, graphRefusal, sizeOf}
 use Rattle.spec.specs.Lent.{accepted, outcome, short}

@@ -5,12 +5,12 @@ use mathlib.Core.List.{List, [], _∷_}
 use Prim.Native.Nat.{ℕ}
 use native.Mathlib.Omega.{arith}
 use lib.ListN.{getD, replicate}
-use Rattle.spec.specs.Claim.{JoinedPlace}
+use Rattle.spec_claims.specs.Claim.{JoinedPlace}
 use Rattle.spec.specs.Graph.{graphOf}
 use Rattle.spec.specs.Unknowns.{renumberedUnknowns}
 use Rattle.spec.proofs.Compute.{computes}
-use Rattle.spec.proofs.Wrong.{S, N, K}
-use Rattle.spec.proofs.WrongCalls.{no-other-figures}
+use Rattle.spec_claims.proofs.Wrong.{S, N, K}
+use Rattle.spec_claims.proofs.WrongCalls.{no-other-figures}
 use Rattle.capi_figures.specs.Claimed.{ClaimedC}
 
 -- the run's list of figures, of width w

@@ -10,7 +10,7 @@ use mathlib.Core.Path.{_≡_}
 use lib.ListN.{take, getD}
 use Rattle.basis.specs.Lists.{overwrite}
 use Rattle.spec.specs.CallsStore.{eliminationFigures}
-use Rattle.spec.specs.Claim.{JoinedPlace, ClaimAs}
+use Rattle.spec_claims.specs.Claim.{JoinedPlace, ClaimAs}
 use Rattle.spec.specs.Cuthill.{cuthillResult, cuthillRun}
 use Rattle.spec.specs.Graph.{graphOf, sizeOf}
 use Rattle.spec.specs.Lent.{short}

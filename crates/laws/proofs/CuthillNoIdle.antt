@@ -21,7 +21,7 @@ use Rattle.spec.specs.Graph.{Graph, adjoins, ofNode, sizeOf, graphOf, graphRefu
 use Rattle.spec.specs.Lent.{accepted}
 use Rattle.spec.specs.Levels.{leaders}
 use Rattle.spec.specs.Measures.{firstIn, isNumbering, inOrder, numbersOf, renumbered}
-use Rattle.spec.specs.NoIdle.{lowerNeighbours, NoIdle, Fills, beforeTurning, turnedBack}
+use Rattle.spec_claims.specs.NoIdle.{lowerNeighbours, NoIdle, Fills, beforeTurning, turnedBack}
 use Rattle.spec.specs.Numbering.{Figures, PartResult, wholeOrder, figuresOf, runOf}
 use Rattle.spec.specs.Unknowns.{ones}
 use Rattle.laws.specs.Legal.{Node, LegalGraph, Closed}

@@ -6,7 +6,7 @@ use mathlib.Core.List.{List}
 use Prim.Native.Nat.{ℕ, _-_, _*_, _≤_}
 use lib.ListN.{length, take}
 use Rattle.spec.specs.CallsCuthill.{cuthillRefusal, cuthillAnswer, cuthillNumbers, cuthillLevels}
-use Rattle.spec.specs.ClaimCuthill.{bandOf, wideOf, CuthillNumbered, CuthillClaim}
+use Rattle.spec_claims.specs.ClaimCuthill.{bandOf, wideOf, CuthillNumbered, CuthillClaim}
 use Rattle.spec.specs.Cuthill.{cuthillResultBy, cuthillResult, cuthillResults, cuthillRun}
 use Rattle.spec.specs.Graph.{Graph, sizeOf, graphOf, graphRefusal}
 use Rattle.spec.specs.Lent.{accepted}

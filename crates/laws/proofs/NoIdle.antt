@@ -21,7 +21,7 @@ use Rattle.spec.specs.CallsStore.{EliminationFigures, eliminationFigures, elimi
 use Rattle.spec.specs.Graph.{Graph, adjoins, sizeOf, graphOf, graphRefusal}
 use Rattle.spec.specs.Levels.{part, leaders}
 use Rattle.spec.specs.Measures.{firstIn, isNumbering, renumbered, profile}
-use Rattle.spec.specs.NoIdle.{connected, lowerNeighbours, fullBytes, NoIdle, Fills}
+use Rattle.spec_claims.specs.NoIdle.{connected, lowerNeighbours, fullBytes, NoIdle, Fills}
 use Rattle.spec.specs.Unknowns.{ones, renumberedUnknowns}
 use Rattle.spec.specs.Store.{Pair, hasPlace, placedPairs, joined, marks, markCount, markByteCount, markByte, markBytes}
 use Rattle.laws.specs.Legal.{Node, LegalGraph}

@@ -13,7 +13,7 @@ use Rattle.basis.proofs.Index.{greatest-memb, greatest-le, greatest-met}
 use Rattle.basis.proofs.Lists.{map-map, sum-cong}
 use Rattle.basis.proofs.Logic.{fails, eq-or-ne}
 use Rattle.basis.proofs.Perm.{perm-sum}
-use Rattle.spec.specs.Claim.{depthOf, IsLevel, StandsIn, countIn}
+use Rattle.spec_claims.specs.Claim.{depthOf, IsLevel, StandsIn, countIn}
 use Rattle.spec.specs.Graph.{Graph, nodes, adjoins, ofNode}
 use Rattle.spec.specs.Levels.{part, leaders, Neighbouring}
 use Rattle.spec.specs.Numbering.{PartResult, wholeLevels, figuresOf, runOf}

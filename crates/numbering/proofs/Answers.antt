@@ -10,7 +10,7 @@ use lib.Dec.{ltb}
 use borrow.Author.Tests.{lt-ltb, le-ltb, ltb-false}
 use Rattle.basis.proofs.Logic.{or-none}
 use Rattle.spec.specs.CallsNumbering.{runRefusal, runScratch}
-use Rattle.spec.specs.ClaimCuthill.{CuthillNumbered}
+use Rattle.spec_claims.specs.ClaimCuthill.{CuthillNumbered}
 use Rattle.spec.specs.Cuthill.{cuthillResults, cuthillRun}
 use Rattle.spec.specs.Graph.{graphOf, sizeOf}
 use Rattle.spec.specs.Lent.{Outcome, accepted, refused, zeroed, wordsPerNode}

@@ -2,7 +2,7 @@
 use mathlib.Core.List.{List}
 use Prim.Native.Nat.{ℕ}
 use Rattle.spec.specs.CallsNumbering.{runRefusal}
-use Rattle.spec.specs.Claim.{NumberedAs}
+use Rattle.spec_claims.specs.Claim.{NumberedAs}
 use Rattle.spec.specs.Graph.{graphOf}
 use Rattle.spec.specs.Lent.{Outcome, outcome, filled}
 use Rattle.spec.specs.Numbering.{Run, Figures}

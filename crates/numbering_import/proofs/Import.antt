@@ -19,7 +19,7 @@ use Rattle.basis.proofs.Perm.{perm-memb}
 use Rattle.spec.specs.CallsCuthill.{cuthillAnswer, cuthillNumbers}
 use Rattle.spec_import.specs.CallsImport.{oldNumbers, newNumber, supplied, givenTwice, refuses13, sameFigures, importRefusal, importAnswer, importNumbers}
 use Rattle.spec.specs.CallsNumbering.{MeasureFigures, measureFigures, runAnswer, runNumbers}
-use Rattle.spec.specs.Claim.{NumberedAs}
+use Rattle.spec_claims.specs.Claim.{NumberedAs}
 use Rattle.spec_import.specs.ClaimImport.{pairsOf, Listing, threeOf, ImportClaim}
 use Rattle.spec.specs.Graph.{graphOf, graphRefusal, sizeOf, outside, ofNode}
 use Rattle.spec.specs.Lent.{accepted, outcome, short}

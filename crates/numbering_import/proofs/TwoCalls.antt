@@ -7,7 +7,7 @@ use mathlib.Core.List.{List}
 use Prim.Native.Nat.{ℕ}
 use lib.ListN.{take}
 use Rattle.spec_import.specs.CallsImport.{importAnswer, importNumbers}
-use Rattle.spec.specs.Claim.{NumberedAs}
+use Rattle.spec_claims.specs.Claim.{NumberedAs}
 use Rattle.spec_import.specs.ClaimImport.{pairsOf, Listing, threeOf}
 use Rattle.spec.specs.Graph.{sizeOf}
 use Rattle.spec.specs.Lent.{Outcome, accepted, outcome, filled, short}

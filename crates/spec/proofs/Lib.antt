@@ -5,14 +5,7 @@ pub mod Collapsed
 pub mod Bracket
 pub mod Examples
 pub mod Buffers
-pub mod Wrong
-pub mod WrongStore
-pub mod WrongCalls
 pub mod CuthillTable
-pub mod WrongCuthill
-pub mod IdleTable
-pub mod WrongIdle
 pub mod UnknownTable
-pub mod WrongUnknowns
 pub mod MapTable
 pub mod WrongMap

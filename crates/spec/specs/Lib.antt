@@ -17,8 +17,5 @@ pub mod CallsNumbering
 pub mod CallsStore
 pub mod CallsCuthill
 pub mod CallsMesh
-pub mod Claim
-pub mod ClaimCuthill
-pub mod NoIdle
 pub mod StoreMap
 pub mod CallsMap

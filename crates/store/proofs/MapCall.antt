@@ -9,7 +9,7 @@ use lib.ListN.{take}
 use Rattle.basis.specs.Lists.{bit}
 use Rattle.spec.specs.CallsMap.{MapFigures, storeMapAnswer, storeMapFirst, storeMapPlace}
 use Rattle.spec.specs.CallsStore.{EliminationFigures}
-use Rattle.spec.specs.Claim.{ClaimedAs}
+use Rattle.spec_claims.specs.Claim.{ClaimedAs}
 use Rattle.spec.specs.Graph.{adjoins, graphOf, sizeOf}
 use Rattle.spec.specs.Lent.{Outcome, accepted}
 use Rattle.spec.specs.Numbering.{Figures, PartResult, Run}

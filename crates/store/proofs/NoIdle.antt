@@ -11,7 +11,7 @@ use Rattle.spec.specs.CallsStore.{EliminationFigures, eliminationAnswer, elimin
 use Rattle.spec.specs.Graph.{sizeOf, graphOf}
 use Rattle.spec.specs.Lent.{Outcome, accepted}
 use Rattle.spec.specs.Measures.{renumbered, profile}
-use Rattle.spec.specs.NoIdle.{fullBytes, Fills, turnedBack}
+use Rattle.spec_claims.specs.NoIdle.{fullBytes, Fills, turnedBack}
 use Rattle.spec.specs.Numbering.{Figures}
 use Rattle.spec.specs.Unknowns.{ones}
 use Rattle.laws.proofs.CuthillNoIdle.{turned-fills}

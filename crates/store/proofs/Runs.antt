@@ -12,8 +12,8 @@ use Rattle.basis.proofs.Logic.{or-none}
 use Rattle.spec.specs.CallsCuthill.{cuthillRefusal, cuthillAnswer, cuthillNumbers, cuthillScratch}
 use Rattle.spec.specs.CallsNumbering.{runRefusal, runAnswer, runNumbers, runScratch}
 use Rattle.spec.specs.CallsStore.{RunElimination, EliminationFigures, eliminationAnswer, eliminationScratch, eliminationBytes, handedOn, thenEliminateAnswer, thenEliminateBytes}
-use Rattle.spec.specs.Claim.{NumberedAs, ClaimedAs}
-use Rattle.spec.specs.ClaimCuthill.{CuthillNumbered}
+use Rattle.spec_claims.specs.Claim.{NumberedAs, ClaimedAs}
+use Rattle.spec_claims.specs.ClaimCuthill.{CuthillNumbered}
 use Rattle.spec.specs.Cuthill.{cuthillResult, cuthillRun}
 use Rattle.spec.specs.Graph.{sizeOf, graphOf, graphRefusal}
 use Rattle.spec.specs.Lent.{Outcome, accepted, refused, outcome, filled, scratchAfter, wordsPerNode, short}

@@ -7,7 +7,7 @@ use mathlib.Core.List.{List}
 use Prim.Native.Nat.{ℕ}
 use lib.ListN.{take}
 use Rattle.spec.specs.CallsStore.{EliminationFigures, eliminationAnswer, eliminationBytes}
-use Rattle.spec.specs.Claim.{NumberedAs, ClaimedAs}
+use Rattle.spec_claims.specs.Claim.{NumberedAs, ClaimedAs}
 use Rattle.spec.specs.Graph.{sizeOf}
 use Rattle.spec.specs.Lent.{Outcome, accepted}
 use Rattle.spec.specs.Numbering.{Figures, PartResult, Run}

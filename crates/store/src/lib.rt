@@ -5,8 +5,8 @@ ghost use Rattle.spec.specs.CallsCuthill.{cuthillNumbers, cuthillLevels, cuthil
 ghost use Rattle.spec.specs.CallsNumbering.{runNumbers, runLevels, runPasses, runScratch};
 ghost use Rattle.spec.specs.CallsStore.{RunElimination as RunEliminated, eliminationAnswer, eliminationScratch, eliminationBytes, handedOn};
 ghost use Rattle.spec.specs.CallsStore.{thenEliminateAnswer, thenEliminateBytes, runEliminateAnswer, runEliminateBytes};
-ghost use Rattle.spec.specs.Claim.{Claimed};
-ghost use Rattle.spec.specs.ClaimCuthill.{CuthillClaimed};
+ghost use Rattle.spec_claims.specs.Claim.{Claimed};
+ghost use Rattle.spec_claims.specs.ClaimCuthill.{CuthillClaimed};
 ghost use Rattle.spec.specs.Lent.{accepted};
 ghost use Rattle.spec.specs.Numbering.{Figures};
 ghost use Rattle.numbering.specs.Answer.{meaning as numbered};

@@ -8,15 +8,15 @@ use mathlib.Core.List.{List}
 use mathlib.Core.Path.{_≡_}
 use lib.ListN.{length}
 use Rattle.basis.specs.Lists.{memb}
 use Rattle.spec.specs.Graph.{Graph, graphOf}
 use Rattle.spec.specs.Levels.{part, leaders}
 use Rattle.spec.specs.Measures.{bandwidth}
 use Rattle.spec.specs.Unknowns.{orderUnknowns}
 use Rattle.spec.specs.Numbering.{Figures}
 use Rattle.spec.specs.Cuthill.{cuthillResult, cuthillRun}
-use Rattle.spec.specs.Claim.{NumberedAs, ClaimAs, ClaimedAs}
+use Rattle.spec_claims.specs.Claim.{NumberedAs, ClaimAs, ClaimedAs}
 use Rattle.spec.specs.CallsStore.{EliminationFigures}
 use Rattle.spec.specs.Lent.{Outcome}
 
 -- "its bandwidth": that of the part which z leads, by its own numbers
 abbrev pub bandOf : Graph → List ℕ → ℕ → ℕ

@@ -4,15 +4,15 @@ use Prim.Native.Nat.{ℕ}
 use mathlib.Core.Bool.{Bool, true, false}
 use mathlib.Core.List.{List, [], _∷_}
 use mathlib.Core.Path.{_≡_, refl}
 use Rattle.spec.specs.CallsStore.{EliminationFigures}
 use Rattle.spec.specs.Cuthill.{cuthillRun}
 use Rattle.spec.specs.Graph.{graphOf}
 use Rattle.spec.specs.Lent.{Outcome, accepted}
 use Rattle.spec.specs.Measures.{renumbered, profile}
-use Rattle.spec.specs.NoIdle.{connected, lowerNeighbours, fullBytes, beforeTurning, turnedBack}
+use Rattle.spec_claims.specs.NoIdle.{connected, lowerNeighbours, fullBytes, beforeTurning, turnedBack}
 use Rattle.spec.specs.Numbering.{run}
-use Rattle.spec.proofs.Compute.{computes}
+use Rattle.spec_claims.proofs.Compute.{computesClaims}
 use Rattle.spec.proofs.Called.{Lists, each, eliminationFor, bytesFor}
 
 -- ---- the graphs
 
@@ -78,7 +78,7 @@ record IdleTable : Type 0 where
   parts-before : beforeTurning (graphOf (0 ∷ 1 ∷ 1 ∷ 2 ∷ []) (3 ∷ 1 ∷ [])) ≡ 1 ∷ 3 ∷ 2 ∷ []
 
 idle-table : IdleTable
-unfolding computes stored with-store
+unfolding computesClaims stored with-store
 idle-table = record {
   one-node = refl;
   last-alone = refl;

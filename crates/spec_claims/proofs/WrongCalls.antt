@@ -5,13 +5,13 @@ use mathlib.Core.List.{List, [], _∷_}
 use mathlib.Core.Path.{_≡_, ap}
 use native.Mathlib.Omega.{arith}
 use lib.ListN.{replicate, getD}
 use Rattle.spec.specs.CallsStore.{EliminationFigures}
-use Rattle.spec.specs.Claim.{Claim, Claimed}
+use Rattle.spec_claims.specs.Claim.{Claim, Claimed}
 use Rattle.spec.specs.Lent.{Outcome, accepted}
 use Rattle.spec.specs.Numbering.{Figures}
-use Rattle.spec.proofs.Compute.{computes}
-use Rattle.spec.proofs.Wrong.{no-invented-figure, S, N, K, figured}
-use Rattle.spec.proofs.WrongStore.{no-large-store}
+use Rattle.spec_claims.proofs.Compute.{computesClaims}
+use Rattle.spec_claims.proofs.Wrong.{no-invented-figure, S, N, K, figured}
+use Rattle.spec_claims.proofs.WrongStore.{no-large-store}
 
 -- a claim of which one half speaks of other figures
 pub no-other-figures : (X L : List ℕ) → Claim S N K (figured 1 2 2) X L → ⊥
@@ -40,7 +40,7 @@ TX = 2 ∷ 3 ∷ 4 ∷ 1 ∷ 5 ∷ []
 
 -- an elimination that was handed the old numbers: its counts ..
 pub no-old-elimination : (F : Figures) (L B′ : List ℕ) → Claimed TS TN TK F TX L (replicate 5 0) (0 ∷ []) (accepted (record { marked = 7; new = 3 })) B′ → ⊥
-unfolding computes
+unfolding computesClaims
 no-old-elimination F L B′ W = let z : _≡_ {A = ℕ} 7 4 = counted (W .elimination) in absurd (omega (arith, z))
   where
     counted : {a b : EliminationFigures} → accepted a ≡ accepted b → a .marked ≡ b .marked
@@ -48,5 +48,5 @@ no-old-elimination F L B′ W = let z : _≡_ {A = ℕ} 7 4 = counted (W .elimin
 
 -- .. and its bytes
 pub no-old-marks : (F : Figures) (L : List ℕ) (E : Outcome EliminationFigures) → Claimed TS TN TK F TX L (replicate 5 0) (0 ∷ []) E (127 ∷ []) → ⊥
-unfolding computes
+unfolding computesClaims
 no-old-marks F L E W = let z : _≡_ {A = ℕ} 127 15 = ap (λ (l : List ℕ). getD l 0 0) (W .bytes) in absurd (omega (arith, z))

@@ -10,31 +10,31 @@ use lib.Dec.{ltb}
 use borrow.Author.Tests.{eqb-true, ltb-true}
 use Rattle.basis.proofs.Lists.{memb-one}
 use Rattle.basis.proofs.Logic.{and-split}
-use Rattle.spec.specs.Claim.{JoinedPlace, StoreClaim}
+use Rattle.spec_claims.specs.Claim.{JoinedPlace, StoreClaim}
 use Rattle.spec.specs.CallsStore.{eliminationFigures, eliminationBytes}
 use Rattle.spec.specs.Graph.{Graph, graphOf, adjoins}
 use Rattle.spec.specs.Lent.{accepted, refused}
 use Rattle.spec.specs.Unknowns.{renumberedUnknowns}
 use Rattle.spec.specs.Store.{Pair, hasPlace, place, joined, markAt}
-use Rattle.spec.proofs.Compute.{computes}
-use Rattle.spec.proofs.Wrong.{S, N, K}
+use Rattle.spec_claims.proofs.Compute.{computesClaims}
+use Rattle.spec_claims.proofs.Wrong.{S, N, K}
 
 -- ---- on the rows {2}, {}, whose entry lacks its partner
 
 -- a joined pair without a place
 pub no-place : StoreClaim (0 ∷ 1 ∷ 1 ∷ []) (2 ∷ []) (1 ∷ 1 ∷ []) (1 ∷ 2 ∷ []) 1 → ⊥
-unfolding computes
+unfolding computesClaims
 no-place C = false≢true (C .has-place 0 (record { low = 1; high = 2 }) (record { order = omega arith; join = refl }))
 
 -- a pair that is joined one way only
 pub no-one-way : StoreClaim (0 ∷ 1 ∷ 1 ∷ []) (2 ∷ []) (1 ∷ 1 ∷ []) (1 ∷ 2 ∷ []) 1 → ⊥
-unfolding computes
+unfolding computesClaims
 no-one-way C = false≢true (C .both-ways 0 1 2 refl)
 
 -- ---- on the rows {2, 3}, {}, {}: two pairs at place 0
 
 pub no-shared-place : StoreClaim (0 ∷ 2 ∷ 2 ∷ 2 ∷ []) (2 ∷ 3 ∷ []) K (1 ∷ 2 ∷ 3 ∷ []) 1 → ⊥
-unfolding computes
+unfolding computesClaims
 no-shared-place C =
     let e = C .no-share 0 (record { low = 1; high = 2 }) (record { low = 1; high = 3 }) (record { order = omega arith; join = refl }) (record { order = omega arith; join = refl }) refl in
     let z : _≡_ {A = ℕ} 2 3 = ap (λ (a : Pair). a .high) e in
@@ -50,12 +50,12 @@ last-pair = record { low = 2; high = 3 }
 
 -- a profile that is too small
 pub no-small-store : StoreClaim S N K X 1 → ⊥
-unfolding computes
+unfolding computesClaims
 no-small-store C = let z : 1 < 1 = C .in-store 0 last-pair (record { order = omega arith; join = refl }) in absurd (omega (arith, z))
 
 -- a profile so large that the elimination would ask for bytes that it does not need
 pub no-large-store : StoreClaim S N K X 9 → ⊥
-unfolding computes
+unfolding computesClaims
 no-large-store C = let z : accepted (eliminationFigures (renumberedUnknowns (graphOf S N) K X)) ≡ refused 8 = C .refuses (replicate 3 0) (0 ∷ []) in absurd (refused-not _ 8 z)
   where
     refused-not : {A : Type 0} (a : A) (c : ℕ) → accepted a ≡ refused c → ⊥
@@ -68,7 +68,7 @@ edge = renumberedUnknowns (graphOf (0 ∷ 1 ∷ 2 ∷ []) (2 ∷ 1 ∷ [])) (1 �
 
 -- no pair has a second place
 second-place : (l h : ℕ) → h ≤ 2 → hasPlace edge (record { low = l; high = h }) ≡ true → place edge (record { low = l; high = h }) ≡ 1 → ⊥
-unfolding computes
+unfolding computesClaims
 second-place zero zero m e p = false≢true e
 second-place zero (suc zero) m e p = false≢true e
 second-place zero (suc (suc zero)) m e p = false≢true e
@@ -81,12 +81,12 @@ second-place (suc (suc l)) h m e p = absurd (omega (arith, m, ltb-true (suc (suc
 
 -- a profile that is too large
 pub no-second-place : StoreClaim (0 ∷ 1 ∷ 2 ∷ []) (2 ∷ 1 ∷ []) (1 ∷ 1 ∷ []) (1 ∷ 2 ∷ []) 2 → ⊥
-unfolding computes
+unfolding computesClaims
 no-second-place C = let w = C .exact 1 (omega arith) in second-place (w .pair .low) (w .pair .high) (w .inside) (w .has) (w .stands)
 
 -- and none of its joined pairs has place 8
 ninth-place : (l h : ℕ) → l < h → adjoins (joined edge) l h ≡ true → place edge (record { low = l; high = h }) ≡ 8 → ⊥
-unfolding computes
+unfolding computesClaims
 ninth-place zero h o j p = false≢true j
 ninth-place (suc zero) zero o j p = false≢true j
 ninth-place (suc zero) (suc zero) o j p = false≢true j
@@ -99,7 +99,7 @@ ninth-place (suc (suc (suc l))) h o j p = false≢true j
 
 -- a profile so large that a bit of the excess would be a mark
 pub no-mark-outside : StoreClaim (0 ∷ 1 ∷ 2 ∷ []) (2 ∷ 1 ∷ []) (1 ∷ 1 ∷ []) (1 ∷ 2 ∷ []) 9 → ⊥
-unfolding computes
+unfolding computesClaims
 no-mark-outside C =
     let w = C .marks (replicate 2 0) (0 ∷ 1 ∷ []) _ refl 8 (omega arith) .0 refl in
     ninth-place (w .pair .low) (w .pair .high) (w .order) (w .join) (w .stands)
@@ -119,12 +119,12 @@ abbrev RX : List ℕ
 RX = 1 ∷ 2 ∷ 4 ∷ 3 ∷ []
 
 new-pair : JoinedPlace (renumberedUnknowns (graphOf RS RN) RK RX) 2
-unfolding computes
+unfolding computesClaims
 new-pair = record { pair = record { low = 2; high = 3 }; order = omega arith; join = refl; has = refl; stands = refl }
 
 -- marks for the edges only
 pub no-edges-only : eliminationBytes RS RN RK RX (replicate 4 0) (0 ∷ []) ≡ 27 ∷ [] → StoreClaim RS RN RK RX 5 → ⊥
-unfolding computes
+unfolding computesClaims
 no-edges-only b C =
     let m : markAt (27 ∷ []) 2 ≡ 1 = ap (λ (l : List ℕ). markAt l 2) (sym b) ∙ C .marks (replicate 4 0) (0 ∷ []) _ refl 2 (omega arith) .1 new-pair in
     let z : _≡_ {A = ℕ} 0 1 = m in
