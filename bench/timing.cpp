@@ -64,8 +64,8 @@ struct Given {
   size_t n;
   Words elements, starts, neighbours, counts, numbering;
   u16 root;
-  Words pairs;      // of old and new number
-  u64 supplied[3];  // bandwidth, profile and front that come with the pairs
+  Words pairs = {};      // of old and new number
+  u64 supplied[3] = {};  // bandwidth, profile and front that come with the pairs
 };
 
 // The counts of unknowns that the calls are tried with, and what their lines say of them.
