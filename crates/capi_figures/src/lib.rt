@@ -1,4 +1,6 @@
 // The figures of the C interface: what a library answers becomes the number that a call returns, and the figures in the list lent for them.
+#![tactic(auto)]
+
 ghost use Rattle.std.specs.Prelude.{◌≡◌};
 ghost use Rattle.spec.specs.Refusal.{◌or_else◌};
 

@@ -1,4 +1,6 @@
 // What the C interface does of a numbering from another mesh tool: three figures as plain numbers, and the answer as one.
+#![tactic(auto)]
+
 ghost use Rattle.std.specs.Prelude.{◌≡◌};
 ghost use Rattle.basis.specs.Moments.{was, left};
 ghost use Rattle.spec_import.specs.CallsImport.{import_refusal, import_numbers, import_scratch};

@@ -1,4 +1,6 @@
 // A file's bytes, read to its counts of unknowns and the two lists of its mesh: header, counts, elements, then the adjacency.
+#![tactic(auto)]
+
 ghost use Rattle.std.specs.Prelude.{◌≡◌};
 ghost use Rattle.basis.specs.Moments.{was};
 ghost use Rattle.spec.specs.File.{header_refusal};

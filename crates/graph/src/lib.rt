@@ -1,4 +1,6 @@
 // The adjacency test: whether a start list of n + 1 words and a neighbour list are a legal graph. Nothing is lent, nothing is written.
+#![tactic(auto)]
+
 ghost use Rattle.std.specs.Prelude.{◌≡◌, true, ◌≤◌, length, leb, ltb};
 ghost use Rattle.basis.specs.Lists.{chainb, memb};
 ghost use Rattle.basis.specs.Moments.{was};

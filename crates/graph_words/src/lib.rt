@@ -1,4 +1,6 @@
 // Small functions on words that every library above uses.
+#![tactic(auto)]
+
 ghost use Rattle.std.specs.Prelude.{◌≡◌, max, min};
 
 // A word as an index.

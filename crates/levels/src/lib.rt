@@ -1,5 +1,7 @@
 // Document 01's first library: rooted levels, the ends of a part and its combined levels. Each call tests what it is handed, in the order of
 // the table: 1 to 4, then 5, then 6.
+#![tactic(auto)]
+
 pub mod answer;
 pub mod legal;
 mod part;

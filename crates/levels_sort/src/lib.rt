@@ -1,2 +1,4 @@
 // Nodes sorted by E.
+#![tactic(auto)]
+
 pub mod legal;

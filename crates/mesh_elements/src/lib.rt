@@ -1,4 +1,6 @@
 // Elements of a mesh, as words: a kind word, then its nodes. Their tests, for the mesh call and for a file alike.
+#![tactic(auto)]
+
 ghost use Rattle.std.specs.Prelude.{◌≡◌, length, eqb, ltb};
 ghost use Rattle.basis.specs.Moments.{was};
 ghost use Rattle.spec.specs.Refusal.{refuse, ◌or_else◌};

@@ -1,5 +1,7 @@
 // Document 01's second library: the whole run; and A.3's call beside it. Both take the counts of unknowns, by old number, and test what they are
 // handed in the order of the table: 1 to 4, then 5, then 15.
+#![tactic(auto)]
+
 pub mod answer;
 
 ghost use Rattle.std.specs.Prelude.{◌≡◌, ◌||◌, ◌*◌, ◌≤◌, ltb, take};

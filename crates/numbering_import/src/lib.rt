@@ -1,5 +1,7 @@
 // Numberings from other mesh tools: a supplier's pairs, old number then new, are made into a full numbering, which is accepted if it is one and
 // has the figures that were sent. Linear in nodes, entries and pairs.
+#![tactic(auto)]
+
 ghost use Rattle.std.specs.Prelude.{◌≡◌};
 ghost use Rattle.basis.specs.Moments.{was, left};
 ghost use Rattle.spec_import.specs.CallsImport.{import_answer, import_numbers, import_scratch};

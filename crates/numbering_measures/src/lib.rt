@@ -1,4 +1,6 @@
 // Bandwidth, profile and front of a legal graph under a numbering, in unknowns. Linear in nodes and entries.
+#![tactic(auto)]
+
 ghost use Rattle.std.specs.Prelude.{◌≡◌};
 ghost use Rattle.basis.specs.Moments.{was, left};
 ghost use Rattle.spec.specs.CallsNumbering.{measures_answer, measures_scratch};

@@ -1,5 +1,7 @@
 // The report of one part: "v and u as now named, k, the combined levels' width, passes and a direction". The call takes the counts of unknowns,
 // by old number, and tests what it is handed in the order of the table: 1 to 4, then 5, then 15, then 6.
+#![tactic(auto)]
+
 pub mod answer;
 pub mod legal;
 mod part;

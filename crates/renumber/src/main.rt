@@ -1,4 +1,6 @@
 // Document 01's program: reads a file from standard input and prints its listing, or the line of a refusal.
+#![tactic(auto)]
+
 ghost use Rattle.std.specs.Prelude.{◌≡◌, take};
 ghost use Rattle.basis.specs.Moments.{was, left};
 ghost use Rattle.spec.specs.File.{program_output};

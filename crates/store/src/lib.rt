@@ -1,4 +1,6 @@
 // The elimination, the store map, and a numbering call with the elimination after it, whose contract has demand 3: both are handed the same counts.
+#![tactic(auto)]
+
 ghost use Rattle.std.specs.Prelude.{◌≡◌};
 ghost use Rattle.basis.specs.Moments.{was, left};
 ghost use Rattle.spec.specs.CallsCuthill.{cuthill_numbers, cuthill_levels, cuthill_passes, cuthill_scratch, cuthill_eliminate_answer, cuthill_eliminate_bytes};

@@ -1,4 +1,6 @@
 // The store of a numbered graph, in unknowns: the marks of the pairs that the elimination joins.
+#![tactic(auto)]
+
 ghost use Rattle.std.specs.Prelude.{◌≡◌};
 ghost use Rattle.basis.specs.Moments.{was, left};
 ghost use Rattle.spec.specs.CallsStore.{elimination_answer, elimination_scratch, elimination_bytes};

@@ -1,4 +1,6 @@
 // The store map of a numbered graph, in unknowns: of each row its first column and where it starts. Linear in nodes, entries and unknowns.
+#![tactic(auto)]
+
 ghost use Rattle.std.specs.Prelude.{◌≡◌, ◌||◌, suc, ◌*◌, ◌≤◌, ltb};
 ghost use Rattle.basis.specs.Moments.{was, left};
 ghost use Rattle.spec.specs.CallsMap.{store_map_answer, store_map_scratch, store_map_first, store_map_place};

@@ -4,6 +4,8 @@
 // A case: the call's number; four given lists (starts, neighbours, counts of unknowns, and a numbering, pairs or elements); a given node, or n; the
 // lengths of four lent lists and of the lent bytes; then for the store map the length of its places, and for the call that takes a numbering
 // from another tool three figures. A call leaves alone what it doesn't need.
+#![tactic(auto)]
+
 mod calls;
 
 // One call.

@@ -1,4 +1,6 @@
 // The adjacency test, run: one line a case, its name and the answer. The file stdout has what document 01 says.
+#![tactic(auto)]
+
 ghost use Rattle.std.specs.Prelude.{◌<◌};
 
 use graph::Adjacency;

@@ -1,5 +1,7 @@
 // Reads files from standard input, each after its length, and writes a line for each: what the reading of it answers, and the end contents
 // of the five lent lists. The files and the expected lines come from an independent program: tests/vectors/files.py.
+#![tactic(auto)]
+
 ghost use Rattle.std.specs.Prelude.{◌≤◌, length};
 
 use libc::STDIN_FILENO;

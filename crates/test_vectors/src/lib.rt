@@ -1,5 +1,7 @@
 // What the test programs share: numbers and lists read from standard input, lent buffers that hold a pattern, and answers and end contents
 // written to standard output. The scripts of tests/vectors make the same input and text.
+#![tactic(auto)]
+
 mod input;
 mod lent;
 mod output;
