@@ -1,6 +1,6 @@
 -- Visiting nodes: what it does to what is fresh and to the room, and the loop over a row, on lists and in one slice. Assumes nothing.
 use mathlib.Core.Path.{◌≡◌, refl, sym, ap, ◌∙◌}
-use mathlib.Core.Bool.{Bool, true, false, not, ◌&&◌, cond, and_true, and-false}
+use mathlib.Core.Bool.{Bool, true, false, not, ◌&&◌, cond, and-true, and-false}
 use mathlib.Core.List.{List, [], ◌∷◌, ◌++◌}
 use Prim.Native.Nat.{ℕ, suc, ◌+◌, ◌-◌, ◌*◌, ◌≤◌, ◌<◌}
 use native.Mathlib.Nat.{add-zero}
@@ -69,7 +69,7 @@ module _ {n : ℕ} {W L : List ℕ} {tail : ℕ} (A : Seek n W L tail) {vs W' L'
       let a = same_loose q l h in let b = level_is q l h in λ i. a i && eqb (b i) 0 in
       e ∙ by_test (memb q new)
       (λ m. rw m (and-false (loose_at n W q) ∙ sym (and-false (fresh_at n W L q))))
-      (λ m. rw m (sym (and_true (fresh_at n W L q))))
+      (λ m. rw m (sym (and-true (fresh_at n W L q))))
 
   -- what is new was fresh before
   pub spare_on : tail' + countb (fresh_at n W' L') (up_from 1 n) ≤ tail + countb (fresh_at n W L) (up_from 1 n)
@@ -138,7 +138,7 @@ module _ {n : ℕ} {row W L : List ℕ} {tail : ℕ} {W' L' : List ℕ} {t k : �
   same_fresh : fresh_at n W' L' v ≡ fresh_at n W L v
   same_fresh =
       let m : memb v (filterb (fresh_at n W L) (take k row)) ≡ false = memb-filter (fresh_at n W L) (take k row) v ∙ rw v-new in
-      fresh_after I.ask (nodes-take k I.good) I.on v v_low v_high ∙ rw m (and_true (fresh_at n W L v))
+      fresh_after I.ask (nodes-take k I.good) I.on v v_low v_high ∙ rw m (and-true (fresh_at n W L v))
 
   next : take (k + 1) row ≡ take k row ++ (v ∷ [])
   next = ap (λ (j : ℕ). take j row) (add-one k) ∙ take-suc row k 0 h ∙ ap (λ (x : ℕ). take k row ++ (x ∷ [])) (sym e)

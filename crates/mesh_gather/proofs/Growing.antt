@@ -1,6 +1,6 @@
 -- Sets that grow: what is left to add completes what was added. Assumes nothing.
 use mathlib.Core.Path.{◌≡◌, refl, sym, ap, subst, ◌∙◌}
-use mathlib.Core.Bool.{Bool, true, false, ◌&&◌, ◌||◌, or_assoc, or_false}
+use mathlib.Core.Bool.{Bool, true, false, ◌&&◌, ◌||◌, or_assoc, or-false}
 use mathlib.Core.List.{List}
 use Prim.Native.Nat.{ℕ, suc, ◌+◌, ◌*◌, ◌-◌, ◌≤◌, ◌<◌}
 use native.Mathlib.Omega.{arith}
@@ -32,7 +32,7 @@ module _ (xs ys : List ℕ) (row : ℕ) (size : length xs ≡ 4096) (h : row < 6
       ∙ ap (λ (w : List ℕ). has w x || t (suc x)) (part-lent xs row ∙ ap (set_at xs) (sym e))
 
   there : (k x : ℕ) → (k ≡ row → ⊥) → has (set_at changed k) x ≡ has (set_at xs k) x || (false && t (suc x))
-  there k x d = ap (λ (w : List ℕ). has w x) (put_other xs ys row size h part k d) ∙ sym (or_false (has (set_at xs k) x))
+  there k x d = ap (λ (w : List ℕ). has w x) (put_other xs ys row size h part k d) ∙ sym (or-false (has (set_at xs k) x))
 
   pub grown_one : Grown (λ k q. eqb k row && t q) xs changed
   grown_one = record {
@@ -67,7 +67,7 @@ module _ {left whole : ℕ → ℕ → Bool} {before sets : List ℕ} (T : Towar
 
   pub towards_done : ((k q : ℕ) → k < 64 → left k q ≡ false) → Grown whole before sets
   towards_done e = record {
-    at = λ k h. record { at = λ x l. sym (or_false (has (set_at sets k) x)) ∙ ap (λ b. has (set_at sets k) x || b) (sym (e k (suc x) h)) ∙ T.at k x h l };
+    at = λ k h. record { at = λ x l. sym (or-false (has (set_at sets k) x)) ∙ ap (λ b. has (set_at sets k) x || b) (sym (e k (suc x) h)) ∙ T.at k x h l };
   }
 
 -- ---- node by node of an element

@@ -1,6 +1,6 @@
 -- Passes over elements and over lists of them: what is left to do completes what is done. Assumes nothing.
 use Rattle.std.proofs.Common.{◌≡◌, ℕ, zero, suc, ◌+◌, ◌*◌, ◌<◌, ◌≤◌, Bool, false, ◌||◌, eqb, ltb, List, length, get_or, take, drop, sym, refl, ap, ◌∙◌, subst, ⊎_elim, arith, length-drop, drop_of_length-le, ltb-false, ne_eqb}
-use mathlib.Core.Bool.{or_assoc, or_false}
+use mathlib.Core.Bool.{or_assoc, or-false}
 use borrow.Author.Tests.{eqb-false}
 use Rattle.basis.specs.Lists.{anyb, memb}
 use Rattle.basis.proofs.Index.{memb-get_or}
@@ -69,7 +69,7 @@ module _ (at base rows : ℕ) (nodes before : List ℕ) (cell : ℕ) where
     pub entering_done : length nodes ≤ j → Entered at rows (λ k. memb (base + suc k) nodes) before cell after free
     entering_done h =
         entered_by E.entered
-        (λ k l. sym (or_false (E.hit k)) ∙ ap (λ (x : List ℕ). E.hit k || memb (base + suc k) x) (sym (drop_of_length-le nodes h)) ∙ E.rest k l)
+        (λ k l. sym (or-false (E.hit k)) ∙ ap (λ (x : List ℕ). E.hit k || memb (base + suc k) x) (sym (drop_of_length-le nodes h)) ∙ E.rest k l)
 
 -- ---- all elements are entered
 
@@ -112,7 +112,7 @@ module _ (n : ℕ) (ws : List ℕ) (base rows : ℕ) where
     listing_done h = record {
       linked = record { free = free; cells = L.cells; sound = L.sound };
       at = λ k q l.
-          sym (or_false (held (node_in ws) rows words k q))
+          sym (or-false (held (node_in ws) rows words k q))
           ∙ ap (λ (els : List (List ℕ)). held (node_in ws) rows words k q || share els (base + suc k) q) (sym (elements_over ws j h))
           ∙ L.at k q l;
     }
@@ -160,5 +160,5 @@ module _ (ws : List ℕ) (rows : ℕ) (words : List ℕ) (K : Linked ws rows wor
     pub walking_done : cell ≡ 0 → Added (held (node_in ws) rows words row) before bits
     unfolding hold_in
     walking_done z = record {
-      at = λ x l. sym (or_false (has bits x)) ∙ ap (λ (c : ℕ). has bits x || hold_in (node_in ws) c rows words c (suc x)) (sym z) ∙ W.at x l;
+      at = λ x l. sym (or-false (has bits x)) ∙ ap (λ (c : ℕ). has bits x || hold_in (node_in ws) c rows words c (suc x)) (sym z) ∙ W.at x l;
     }

@@ -1,7 +1,7 @@
 -- Sets of nodes in words, filled and emptied. Assumes nothing.
 use mathlib.Core.Path.{◌≡◌, refl, sym, ap, ap₂, subst, ◌∙◌}
 use mathlib.Core.Logic.{⊎_elim}
-use mathlib.Core.Bool.{Bool, true, false, not, ◌&&◌, ◌||◌, and_true, or_assoc, or_false}
+use mathlib.Core.Bool.{Bool, true, false, not, ◌&&◌, ◌||◌, and-true, or_assoc, or-false}
 use mathlib.Core.List.{List}
 use Prim.Native.Nat.{ℕ, zero, suc, ◌+◌, ◌*◌, ◌-◌, ◌/◌, ◌%◌, ◌^◌, ◌≤◌, ◌<◌}
 use native.Mathlib.Nat.{add-zero, div-one}
@@ -22,7 +22,7 @@ use Rattle.mesh_rowset.specs.Set.{bit_at, has, in_row, members, Empty, Covered, 
 use Rattle.mesh_rowset.proofs.Bits.{bit_zero, bit-or, bit_down, Lowest, lowest_in_lem}
 
 and-all : (a : Bool) {b : Bool} → b ≡ true → a && b ≡ a
-and-all a e = ap (λ b. a && b) e ∙ and_true a
+and-all a e = ap (λ b. a && b) e ∙ and-true a
 
 -- ---- nodes are added
 
@@ -64,7 +64,7 @@ module _ (before nodes : List ℕ) where
 
           there : (x / 64 ≡ x₀ / 64 → ⊥) → bit_at (x % 64) (get_or new (x / 64) 0) ≡ bit_at (x % 64) (get_or bits (x / 64) 0) || eqb (suc x) (get_or nodes j 0)
           there d =
-              ap (bit_at (x % 64)) (get_or-set_other bits (x₀ / 64) (x / 64) _ 0 d) ∙ sym (or_false _)
+              ap (bit_at (x % 64)) (get_or-set_other bits (x₀ / 64) (x / 64) _ 0 d) ∙ sym (or-false _)
               ∙ ap (λ c. bit_at (x % 64) (get_or bits (x / 64) 0) || c)
               (sym (ne_eqb (suc x) (get_or nodes j 0) (λ z. let s : x ≡ x₀ = omega (arith, e, z) in d (ap (λ (i : ℕ). i / 64) s))))
 
@@ -85,7 +85,7 @@ module _ (before nodes : List ℕ) where
 
     pub adding_done : length nodes ≤ j → Added (λ q. memb q nodes) before bits
     adding_done h = record {
-      at = λ x m. sym (or_false (has bits x)) ∙ ap (λ (r : List ℕ). has bits x || memb (suc x) r) (sym (drop_of_length-le nodes h)) ∙ A.at x m;
+      at = λ x m. sym (or-false (has bits x)) ∙ ap (λ (r : List ℕ). has bits x || memb (suc x) r) (sym (drop_of_length-le nodes h)) ∙ A.at x m;
     }
 
 -- ---- numbers that fail are passed over

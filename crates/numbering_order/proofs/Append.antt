@@ -1,6 +1,6 @@
 -- The nodes of a row that get a number, one after another: the loop of `append`. Assumes nothing.
 use mathlib.Core.Path.{◌≡◌, refl, sym, ap, ◌∙◌}
-use mathlib.Core.Bool.{Bool, true, false, ◌||◌, or_false}
+use mathlib.Core.Bool.{Bool, true, false, ◌||◌, or-false}
 use mathlib.Core.List.{List, [], ◌∷◌, ◌++◌, append_assoc, append-nil}
 use Prim.Native.Nat.{ℕ, suc, ◌+◌, ◌≤◌, ◌<◌}
 use native.Mathlib.Omega.{arith}
@@ -42,7 +42,7 @@ module _ (L : List ℕ) (i : ℕ) where
           same x m =
               let h : q < x = rise_head q l c x m in
               let f : memb x (o ++ (q ∷ [])) ≡ memb x o =
-              memb-append x o (q ∷ []) ∙ ap (λ (b : Bool). memb x o || b) (memb-one x q ∙ ne_eqb x q (λ s. omega arith)) ∙ or_false (memb x o) in
+              memb-append x o (q ∷ []) ∙ ap (λ (b : Bool). memb x o || b) (memb-one x q ∙ ne_eqb x q (λ s. omega arith)) ∙ or-false (memb x o) in
               rw f
 
       no : free L i o q ≡ false → (o ++ filterb (free L i o) (q ∷ [])) ++ filterb (free L i (o ++ filterb (free L i o) (q ∷ []))) l ≡ o ++ filterb (free L i o) (q ∷ l)

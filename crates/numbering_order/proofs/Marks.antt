@@ -1,7 +1,7 @@
 -- The marks of an order: which nodes have one, one more, and how `wipe` takes them away again. Assumes nothing.
 use mathlib.Core.Path.{◌≡◌, refl, sym, ap, ◌∙◌}
 use mathlib.Core.Logic.{⊎_elim}
-use mathlib.Core.Bool.{Bool, false, ◌||◌, or_false}
+use mathlib.Core.Bool.{Bool, false, ◌||◌, or-false}
 use mathlib.Core.List.{List, [], ◌∷◌, ◌++◌, map}
 use Prim.Native.Nat.{ℕ, zero, suc, ◌+◌, ◌-◌, ◌≤◌, ◌<◌}
 use native.Mathlib.Omega.{arith}
@@ -48,7 +48,7 @@ marks-set n o z lo hi =
         ap (λ (j : ℕ). get_or (set (marks_of n o) (z - 1) 1) j 0) k ∙ get_or-set_same (marks_of n o) (z - 1) 1 0 (omega (arith, marks-length n o))
         ∙ sym (r ∙ ap bit (or_right (memb (suc i) o) (eq-eqb (suc i) z q))))
         (λ (q : suc i ≡ z → ⊥).
-        let u : memb (suc i) o || eqb (suc i) z ≡ memb (suc i) o = rw (ne_eqb (suc i) z q) (or_false (memb (suc i) o)) in
+        let u : memb (suc i) o || eqb (suc i) z ≡ memb (suc i) o = rw (ne_eqb (suc i) z q) (or-false (memb (suc i) o)) in
         get_or-set_other (marks_of n o) (z - 1) i 1 0 (λ k. q (omega arith)) ∙ marks-at n o i h
         ∙ sym (r ∙ ap bit u))
         (eq_or_ne (suc i) z)

@@ -1,6 +1,6 @@
 -- The edges of a legal graph are half of its entries, whatever its numbering. Assumes nothing.
 use mathlib.Core.Path.{◌≡◌, refl, sym, ap, ◌∙◌}
-use mathlib.Core.Bool.{Bool, true, ◌&&◌, and_true}
+use mathlib.Core.Bool.{Bool, true, ◌&&◌, and-true}
 use mathlib.Core.List.{List, map}
 use Prim.Native.Nat.{ℕ, ◌+◌, ◌*◌, ◌/◌}
 use native.Mathlib.Omega.{arith}
@@ -63,7 +63,7 @@ module _ {h : Graph} (H : LegalGraph h) where
   unfolding degree
   degree-nodes q =
       all (h.row q) ∙ row-nodes (λ p. true) q
-      ∙ count_cong (λ p. adjoins h q p && true) (adjoins h q) (nodes h) (λ p m. and_true (adjoins h q p))
+      ∙ count_cong (λ p. adjoins h q p && true) (adjoins h q) (nodes h) (λ p m. and-true (adjoins h q p))
 
 -- ---- degrees do not depend on the numbering
 
