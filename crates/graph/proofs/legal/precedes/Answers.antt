@@ -1,0 +1,28 @@
+-- `graph::legal::precedes` meets its contract.
+-- Assumes nothing.
+use mathlib.Core.Path.{sym}
+use native.Mathlib.Omega.{arith}
+use Rattle.spec.specs.Graph.{graph_of}
+use Rattle.laws.proofs.Orders.{E-lower, E-higher, E-tie}
+use Rattle.graph.proofs.legal.precedes.Goals as goal
+
+pub returns-then-a-b : goal.returns-then-a-b
+returns-then-a-b c =
+    λ N h.
+    let a = c.args in
+    sym (E-lower (graph_of a.starts.now N) a.p a.q
+    (omega (arith, c.degree-a.ensures N h, c.degree-b.ensures N h)))
+
+pub returns-then-a-b-2 : goal.returns-then-a-b-2
+returns-then-a-b-2 c =
+    λ N h.
+    let a = c.args in
+    sym (E-higher (graph_of a.starts.now N) a.p a.q
+    (omega (arith, c.degree-a.ensures N h, c.degree-b.ensures N h)))
+
+pub returns : goal.returns
+returns c =
+    λ N h.
+    let a = c.args in
+    sym (E-tie (graph_of a.starts.now N) a.p a.q
+    (omega (arith, c.degree-a.ensures N h, c.degree-b.ensures N h)))
