@@ -1,6 +1,5 @@
 // The call of document 02's A.5. No list of figures is lent: the three are the caller's own.
 ghost use Rattle.std.specs.Prelude.{◌≡◌};
-ghost use Rattle.basis.specs.Moments.{was, left};
 ghost use Rattle.spec_import.specs.CallsImport.{import_refusal, import_numbers, import_scratch};
 ghost use Rattle.capi_import.specs.Sent.{sent_c};
 
@@ -17,9 +16,9 @@ pub extern "C" fn wagonepoch_import_numbering(
     numbers: &mut [u16],
     scratch: &mut [u16],
 ) -> u16
-    ensures value { result ≡ import_refusal (was starts) (was neighbours) (was counts) (was pairs) (sent_c bandwidth profile front) (was numbers) (was scratch) }
-    ensures numbers_value { left numbers ≡ import_numbers (was starts) (was neighbours) (was counts) (was pairs) (sent_c bandwidth profile front) (was numbers) (was scratch) }
-    ensures scratch_value { left scratch ≡ import_scratch (was starts) (was neighbours) (was counts) (was pairs) (sent_c bandwidth profile front) (was numbers) (was scratch) }
+    ensures value { result ≡ import_refusal starts.now neighbours.now counts.now pairs.now (sent_c bandwidth profile front) numbers.old scratch.old }
+    ensures numbers_value { numbers.new ≡ import_numbers starts.now neighbours.now counts.now pairs.now (sent_c bandwidth profile front) numbers.old scratch.old }
+    ensures scratch_value { scratch.new ≡ import_scratch starts.now neighbours.now counts.now pairs.now (sent_c bandwidth profile front) numbers.old scratch.old }
 {
     capi_import::import_numbering(
         starts, neighbours, counts, pairs, bandwidth, profile, front, numbers, scratch,

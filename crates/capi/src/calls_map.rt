@@ -1,6 +1,5 @@
 // The store map as a call.
 ghost use Rattle.std.specs.Prelude.{◌≡◌};
-ghost use Rattle.basis.specs.Moments.{was, left};
 ghost use Rattle.spec.specs.CallsMap.{store_map_answer, store_map_scratch, store_map_first, store_map_place};
 ghost use Rattle.spec.specs.Graph.{graph_refusal};
 ghost use Rattle.capi_figures.specs.Figures.{answer_c, lent_c, figures_c, map_list};
@@ -17,11 +16,11 @@ pub extern "C" fn wagonepoch_store_map(
     place: &mut [u32],
     figures: &mut [u64],
 ) -> u16
-    ensures value { result ≡ answer_c 2 (was figures) (graph_refusal (was starts) (was neighbours)) (store_map_answer (was starts) (was neighbours) (was counts) (was numbering) (was scratch) (was first) (was place)) }
-    ensures figures_value { left figures ≡ figures_c 2 (was figures) map_list (store_map_answer (was starts) (was neighbours) (was counts) (was numbering) (was scratch) (was first) (was place)) }
-    ensures scratch_value { left scratch ≡ lent_c 2 (was figures) (was scratch) (store_map_scratch (was starts) (was neighbours) (was counts) (was numbering) (was scratch) (was first) (was place)) }
-    ensures first_value { left first ≡ lent_c 2 (was figures) (was first) (store_map_first (was starts) (was neighbours) (was counts) (was numbering) (was scratch) (was first) (was place)) }
-    ensures place_value { left place ≡ lent_c 2 (was figures) (was place) (store_map_place (was starts) (was neighbours) (was counts) (was numbering) (was scratch) (was first) (was place)) }
+    ensures value { result ≡ answer_c 2 figures.old (graph_refusal starts.now neighbours.now) (store_map_answer starts.now neighbours.now counts.now numbering.now scratch.old first.old place.old) }
+    ensures figures_value { figures.new ≡ figures_c 2 figures.old map_list (store_map_answer starts.now neighbours.now counts.now numbering.now scratch.old first.old place.old) }
+    ensures scratch_value { scratch.new ≡ lent_c 2 figures.old scratch.old (store_map_scratch starts.now neighbours.now counts.now numbering.now scratch.old first.old place.old) }
+    ensures first_value { first.new ≡ lent_c 2 figures.old first.old (store_map_first starts.now neighbours.now counts.now numbering.now scratch.old first.old place.old) }
+    ensures place_value { place.new ≡ lent_c 2 figures.old place.old (store_map_place starts.now neighbours.now counts.now numbering.now scratch.old first.old place.old) }
 {
     capi_store::map(
         starts, neighbours, counts, numbering, scratch, first, place, figures,

@@ -1,6 +1,5 @@
 // The calls of the library of numberings.
 ghost use Rattle.std.specs.Prelude.{◌≡◌};
-ghost use Rattle.basis.specs.Moments.{was, left};
 ghost use Rattle.spec.specs.CallsNumbering.{measures_answer, measures_scratch, report_answer, report_scratch, run_answer, run_numbers, run_levels, run_passes, run_scratch};
 ghost use Rattle.spec.specs.Graph.{graph_refusal};
 ghost use Rattle.capi_figures.specs.Figures.{answer_c, lent_c, figures_c, measures_list, report_list, run_list};
@@ -15,9 +14,9 @@ pub extern "C" fn wagonepoch_measures(
     scratch: &mut [u16],
     figures: &mut [u64],
 ) -> u16
-    ensures value { result ≡ answer_c 3 (was figures) (graph_refusal (was starts) (was neighbours)) (measures_answer (was starts) (was neighbours) (was counts) (was numbering) (was scratch)) }
-    ensures figures_value { left figures ≡ figures_c 3 (was figures) measures_list (measures_answer (was starts) (was neighbours) (was counts) (was numbering) (was scratch)) }
-    ensures scratch_value { left scratch ≡ lent_c 3 (was figures) (was scratch) (measures_scratch (was starts) (was neighbours) (was counts) (was numbering) (was scratch)) }
+    ensures value { result ≡ answer_c 3 figures.old (graph_refusal starts.now neighbours.now) (measures_answer starts.now neighbours.now counts.now numbering.now scratch.old) }
+    ensures figures_value { figures.new ≡ figures_c 3 figures.old measures_list (measures_answer starts.now neighbours.now counts.now numbering.now scratch.old) }
+    ensures scratch_value { scratch.new ≡ lent_c 3 figures.old scratch.old (measures_scratch starts.now neighbours.now counts.now numbering.now scratch.old) }
 {
     capi_numbering::calls_numbering::measures(
         starts, neighbours, counts, numbering, scratch, figures,
@@ -34,9 +33,9 @@ pub extern "C" fn wagonepoch_part_report(
     scratch: &mut [u16],
     figures: &mut [u64],
 ) -> u16
-    ensures value { result ≡ answer_c 6 (was figures) (graph_refusal (was starts) (was neighbours)) (report_answer (was starts) (was neighbours) (was counts) node (was scratch)) }
-    ensures figures_value { left figures ≡ figures_c 6 (was figures) report_list (report_answer (was starts) (was neighbours) (was counts) node (was scratch)) }
-    ensures scratch_value { left scratch ≡ lent_c 6 (was figures) (was scratch) (report_scratch (was starts) (was neighbours) (was counts) node (was scratch)) }
+    ensures value { result ≡ answer_c 6 figures.old (graph_refusal starts.now neighbours.now) (report_answer starts.now neighbours.now counts.now node scratch.old) }
+    ensures figures_value { figures.new ≡ figures_c 6 figures.old report_list (report_answer starts.now neighbours.now counts.now node scratch.old) }
+    ensures scratch_value { scratch.new ≡ lent_c 6 figures.old scratch.old (report_scratch starts.now neighbours.now counts.now node scratch.old) }
 {
     capi_numbering::calls_numbering::part_report(starts, neighbours, counts, node, scratch, figures)
 }
@@ -53,12 +52,12 @@ pub extern "C" fn wagonepoch_run(
     scratch: &mut [u16],
     figures: &mut [u64],
 ) -> u16
-    ensures value { result ≡ answer_c 7 (was figures) (graph_refusal (was starts) (was neighbours)) (run_answer (was starts) (was neighbours) (was counts) (was numbers) (was levels) (was passes) (was scratch)) }
-    ensures figures_value { left figures ≡ figures_c 7 (was figures) run_list (run_answer (was starts) (was neighbours) (was counts) (was numbers) (was levels) (was passes) (was scratch)) }
-    ensures numbers_value { left numbers ≡ lent_c 7 (was figures) (was numbers) (run_numbers (was starts) (was neighbours) (was counts) (was numbers) (was levels) (was passes) (was scratch)) }
-    ensures levels_value { left levels ≡ lent_c 7 (was figures) (was levels) (run_levels (was starts) (was neighbours) (was counts) (was numbers) (was levels) (was passes) (was scratch)) }
-    ensures passes_value { left passes ≡ lent_c 7 (was figures) (was passes) (run_passes (was starts) (was neighbours) (was counts) (was numbers) (was levels) (was passes) (was scratch)) }
-    ensures scratch_value { left scratch ≡ lent_c 7 (was figures) (was scratch) (run_scratch (was starts) (was neighbours) (was counts) (was numbers) (was levels) (was passes) (was scratch)) }
+    ensures value { result ≡ answer_c 7 figures.old (graph_refusal starts.now neighbours.now) (run_answer starts.now neighbours.now counts.now numbers.old levels.old passes.old scratch.old) }
+    ensures figures_value { figures.new ≡ figures_c 7 figures.old run_list (run_answer starts.now neighbours.now counts.now numbers.old levels.old passes.old scratch.old) }
+    ensures numbers_value { numbers.new ≡ lent_c 7 figures.old numbers.old (run_numbers starts.now neighbours.now counts.now numbers.old levels.old passes.old scratch.old) }
+    ensures levels_value { levels.new ≡ lent_c 7 figures.old levels.old (run_levels starts.now neighbours.now counts.now numbers.old levels.old passes.old scratch.old) }
+    ensures passes_value { passes.new ≡ lent_c 7 figures.old passes.old (run_passes starts.now neighbours.now counts.now numbers.old levels.old passes.old scratch.old) }
+    ensures scratch_value { scratch.new ≡ lent_c 7 figures.old scratch.old (run_scratch starts.now neighbours.now counts.now numbers.old levels.old passes.old scratch.old) }
 {
     capi_numbering::calls_numbering::run(
         starts, neighbours, counts, numbers, levels, passes, scratch, figures,

@@ -1,7 +1,6 @@
 // Functions that ask for a list that holds the figures: an accepted answer's stand in its front, and 0 is returned; a refusal leaves it, and
 // its number is returned.
 ghost use Rattle.std.specs.Prelude.{◌≡◌, ◌≤◌, length};
-ghost use Rattle.basis.specs.Moments.{was, left};
 ghost use Rattle.levels.specs.Answers.{rooted_meaning, ends_meaning, combined_meaning};
 ghost use Rattle.numbering_measures.specs.Answer.{meaning as measuresMeaning};
 ghost use Rattle.mesh.specs.Answer.{meaning as meshMeaning};
@@ -24,7 +23,7 @@ use store_map::StoreMap;
 pub fn put_rooted(answer: RootedAnswer, list: &mut [u64]) -> u16
     requires { 3 ≤ length list.old }
     ensures value { result ≡ number (rooted_meaning answer) }
-    ensures list_value { left list ≡ written rooted_list (rooted_meaning answer) (was list) }
+    ensures list_value { list.new ≡ written rooted_list (rooted_meaning answer) list.old }
 {
     match answer {
         RootedAnswer::Refused(c) => c,
@@ -40,7 +39,7 @@ pub fn put_rooted(answer: RootedAnswer, list: &mut [u64]) -> u16
 pub fn put_ends(answer: EndsAnswer, list: &mut [u64]) -> u16
     requires { 6 ≤ length list.old }
     ensures value { result ≡ number (ends_meaning answer) }
-    ensures list_value { left list ≡ written ends_list (ends_meaning answer) (was list) }
+    ensures list_value { list.new ≡ written ends_list (ends_meaning answer) list.old }
 {
     match answer {
         EndsAnswer::Refused(c) => c,
@@ -69,7 +68,7 @@ pub fn put_ends(answer: EndsAnswer, list: &mut [u64]) -> u16
 pub fn put_combined(answer: CombinedAnswer, list: &mut [u64]) -> u16
     requires { 2 ≤ length list.old }
     ensures value { result ≡ number (combined_meaning answer) }
-    ensures list_value { left list ≡ written combined_list (combined_meaning answer) (was list) }
+    ensures list_value { list.new ≡ written combined_list (combined_meaning answer) list.old }
 {
     match answer {
         CombinedAnswer::Refused(c) => c,
@@ -81,7 +80,7 @@ pub fn put_combined(answer: CombinedAnswer, list: &mut [u64]) -> u16
 pub fn put_measures(answer: MeasuresAnswer, list: &mut [u64]) -> u16
     requires { 3 ≤ length list.old }
     ensures value { result ≡ number (measuresMeaning answer) }
-    ensures list_value { left list ≡ written measures_list (measuresMeaning answer) (was list) }
+    ensures list_value { list.new ≡ written measures_list (measuresMeaning answer) list.old }
 {
     match answer {
         MeasuresAnswer::Refused(c) => c,
@@ -106,7 +105,7 @@ fn direction(d: Direction) -> u64
 pub fn put_report(answer: ReportAnswer, list: &mut [u64]) -> u16
     requires { 6 ≤ length list.old }
     ensures value { result ≡ number (answer_meaning answer) }
-    ensures list_value { left list ≡ written report_list (answer_meaning answer) (was list) }
+    ensures list_value { list.new ≡ written report_list (answer_meaning answer) list.old }
 {
     match answer {
         ReportAnswer::Refused(c) => c,
@@ -131,7 +130,7 @@ pub fn put_report(answer: ReportAnswer, list: &mut [u64]) -> u16
 pub fn put_run(answer: RunAnswer, list: &mut [u64]) -> u16
     requires { 7 ≤ length list.old }
     ensures value { result ≡ number (run_meaning answer) }
-    ensures list_value { left list ≡ written run_list (run_meaning answer) (was list) }
+    ensures list_value { list.new ≡ written run_list (run_meaning answer) list.old }
 {
     match answer {
         RunAnswer::Refused(c) => c,
@@ -154,7 +153,7 @@ pub fn put_run(answer: RunAnswer, list: &mut [u64]) -> u16
 pub fn put_elimination(answer: Elimination, list: &mut [u64]) -> u16
     requires { 2 ≤ length list.old }
     ensures value { result ≡ number (eliminationMeaning answer) }
-    ensures list_value { left list ≡ written elimination_list (eliminationMeaning answer) (was list) }
+    ensures list_value { list.new ≡ written elimination_list (eliminationMeaning answer) list.old }
 {
     match answer {
         Elimination::Refused(c) => c,
@@ -166,7 +165,7 @@ pub fn put_elimination(answer: Elimination, list: &mut [u64]) -> u16
 pub fn put_map(answer: StoreMap, list: &mut [u64]) -> u16
     requires { 2 ≤ length list.old }
     ensures value { result ≡ number (mapMeaning answer) }
-    ensures list_value { left list ≡ written map_list (mapMeaning answer) (was list) }
+    ensures list_value { list.new ≡ written map_list (mapMeaning answer) list.old }
 {
     match answer {
         StoreMap::Refused(c) => c,
@@ -178,7 +177,7 @@ pub fn put_map(answer: StoreMap, list: &mut [u64]) -> u16
 pub fn put_entries(answer: Entries, list: &mut [u64]) -> u16
     requires { 1 ≤ length list.old }
     ensures value { result ≡ number (meshMeaning answer) }
-    ensures list_value { left list ≡ written mesh_list (meshMeaning answer) (was list) }
+    ensures list_value { list.new ≡ written mesh_list (meshMeaning answer) list.old }
 {
     match answer {
         Entries::Refused(c) => c,

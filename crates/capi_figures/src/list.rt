@@ -1,7 +1,6 @@
 // A list of figures.
 ghost use Rattle.std.specs.Prelude.{◌≡◌, ◌≤◌, length};
 ghost use Rattle.basis.specs.Lists.{overwrite};
-ghost use Rattle.basis.specs.Moments.{was, left};
 
 // A word as a figure.
 pub(crate) fn word(x: u16) -> u64
@@ -21,7 +20,7 @@ pub(crate) fn count(x: u32) -> u64
 pub(crate) fn put(figures: &[u64], list: &mut [u64]) -> u16
     requires { length figures.now ≤ length list.old }
     ensures value { result ≡ 0 }
-    ensures list_value { left list ≡ overwrite (was figures) (was list) }
+    ensures list_value { list.new ≡ overwrite figures.now list.old }
 {
     let mut i = 0;
     while i < figures.len() {

@@ -1,6 +1,5 @@
 // The calls of `levels`, with their figures.
 ghost use Rattle.std.specs.Prelude.{◌≡◌};
-ghost use Rattle.basis.specs.Moments.{was, left};
 ghost use Rattle.spec.specs.CallsLevels.{rooted_answer, rooted_levels, rooted_sizes, ends_answer, ends_scratch, combined_answer, combined_levels, combined_scratch};
 ghost use Rattle.spec.specs.Graph.{graph_refusal};
 ghost use Rattle.capi_figures.specs.Figures.{answer_c, lent_c, figures_c, rooted_list, ends_list, combined_list};
@@ -18,10 +17,10 @@ pub fn rooted_levels(
     sizes: &mut [u16],
     figures: &mut [u64],
 ) -> u16
-    ensures value { result ≡ answer_c 3 (was figures) (graph_refusal (was starts) (was neighbours)) (rooted_answer (was starts) (was neighbours) root (was levels) (was sizes)) }
-    ensures figures_value { left figures ≡ figures_c 3 (was figures) rooted_list (rooted_answer (was starts) (was neighbours) root (was levels) (was sizes)) }
-    ensures levels_value { left levels ≡ lent_c 3 (was figures) (was levels) (rooted_levels (was starts) (was neighbours) root (was levels) (was sizes)) }
-    ensures sizes_value { left sizes ≡ lent_c 3 (was figures) (was sizes) (rooted_sizes (was starts) (was neighbours) root (was levels) (was sizes)) }
+    ensures value { result ≡ answer_c 3 figures.old (graph_refusal starts.now neighbours.now) (rooted_answer starts.now neighbours.now root levels.old sizes.old) }
+    ensures figures_value { figures.new ≡ figures_c 3 figures.old rooted_list (rooted_answer starts.now neighbours.now root levels.old sizes.old) }
+    ensures levels_value { levels.new ≡ lent_c 3 figures.old levels.old (rooted_levels starts.now neighbours.now root levels.old sizes.old) }
+    ensures sizes_value { sizes.new ≡ lent_c 3 figures.old sizes.old (rooted_sizes starts.now neighbours.now root levels.old sizes.old) }
 {
     if figures.len() < 3 {
         return or_five(lists_refusal(starts, neighbours));
@@ -40,9 +39,9 @@ pub fn ends(
     scratch: &mut [u16],
     figures: &mut [u64],
 ) -> u16
-    ensures value { result ≡ answer_c 6 (was figures) (graph_refusal (was starts) (was neighbours)) (ends_answer (was starts) (was neighbours) node (was scratch)) }
-    ensures figures_value { left figures ≡ figures_c 6 (was figures) ends_list (ends_answer (was starts) (was neighbours) node (was scratch)) }
-    ensures scratch_value { left scratch ≡ lent_c 6 (was figures) (was scratch) (ends_scratch (was starts) (was neighbours) node (was scratch)) }
+    ensures value { result ≡ answer_c 6 figures.old (graph_refusal starts.now neighbours.now) (ends_answer starts.now neighbours.now node scratch.old) }
+    ensures figures_value { figures.new ≡ figures_c 6 figures.old ends_list (ends_answer starts.now neighbours.now node scratch.old) }
+    ensures scratch_value { scratch.new ≡ lent_c 6 figures.old scratch.old (ends_scratch starts.now neighbours.now node scratch.old) }
 {
     if figures.len() < 6 {
         return or_five(lists_refusal(starts, neighbours));
@@ -59,10 +58,10 @@ pub fn combined_levels(
     scratch: &mut [u16],
     figures: &mut [u64],
 ) -> u16
-    ensures value { result ≡ answer_c 2 (was figures) (graph_refusal (was starts) (was neighbours)) (combined_answer (was starts) (was neighbours) node (was levels) (was scratch)) }
-    ensures figures_value { left figures ≡ figures_c 2 (was figures) combined_list (combined_answer (was starts) (was neighbours) node (was levels) (was scratch)) }
-    ensures levels_value { left levels ≡ lent_c 2 (was figures) (was levels) (combined_levels (was starts) (was neighbours) node (was levels) (was scratch)) }
-    ensures scratch_value { left scratch ≡ lent_c 2 (was figures) (was scratch) (combined_scratch (was starts) (was neighbours) node (was levels) (was scratch)) }
+    ensures value { result ≡ answer_c 2 figures.old (graph_refusal starts.now neighbours.now) (combined_answer starts.now neighbours.now node levels.old scratch.old) }
+    ensures figures_value { figures.new ≡ figures_c 2 figures.old combined_list (combined_answer starts.now neighbours.now node levels.old scratch.old) }
+    ensures levels_value { levels.new ≡ lent_c 2 figures.old levels.old (combined_levels starts.now neighbours.now node levels.old scratch.old) }
+    ensures scratch_value { scratch.new ≡ lent_c 2 figures.old scratch.old (combined_scratch starts.now neighbours.now node levels.old scratch.old) }
 {
     if figures.len() < 2 {
         return or_five(lists_refusal(starts, neighbours));

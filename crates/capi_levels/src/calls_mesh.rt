@@ -1,6 +1,5 @@
 // The mesh call, with its figure.
 ghost use Rattle.std.specs.Prelude.{◌≡◌};
-ghost use Rattle.basis.specs.Moments.{was, left};
 ghost use Rattle.spec.specs.CallsMesh.{mesh_answer, mesh_starts, mesh_neighbours, mesh_scratch};
 ghost use Rattle.spec.specs.Graph.{bad_size};
 ghost use Rattle.spec.specs.Refusal.{refuse};
@@ -31,11 +30,11 @@ pub fn mesh(
     scratch: &mut [u16],
     figures: &mut [u64],
 ) -> u16
-    ensures value { result ≡ answer_c 1 (was figures) (refuse (bad_size n) 1) (mesh_answer n (was elements) (was starts) (was neighbours) (was scratch)) }
-    ensures figures_value { left figures ≡ figures_c 1 (was figures) mesh_list (mesh_answer n (was elements) (was starts) (was neighbours) (was scratch)) }
-    ensures starts_value { left starts ≡ lent_c 1 (was figures) (was starts) (mesh_starts n (was elements) (was starts) (was neighbours) (was scratch)) }
-    ensures neighbours_value { left neighbours ≡ lent_c 1 (was figures) (was neighbours) (mesh_neighbours n (was elements) (was starts) (was neighbours) (was scratch)) }
-    ensures scratch_value { left scratch ≡ lent_c 1 (was figures) (was scratch) (mesh_scratch n (was elements) (was starts) (was neighbours) (was scratch)) }
+    ensures value { result ≡ answer_c 1 figures.old (refuse (bad_size n) 1) (mesh_answer n elements.now starts.old neighbours.old scratch.old) }
+    ensures figures_value { figures.new ≡ figures_c 1 figures.old mesh_list (mesh_answer n elements.now starts.old neighbours.old scratch.old) }
+    ensures starts_value { starts.new ≡ lent_c 1 figures.old starts.old (mesh_starts n elements.now starts.old neighbours.old scratch.old) }
+    ensures neighbours_value { neighbours.new ≡ lent_c 1 figures.old neighbours.old (mesh_neighbours n elements.now starts.old neighbours.old scratch.old) }
+    ensures scratch_value { scratch.new ≡ lent_c 1 figures.old scratch.old (mesh_scratch n elements.now starts.old neighbours.old scratch.old) }
 {
     if figures.len() < 1 {
         return or_five(size_refusal(n));

@@ -1,6 +1,5 @@
 // The call of the library of the store.
 ghost use Rattle.std.specs.Prelude.{◌≡◌};
-ghost use Rattle.basis.specs.Moments.{was, left};
 ghost use Rattle.spec.specs.CallsStore.{elimination_answer, elimination_scratch, elimination_bytes};
 ghost use Rattle.spec.specs.Graph.{graph_refusal};
 ghost use Rattle.capi_figures.specs.Figures.{answer_c, lent_c, figures_c, elimination_list};
@@ -19,10 +18,10 @@ pub fn eliminate(
     bytes: &mut [u8],
     figures: &mut [u64],
 ) -> u16
-    ensures value { result ≡ answer_c 2 (was figures) (graph_refusal (was starts) (was neighbours)) (elimination_answer (was starts) (was neighbours) (was counts) (was numbering) (was scratch) (was bytes)) }
-    ensures figures_value { left figures ≡ figures_c 2 (was figures) elimination_list (elimination_answer (was starts) (was neighbours) (was counts) (was numbering) (was scratch) (was bytes)) }
-    ensures scratch_value { left scratch ≡ lent_c 2 (was figures) (was scratch) (elimination_scratch (was starts) (was neighbours) (was counts) (was numbering) (was scratch) (was bytes)) }
-    ensures bytes_value { left bytes ≡ lent_c 2 (was figures) (was bytes) (elimination_bytes (was starts) (was neighbours) (was counts) (was numbering) (was scratch) (was bytes)) }
+    ensures value { result ≡ answer_c 2 figures.old (graph_refusal starts.now neighbours.now) (elimination_answer starts.now neighbours.now counts.now numbering.now scratch.old bytes.old) }
+    ensures figures_value { figures.new ≡ figures_c 2 figures.old elimination_list (elimination_answer starts.now neighbours.now counts.now numbering.now scratch.old bytes.old) }
+    ensures scratch_value { scratch.new ≡ lent_c 2 figures.old scratch.old (elimination_scratch starts.now neighbours.now counts.now numbering.now scratch.old bytes.old) }
+    ensures bytes_value { bytes.new ≡ lent_c 2 figures.old bytes.old (elimination_bytes starts.now neighbours.now counts.now numbering.now scratch.old bytes.old) }
 {
     if figures.len() < 2 {
         return or_five(lists_refusal(starts, neighbours));

@@ -2,7 +2,6 @@
 // the output.
 ghost use Rattle.std.specs.Prelude.{◌≡◌, length};
 ghost use Rattle.basis.specs.Lists.{overwrite};
-ghost use Rattle.basis.specs.Moments.{was, left};
 ghost use Rattle.spec.specs.Lent.{outcome, filled};
 ghost use Rattle.spec.specs.Mesh.{entry_count, start_list, neighbour_list};
 ghost use Rattle.spec.specs.File.{file_graph, file_refusal, program_output};
@@ -25,10 +24,10 @@ fn read(
     counts: &mut [u16],
 ) -> Entries
     requires { ReadingRoom words.old starts.old neighbours.old scratch.old counts.old }
-    ensures result_value { meaning result ≡ outcome (file_refusal (was file)) (entry_count (file_graph (was file))) }
-    ensures starts_value { left starts ≡ filled (file_refusal (was file)) (start_list (file_graph (was file))) (was starts) }
-    ensures neighbours_value { left neighbours ≡ filled (file_refusal (was file)) (neighbour_list (file_graph (was file))) (was neighbours) }
-    ensures counts_value { left counts ≡ counts_after (was file) (was counts) }
+    ensures result_value { meaning result ≡ outcome (file_refusal file.now) (entry_count (file_graph file.now)) }
+    ensures starts_value { starts.new ≡ filled (file_refusal file.now) (start_list (file_graph file.now)) starts.old }
+    ensures neighbours_value { neighbours.new ≡ filled (file_refusal file.now) (neighbour_list (file_graph file.now)) neighbours.old }
+    ensures counts_value { counts.new ≡ counts_after file.now counts.old }
 {
     let header = file_reading::header_refusal(file);
     if header != 0 {
@@ -56,9 +55,9 @@ pub fn list_file(
 ) -> usize
     requires reading_room { ReadingRoom words.old starts.old neighbours.old scratch.old counts.old }
     requires text_room { TextRoom numbers.old levels.old passes.old output.old }
-    ensures value { result ≡ length (program_output (was file)) }
-    ensures output_value { left output ≡ overwrite (program_output (was file)) (was output) }
-    ensures counts_value { left counts ≡ counts_after (was file) (was counts) }
+    ensures value { result ≡ length (program_output file.now) }
+    ensures output_value { output.new ≡ overwrite (program_output file.now) output.old }
+    ensures counts_value { counts.new ≡ counts_after file.now counts.old }
 {
     match read(file, words, starts, neighbours, scratch, counts) {
         Entries::Refused(number) => file_writing::legal::write_refusal(number, output),

@@ -1,12 +1,11 @@
 // The first nine bytes of a file: the letters, version, n and element count.
 ghost use Rattle.std.specs.Prelude.{◌≡◌, ◌+◌, ◌<◌, ◌≤◌, length, get_or};
-ghost use Rattle.basis.specs.Moments.{was};
 ghost use Rattle.spec.specs.File.{word, has_mark, bad_header};
 
 // The word of two bytes, "low byte first".
 pub(crate) fn word_at(file: &[u8], at: usize) -> u16
     requires { at + 1 < length file.now }
-    ensures { result ≡ word (get_or (was file) at 0) (get_or (was file) (at + 1) 0) }
+    ensures { result ≡ word (get_or file.now at 0) (get_or file.now (at + 1) 0) }
 {
     let low = file[at] as u16;
     let high = file[at + 1] as u16;
@@ -16,7 +15,7 @@ pub(crate) fn word_at(file: &[u8], at: usize) -> u16
 // Whether the file begins with the letters G, R and D.
 fn has_mark(file: &[u8]) -> bool
     requires { 3 ≤ length file.now }
-    ensures { result ≡ has_mark (was file) }
+    ensures { result ≡ has_mark file.now }
 {
     if file[0] != 71 {
         return false;
@@ -29,7 +28,7 @@ fn has_mark(file: &[u8]) -> bool
 
 // "wrong mark or version, file too long, under 9 bytes"
 pub(crate) fn bad_header(file: &[u8]) -> bool
-    ensures { result ≡ bad_header (was file) }
+    ensures { result ≡ bad_header file.now }
 {
     let size = file.len();
     if 65535 < size {

@@ -1,7 +1,6 @@
 // Functions that ask for a header that is not refused, and room; those of the elements, for counts that are not.
 ghost use Rattle.std.specs.Prelude.{◌≡◌, ◌||◌, ◌+◌, ◌*◌, ◌≤◌, ◌<◌, length, eqb, ltb};
 ghost use Rattle.basis.specs.Lists.{overwrite};
-ghost use Rattle.basis.specs.Moments.{was, left};
 ghost use Rattle.spec.specs.Lent.{outcome, filled, scratch_after};
 ghost use Rattle.spec.specs.Mesh.{entry_count, start_list, neighbour_list};
 ghost use Rattle.spec.specs.File.{header_size, file_nodes, count_words, body, counted_refusal, words_taken, file_graph, header_refusal, counts_refusal, body_refusal};
@@ -18,7 +17,7 @@ use mesh::Entries;
 // n, the number of nodes.
 pub fn nodes(file: &[u8]) -> usize
     requires { header_refusal file.now ≡ 0 }
-    ensures { result ≡ file_nodes (was file) }
+    ensures { result ≡ file_nodes file.now }
 {
     graph_words::wide(crate::header::word_at(file, 5))
 }
@@ -26,7 +25,7 @@ pub fn nodes(file: &[u8]) -> usize
 // Tests `count` elements of a file of n nodes, one by one: how many words they take, or the refusal: 9, 10, or 12 for a record that
 // runs past the file's end.
 fn test_elements(count: usize, n: usize, list: &[u16]) -> Tested
-    ensures { tested result ≡ outcome (counted_refusal count n (was list)) (words_taken count (was list)) }
+    ensures { tested result ≡ outcome (counted_refusal count n list.now) (words_taken count list.now) }
 {
     let mut at = 0;
     let mut left = count;
@@ -48,8 +47,8 @@ fn test_elements(count: usize, n: usize, list: &[u16]) -> Tested
 // Writes the words of the elements, those behind the counts, to the front of the list, and returns how many there are.
 fn decode(file: &[u8], list: &mut [u16]) -> usize
     requires { (header_refusal file.now ≡ 0) × (counts_refusal file.now ≡ 0) × (length (body file.now) ≤ length list.old) }
-    ensures value { result ≡ length (body (was file)) }
-    ensures list_value { left list ≡ overwrite (body (was file)) (was list) }
+    ensures value { result ≡ length (body file.now) }
+    ensures list_value { list.new ≡ overwrite (body file.now) list.old }
 {
     let from = count_words(file);
     let count = crate::words::size(file) - from;
@@ -60,7 +59,7 @@ fn decode(file: &[u8], list: &mut [u16]) -> usize
 // Whether bytes are left over behind the header, the counts and `taken` words of elements.
 fn left_over(file: &[u8], taken: usize) -> bool
     requires { (header_refusal file.now ≡ 0) × (taken ≤ length (body file.now)) }
-    ensures { result ≡ ltb (header_size + 2 * count_words (was file) + 2 * taken) (length (was file)) }
+    ensures { result ≡ ltb (header_size + 2 * count_words file.now + 2 * taken) (length file.now) }
 {
     let from = count_words(file);
     9 + 2 * from + 2 * taken < file.len()
@@ -70,8 +69,8 @@ fn left_over(file: &[u8], taken: usize) -> bool
 // "bytes left over once all elements pass" are 12.
 fn read_elements(file: &[u8], list: &mut [u16]) -> Tested
     requires { (header_refusal file.now ≡ 0) × (counts_refusal file.now ≡ 0) × (length (body file.now) ≤ length list.old) }
-    ensures result_value { tested result ≡ outcome (words_refusal (was file)) (length (body (was file))) }
-    ensures list_value { left list ≡ overwrite (body (was file)) (was list) }
+    ensures result_value { tested result ≡ outcome (words_refusal file.now) (length (body file.now)) }
+    ensures list_value { list.new ≡ overwrite (body file.now) list.old }
 {
     let n = nodes(file);
     let count = graph_words::wide(crate::header::word_at(file, 7));
@@ -99,11 +98,11 @@ pub fn read_mesh(
 ) -> Entries
     requires file_value { (header_refusal file.now ≡ 0) × (counts_refusal file.now ≡ 0) × (length (body file.now) ≤ length list.old) }
     requires file_in_bounds { (file_nodes file.now < length starts.old) × (32768 ≤ length neighbours.old) × (file_nodes file.now ≤ length scratch.old) }
-    ensures result_value { meaning result ≡ outcome (body_refusal (was file)) (entry_count (file_graph (was file))) }
-    ensures list_value { left list ≡ overwrite (body (was file)) (was list) }
-    ensures starts_value { left starts ≡ filled (body_refusal (was file)) (start_list (file_graph (was file))) (was starts) }
-    ensures neighbours_value { left neighbours ≡ filled (body_refusal (was file)) (neighbour_list (file_graph (was file))) (was neighbours) }
-    ensures scratch_value { left scratch ≡ scratch_after (eqb (body_refusal (was file)) 0 || eqb (body_refusal (was file)) 11) (file_nodes (was file)) (was scratch) }
+    ensures result_value { meaning result ≡ outcome (body_refusal file.now) (entry_count (file_graph file.now)) }
+    ensures list_value { list.new ≡ overwrite (body file.now) list.old }
+    ensures starts_value { starts.new ≡ filled (body_refusal file.now) (start_list (file_graph file.now)) starts.old }
+    ensures neighbours_value { neighbours.new ≡ filled (body_refusal file.now) (neighbour_list (file_graph file.now)) neighbours.old }
+    ensures scratch_value { scratch.new ≡ scratch_after (eqb (body_refusal file.now) 0 || eqb (body_refusal file.now) 11) (file_nodes file.now) scratch.old }
 {
     let n = nodes(file);
     let answer = read_elements(file, list);

@@ -2,7 +2,6 @@
 #![tactic(auto)]
 
 ghost use Rattle.std.specs.Prelude.{◌≡◌};
-ghost use Rattle.basis.specs.Moments.{was};
 ghost use Rattle.spec.specs.File.{header_refusal};
 
 mod answer;
@@ -12,7 +11,7 @@ mod words;
 
 // What a file is refused by before its counts are looked at, 12 or 1, or 0: "length, mark and version for 12 first, then 1".
 pub fn header_refusal(file: &[u8]) -> u16
-    ensures { result ≡ header_refusal (was file) }
+    ensures { result ≡ header_refusal file.now }
 {
     if header::bad_header(file) {
         return 12;

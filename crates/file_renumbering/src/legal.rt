@@ -2,7 +2,6 @@
 // front of the output.
 ghost use Rattle.std.specs.Prelude.{◌≡◌, false, ◌*◌, ◌≤◌, length};
 ghost use Rattle.basis.specs.Lists.{overwrite};
-ghost use Rattle.basis.specs.Moments.{was, left};
 ghost use Rattle.spec.specs.Graph.{graph_refusal, max_nodes};
 ghost use Rattle.spec.specs.Lent.{words_per_node};
 ghost use Rattle.spec.specs.Numbering.{run};
@@ -48,8 +47,8 @@ pub fn renumber(
     requires neighbours_value { graph_refusal starts.now neighbours.now ≡ 0 }
     requires counts_value { bad_counts (size_now starts) counts.now ≡ false }
     requires max_nodes_in_bounds { (words_per_node * max_nodes ≤ length scratch.old) × TextRoom numbers.old levels.old passes.old output.old }
-    ensures value { result ≡ length (listing (graph_was starts neighbours) (run (graph_was starts neighbours) (was counts))) }
-    ensures output_value { left output ≡ overwrite (listing (graph_was starts neighbours) (run (graph_was starts neighbours) (was counts))) (was output) }
+    ensures value { result ≡ length (listing (graph_was starts neighbours) (run (graph_was starts neighbours) counts.now)) }
+    ensures output_value { output.new ≡ overwrite (listing (graph_was starts neighbours) (run (graph_was starts neighbours) counts.now)) output.old }
 {
     let n = starts.len() - 1;
     let total = unknowns(counts, n);

@@ -1,13 +1,12 @@
 // Text put into a buffer from a place on: bytes, a number in decimal, a label and a number. Each function returns the place behind.
 ghost use Rattle.std.specs.Prelude.{◌≡◌, ◌++◌, ◌+◌, ◌<◌, length};
-ghost use Rattle.basis.specs.Moments.{was, left};
 ghost use Rattle.spec.specs.Text.{decimal};
 ghost use Rattle.file_writing.specs.Written.{Room, Put};
 
 // The bytes of a text.
 pub(crate) fn put_text(text: &[u8], out: &mut [u8], at: usize) -> usize
     requires { Room text.now at out.old }
-    ensures { Put (was text) at result (was out) (left out) }
+    ensures { Put text.now at result out.old out.new }
 {
     let mut i = 0;
     while i < text.len() {
@@ -41,7 +40,7 @@ fn digit(x: u32) -> u8
 // A number in decimal, the digits in front of the last one first.
 pub(crate) fn put_number(x: u32, out: &mut [u8], at: usize) -> usize
     requires { Room (decimal x) at out.old }
-    ensures { Put (decimal x) at result (was out) (left out) }
+    ensures { Put (decimal x) at result out.old out.new }
 {
     let mut last = at;
     if 10 <= x {
@@ -54,7 +53,7 @@ pub(crate) fn put_number(x: u32, out: &mut [u8], at: usize) -> usize
 // A label and a number.
 pub(crate) fn put_item(label: &[u8], x: u32, out: &mut [u8], at: usize) -> usize
     requires { Room (label.now ++ decimal x) at out.old }
-    ensures { Put (was label ++ decimal x) at result (was out) (left out) }
+    ensures { Put (label.now ++ decimal x) at result out.old out.new }
 {
     let behind = put_text(label, out, at);
     put_number(x, out, behind)

@@ -1,6 +1,5 @@
 // Rows, degrees and order E of lists that were found legal: for the crates above.
 ghost use Rattle.std.specs.Prelude.{◌≡◌, List, ℕ, ◌≤◌};
-ghost use Rattle.basis.specs.Moments.{was};
 ghost use Rattle.spec.specs.Graph.{row_of, graph_of, degree, before_e};
 ghost use Rattle.laws.specs.Handed.{graph_now, size_now};
 ghost use Rattle.laws.specs.Legal.{Node, Starts};
@@ -9,7 +8,7 @@ ghost use Rattle.laws.specs.Legal.{Node, Starts};
 pub fn row<'a>(starts: &[u16], neighbours: &'a [u16], p: usize) -> &'a [u16]
     requires starts { Starts starts.now neighbours.now }
     requires node { Node (graph_now starts neighbours) p }
-    ensures { result.now ≡ row_of (was starts) (was neighbours) p }
+    ensures { result.now ≡ row_of starts.now neighbours.now p }
 {
     let from = starts[p - 1] as usize;
     let to = starts[p] as usize;
@@ -20,7 +19,7 @@ pub fn row<'a>(starts: &[u16], neighbours: &'a [u16], p: usize) -> &'a [u16]
 pub fn degree(starts: &[u16], p: usize) -> usize
     requires by_index { (neighbours : List ℕ) × Starts starts.now neighbours }
     requires le_p { (1 ≤ p) × (p ≤ size_now starts) }
-    ensures { (neighbours : List ℕ) → Starts (was starts) neighbours → result ≡ degree (graph_of (was starts) neighbours) p }
+    ensures { (neighbours : List ℕ) → Starts starts.now neighbours → result ≡ degree (graph_of starts.now neighbours) p }
 {
     let from = starts[p - 1] as usize;
     let to = starts[p] as usize;
@@ -31,7 +30,7 @@ pub fn degree(starts: &[u16], p: usize) -> usize
 pub fn precedes(starts: &[u16], p: usize, q: usize) -> bool
     requires by_index { (neighbours : List ℕ) × Starts starts.now neighbours }
     requires le_p { (1 ≤ p) × (p ≤ size_now starts) × (1 ≤ q) × (q ≤ size_now starts) }
-    ensures { (neighbours : List ℕ) → Starts (was starts) neighbours → result ≡ before_e (graph_of (was starts) neighbours) p q }
+    ensures { (neighbours : List ℕ) → Starts starts.now neighbours → result ≡ before_e (graph_of starts.now neighbours) p q }
 {
     let a = degree(starts, p);
     let b = degree(starts, q);

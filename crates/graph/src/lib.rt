@@ -3,7 +3,6 @@
 
 ghost use Rattle.std.specs.Prelude.{◌≡◌, true, ◌≤◌, length, leb, ltb};
 ghost use Rattle.basis.specs.Lists.{chainb, memb};
-ghost use Rattle.basis.specs.Moments.{was};
 ghost use Rattle.spec.specs.Graph.{refuses1, refuses2, bad_row, refuses3, refuses4};
 ghost use Rattle.spec.specs.CallsLevels.{adjacency_answer};
 ghost use Rattle.laws.specs.Handed.{graph_now, graph_was};
@@ -18,7 +17,7 @@ pub use answer::Adjacency;
 
 // 1: n is 0 or over 4,096, or the start list is empty. n + 1 words are counted, so that an empty list needs no case of its own.
 fn bad_count(starts: &[u16]) -> bool
-    ensures { result ≡ refuses1 (was starts) }
+    ensures { result ≡ refuses1 starts.now }
 {
     let words = starts.len();
     if words < 2 {
@@ -29,7 +28,7 @@ fn bad_count(starts: &[u16]) -> bool
 
 // Whether the starts fall nowhere.
 fn starts_rise(starts: &[u16]) -> bool
-    ensures { result ≡ chainb leb (was starts) }
+    ensures { result ≡ chainb leb starts.now }
 {
     let mut i = 1;
     while i < starts.len() {
@@ -44,7 +43,7 @@ fn starts_rise(starts: &[u16]) -> bool
 // 2: first start not 0, starts fall, last start not the neighbour list's length, or over 32,768. The list is walked last: the rest is cheap.
 fn bad_starts(starts: &[u16], neighbours: &[u16]) -> bool
     requires { 1 ≤ length starts.now }
-    ensures { result ≡ refuses2 (was starts) (was neighbours) }
+    ensures { result ≡ refuses2 starts.now neighbours.now }
 {
     if starts[0] != 0 {
         return true;
@@ -61,7 +60,7 @@ fn bad_starts(starts: &[u16], neighbours: &[u16]) -> bool
 
 // Whether row p leaves 1..n, holds itself or doesn't rise. Before the first word stands 0, so that a word 0 is one that doesn't rise.
 fn bad_row(row: &[u16], p: usize, n: usize) -> bool
-    ensures { result ≡ bad_row n p (was row) }
+    ensures { result ≡ bad_row n p row.now }
 {
     let mut last: usize = 0;
     let mut j = 0;
@@ -102,7 +101,7 @@ fn bad_rows(starts: &[u16], neighbours: &[u16]) -> bool
 // Whether a row that rises holds p, by halving: lo..hi is where p may still stand.
 fn holds(row: &[u16], p: usize) -> bool
     requires { chainb ltb row.now ≡ true }
-    ensures { result ≡ memb p (was row) }
+    ensures { result ≡ memb p row.now }
 {
     let mut lo = 0;
     let mut hi = row.len();
@@ -161,7 +160,7 @@ fn lacks_partners(starts: &[u16], neighbours: &[u16]) -> bool
 
 // The entry point: "Tests run in that order", and each may lean on those before it.
 pub fn test_adjacency(starts: &[u16], neighbours: &[u16]) -> Adjacency
-    ensures { meaning result ≡ adjacency_answer (was starts) (was neighbours) }
+    ensures { meaning result ≡ adjacency_answer starts.now neighbours.now }
 {
     if bad_count(starts) {
         return Adjacency::Refused(1);

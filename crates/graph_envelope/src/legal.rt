@@ -1,7 +1,6 @@
 // A numbering tested and inverted, and the envelope that it gives a legal graph: for the crates above.
 ghost use Rattle.std.specs.Prelude.{◌≡◌, true, cond, map, ◌≤◌, length, replicate};
 ghost use Rattle.basis.specs.Lists.{least, overwrite};
-ghost use Rattle.basis.specs.Moments.{was, left};
 ghost use Rattle.spec.specs.Graph.{of_node};
 ghost use Rattle.spec.specs.Lent.{zeroed};
 ghost use Rattle.spec.specs.Measures.{is_numbering, order_of, renumbered, first_in, row_span, profile};
@@ -18,7 +17,7 @@ use graph_words::{smaller, wide};
 // The number of node p.
 pub fn number(numbering: &[u16], p: usize) -> usize
     requires { (1 ≤ p) × (p ≤ length numbering.now) }
-    ensures { result ≡ of_node (was numbering) p }
+    ensures { result ≡ of_node numbering.now p }
 {
     wide(numbering[p - 1])
 }
@@ -27,8 +26,8 @@ pub fn number(numbering: &[u16], p: usize) -> usize
 fn settle(numbering: &[u16], order: &mut [u16]) -> bool
     requires numbering_len_bound { length numbering.now ≤ 4096 }
     requires order_value { order.old ≡ replicate (length numbering.now) 0 }
-    ensures value { result ≡ is_numbering (length (was numbering)) (was numbering) }
-    ensures order_value_2 { result ≡ true → left order ≡ order_of (was numbering) }
+    ensures value { result ≡ is_numbering (length numbering.now) numbering.now }
+    ensures order_value_2 { result ≡ true → order.new ≡ order_of numbering.now }
 {
     let n = numbering.len();
     let mut i = 0;
@@ -53,8 +52,8 @@ fn settle(numbering: &[u16], order: &mut [u16]) -> bool
 fn invert(numbering: &[u16], scratch: &mut [u16]) -> bool
     requires numbering_len_bound { length numbering.now ≤ 4096 }
     requires scratch_value { scratch.old ≡ replicate (length numbering.now) 0 }
-    ensures value { result ≡ is_numbering (length (was numbering)) (was numbering) }
-    ensures scratch_value_2 { left scratch ≡ cond result (order_of (was numbering)) (replicate (length (was numbering)) 0) }
+    ensures value { result ≡ is_numbering (length numbering.now) numbering.now }
+    ensures scratch_value_2 { scratch.new ≡ cond result (order_of numbering.now) (replicate (length numbering.now) 0) }
 {
     if settle(numbering, scratch) {
         return true;
@@ -67,8 +66,8 @@ fn invert(numbering: &[u16], scratch: &mut [u16]) -> bool
 // numbers, and else 0.
 pub fn numbered(numbering: &[u16], n: usize, scratch: &mut [u16]) -> bool
     requires { (n ≤ 4096) × (n ≤ length scratch.old) }
-    ensures value { result ≡ is_numbering n (was numbering) }
-    ensures scratch_value { left scratch ≡ cond result (overwrite (order_of (was numbering)) (was scratch)) (zeroed n (was scratch)) }
+    ensures value { result ≡ is_numbering n numbering.now }
+    ensures scratch_value { scratch.new ≡ cond result (overwrite (order_of numbering.now) scratch.old) (zeroed n scratch.old) }
 {
     clear(scratch, n);
     if numbering.len() != n {
@@ -80,7 +79,7 @@ pub fn numbered(numbering: &[u16], n: usize, scratch: &mut [u16]) -> bool
 // The least of a node's own number and those of its row.
 pub fn row_first(row: &[u16], numbering: &[u16], own: usize) -> usize
     requires { Words (length numbering.now) row.now }
-    ensures { result ≡ least own (map (of_node (was numbering)) (was row)) }
+    ensures { result ≡ least own (map (of_node numbering.now) row.now) }
 {
     let mut first = own;
     let mut j = 0;
@@ -98,7 +97,7 @@ pub fn first(starts: &[u16], neighbours: &[u16], numbering: &[u16], p: usize) ->
     requires legal_graph { LegalGraph (graph_now starts neighbours) }
     requires numbering_value { is_numbering (size_now starts) numbering.now ≡ true }
     requires node { Node (graph_now starts neighbours) p }
-    ensures { result ≡ first_in (renumbered (graph_was starts neighbours) (was numbering)) (of_node (was numbering) p) }
+    ensures { result ≡ first_in (renumbered (graph_was starts neighbours) numbering.now) (of_node numbering.now p) }
 {
     let own = number(numbering, p);
     row_first(row(starts, neighbours, p), numbering, own)
@@ -110,7 +109,7 @@ fn span(starts: &[u16], neighbours: &[u16], numbering: &[u16], p: usize) -> u32
     requires legal_graph { LegalGraph (graph_now starts neighbours) }
     requires numbering_value { is_numbering (size_now starts) numbering.now ≡ true }
     requires node { Node (graph_now starts neighbours) p }
-    ensures { result ≡ row_span (renumbered (graph_was starts neighbours) (was numbering)) (of_node (was numbering) p) }
+    ensures { result ≡ row_span (renumbered (graph_was starts neighbours) numbering.now) (of_node numbering.now p) }
 {
     let own = number(numbering, p);
     let reach = own - first(starts, neighbours, numbering, p);
@@ -122,7 +121,7 @@ pub fn profile(starts: &[u16], neighbours: &[u16], numbering: &[u16]) -> u32
     requires starts { Starts starts.now neighbours.now }
     requires legal_graph { LegalGraph (graph_now starts neighbours) }
     requires numbering_value { is_numbering (size_now starts) numbering.now ≡ true }
-    ensures { result ≡ profile (renumbered (graph_was starts neighbours) (was numbering)) }
+    ensures { result ≡ profile (renumbered (graph_was starts neighbours) numbering.now) }
 {
     let n = numbering.len();
     let mut sum: u32 = 0;

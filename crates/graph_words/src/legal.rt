@@ -1,7 +1,6 @@
 // Functions that ask for room: their callers have tested the lengths.
 ghost use Rattle.std.specs.Prelude.{◌≡◌, cond, ◌≤◌, length};
 ghost use Rattle.basis.specs.Lists.{bit, sum};
-ghost use Rattle.basis.specs.Moments.{was, left};
 ghost use Rattle.basis.specs.Stored.{stored, nought};
 ghost use Rattle.spec.specs.Graph.{outside};
 ghost use Rattle.spec.specs.Lent.{zeroed};
@@ -13,7 +12,7 @@ use crate::wide;
 // Sets the first n words to 0.
 pub fn clear(words: &mut [u16], n: usize)
     requires { n ≤ length words.old }
-    ensures { left words ≡ zeroed n (was words) }
+    ensures { words.new ≡ zeroed n words.old }
 {
     let mut i = 0;
     while i < n {
@@ -25,7 +24,7 @@ pub fn clear(words: &mut [u16], n: usize)
 // Sets the word of each of the `count` numbers that stand from `at` on to 0: that of v is word base + v - 1.
 pub fn erase(words: &mut [u16], base: usize, at: usize, count: usize)
     requires { Erasable base at count words.old }
-    ensures { left words ≡ stored base nought (was words) (listed at count (was words)) }
+    ensures { words.new ≡ stored base nought words.old (listed at count words.old) }
 {
     let mut i = 0;
     while i < count {
@@ -52,7 +51,7 @@ fn stray(c: u16) -> u32
 // has no way out before its end and strays are counted, so that the processor takes several words at a time.
 pub fn unknowns(counts: &[u16], n: usize) -> usize
     requires { n ≤ 4096 }
-    ensures { result ≡ cond (bad_counts n (was counts)) 0 (sum (was counts)) }
+    ensures { result ≡ cond (bad_counts n counts.now) 0 (sum counts.now) }
 {
     if counts.len() != n {
         return 0;

@@ -4,7 +4,6 @@
 // levels.
 ghost use Rattle.std.specs.Prelude.{◌≡◌, ◌≤◌, length, take, replicate};
 ghost use Rattle.std.proofs.lemmas.List.Edits.{sets};
-ghost use Rattle.basis.specs.Moments.{was, left};
 ghost use Rattle.spec.specs.Graph.{graph_refusal, outside};
 ghost use Rattle.spec.specs.Levels.{part};
 ghost use Rattle.laws.specs.Handed.{graph_now, size_now, graph_was, size_was};
@@ -37,8 +36,8 @@ pub fn no_node(n: usize, p: u16) -> bool
 // Puts the nodes that have a level in the first n words into MEMBERS, rising. Returns how many there are.
 fn collect(scratch: &mut [u16], n: usize) -> usize
     requires { (n ≤ 4096) × (tally_area n ≤ length scratch.old) }
-    ensures value { result ≡ length (placed n (was scratch)) }
-    ensures scratch_value { left scratch ≡ sets (was scratch) (members_area n) (placed n (was scratch)) }
+    ensures value { result ≡ length (placed n scratch.old) }
+    ensures scratch_value { scratch.new ≡ sets scratch.old (members_area n) (placed n scratch.old) }
 {
     let mut count = 0;
     let mut p = 0;
@@ -60,7 +59,7 @@ pub fn gather_part(starts: &[u16], neighbours: &[u16], node: u16, scratch: &mut 
     requires starts_in_bounds { tally_area (size_now starts) ≤ length scratch.old }
     requires scratch_value { take (second_area (size_now starts)) scratch.old ≡ replicate (second_area (size_now starts)) 0 }
     ensures value { result ≡ length (part (graph_was starts neighbours) node) }
-    ensures scratch_value_2 { left scratch ≡ sets (was scratch) (members_area (size_was starts)) (part (graph_was starts neighbours) node) }
+    ensures scratch_value_2 { scratch.new ≡ sets scratch.old (members_area (size_was starts)) (part (graph_was starts neighbours) node) }
 {
     let n = starts.len() - 1;
     let s = search(starts, neighbours, node, n, &mut scratch[0..SECOND * n]);
@@ -79,8 +78,8 @@ pub fn combine_part(
 ) -> PartLevels
     requires neighbours_value { graph_refusal starts.now neighbours.now ≡ 0 }
     requires part_given { PartGiven (graph_now starts neighbours) from to (words_of (size_now starts) scratch.old) (tally_of (size_now starts) scratch.old) }
-    ensures value { result ≡ part_levels_of (graph_was starts neighbours) (ends_in (graph_was starts neighbours) from (was scratch)) }
-    ensures scratch_value { left scratch ≡ with_levels (graph_was starts neighbours) from (was scratch) (words_of (size_was starts) (was scratch)) }
+    ensures value { result ≡ part_levels_of (graph_was starts neighbours) (ends_in (graph_was starts neighbours) from scratch.old) }
+    ensures scratch_value { scratch.new ≡ with_levels (graph_was starts neighbours) from scratch.old (words_of (size_was starts) scratch.old) }
 {
     let n = starts.len() - 1;
     let first = first_in_e(starts, &scratch[MEMBERS * n + from..MEMBERS * n + to]);

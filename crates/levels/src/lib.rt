@@ -8,7 +8,6 @@ mod part;
 pub mod shape;
 
 ghost use Rattle.std.specs.Prelude.{◌≡◌};
-ghost use Rattle.basis.specs.Moments.{was, left};
 ghost use Rattle.spec.specs.CallsLevels.{rooted_answer, rooted_levels, rooted_sizes, ends_answer, ends_scratch, combined_answer, combined_levels, combined_scratch};
 ghost use Rattle.levels.specs.Answers.{rooted_meaning, ends_meaning, combined_meaning};
 
@@ -26,9 +25,9 @@ pub fn rooted_levels(
     levels: &mut [u16],
     sizes: &mut [u16],
 ) -> RootedAnswer
-    ensures result_value { rooted_meaning result ≡ rooted_answer (was starts) (was neighbours) root (was levels) (was sizes) }
-    ensures levels_value { left levels ≡ rooted_levels (was starts) (was neighbours) root (was levels) (was sizes) }
-    ensures sizes_value { left sizes ≡ rooted_sizes (was starts) (was neighbours) root (was levels) (was sizes) }
+    ensures result_value { rooted_meaning result ≡ rooted_answer starts.now neighbours.now root levels.old sizes.old }
+    ensures levels_value { levels.new ≡ rooted_levels starts.now neighbours.now root levels.old sizes.old }
+    ensures sizes_value { sizes.new ≡ rooted_sizes starts.now neighbours.now root levels.old sizes.old }
 {
     match graph::test_adjacency(starts, neighbours) {
         Adjacency::Refused(c) => RootedAnswer::Refused(c),
@@ -52,8 +51,8 @@ pub fn rooted_levels(
 
 // The ends of the part of `node`: v, u, k, both widths and the passes, as the search names v and u.
 pub fn ends(starts: &[u16], neighbours: &[u16], node: u16, scratch: &mut [u16]) -> EndsAnswer
-    ensures result_value { ends_meaning result ≡ ends_answer (was starts) (was neighbours) node (was scratch) }
-    ensures scratch_value { left scratch ≡ ends_scratch (was starts) (was neighbours) node (was scratch) }
+    ensures result_value { ends_meaning result ≡ ends_answer starts.now neighbours.now node scratch.old }
+    ensures scratch_value { scratch.new ≡ ends_scratch starts.now neighbours.now node scratch.old }
 {
     match graph::test_adjacency(starts, neighbours) {
         Adjacency::Refused(c) => EndsAnswer::Refused(c),
@@ -86,9 +85,9 @@ pub fn combined_levels(
     levels: &mut [u16],
     scratch: &mut [u16],
 ) -> CombinedAnswer
-    ensures result_value { combined_meaning result ≡ combined_answer (was starts) (was neighbours) node (was levels) (was scratch) }
-    ensures levels_value { left levels ≡ combined_levels (was starts) (was neighbours) node (was levels) (was scratch) }
-    ensures scratch_value { left scratch ≡ combined_scratch (was starts) (was neighbours) node (was levels) (was scratch) }
+    ensures result_value { combined_meaning result ≡ combined_answer starts.now neighbours.now node levels.old scratch.old }
+    ensures levels_value { levels.new ≡ combined_levels starts.now neighbours.now node levels.old scratch.old }
+    ensures scratch_value { scratch.new ≡ combined_scratch starts.now neighbours.now node levels.old scratch.old }
 {
     match graph::test_adjacency(starts, neighbours) {
         Adjacency::Refused(c) => CombinedAnswer::Refused(c),

@@ -1,6 +1,5 @@
 // The calls on one part: what they do in their scratch once it was tested.
 ghost use Rattle.std.specs.Prelude.{◌≡◌, ◌*◌, ◌≤◌, length};
-ghost use Rattle.basis.specs.Moments.{was, left};
 ghost use Rattle.spec.specs.Combined.{combined};
 ghost use Rattle.spec.specs.Ends.{ends};
 ghost use Rattle.spec.specs.Graph.{graph_refusal};
@@ -26,7 +25,7 @@ pub(crate) fn find_ends(
     requires le_node { (1 ≤ node) × (node ≤ size_now starts) }
     requires starts_in_bounds { words_per_node * size_now starts ≤ length scratch.old }
     ensures value { result ≡ part_ends_of (ends (graph_was starts neighbours) node) }
-    ensures scratch_value { left scratch ≡ zeroed (words_per_node * size_was starts) (was scratch) }
+    ensures scratch_value { scratch.new ≡ zeroed (words_per_node * size_was starts) scratch.old }
 {
     let n = starts.len() - 1;
     let half = n + n;
@@ -48,7 +47,7 @@ pub(crate) fn find_ends(
 // Copies the words of `from` over those of `to`, which are as many.
 fn copy(to: &mut [u16], from: &[u16])
     requires { length to.old ≡ length from.now }
-    ensures { left to ≡ was from }
+    ensures { to.new ≡ from.now }
 {
     let mut i = 0;
     while i < from.len() {
@@ -70,8 +69,8 @@ pub(crate) fn find_levels(
     requires levels_len { length levels.old ≡ size_now starts }
     requires starts_in_bounds { words_per_node * size_now starts ≤ length scratch.old }
     ensures value { result ≡ part_levels_of (graph_was starts neighbours) (ends (graph_was starts neighbours) node) }
-    ensures levels_value { left levels ≡ combined (graph_was starts neighbours) (ends (graph_was starts neighbours) node) }
-    ensures scratch_value { left scratch ≡ zeroed (words_per_node * size_was starts) (was scratch) }
+    ensures levels_value { levels.new ≡ combined (graph_was starts neighbours) (ends (graph_was starts neighbours) node) }
+    ensures scratch_value { scratch.new ≡ zeroed (words_per_node * size_was starts) scratch.old }
 {
     let n = starts.len() - 1;
     clear(scratch, WORDS_PER_NODE * n);

@@ -5,7 +5,6 @@
 ghost use Rattle.std.specs.Prelude.{◌≡◌, ◌+◌, ◌-◌, ◌≤◌, length, replicate, ltb};
 ghost use Rattle.std.proofs.lemmas.List.Edits.{sets};
 ghost use Rattle.basis.specs.Lists.{filterb};
-ghost use Rattle.basis.specs.Moments.{was, left};
 ghost use Rattle.basis.specs.Stored.{stored, nought};
 ghost use Rattle.spec.specs.Combined.{combined, width_of};
 ghost use Rattle.spec.specs.Graph.{graph_refusal};
@@ -28,7 +27,7 @@ use levels_place::legal::{place, settle, widest};
 // Counts the second numbers of the members from the other end: k + 1 - b.
 fn mirror(scratch: &mut [u16], n: usize, from: usize, to: usize, k: u16)
     requires { Mirrorable n from to k scratch.old }
-    ensures { left scratch ≡ stored (second_area n) (mirrored_at n k (was scratch)) (was scratch) (members_of n from to (was scratch)) }
+    ensures { scratch.new ≡ stored (second_area n) (mirrored_at n k scratch.old) scratch.old (members_of n from to scratch.old) }
 {
     let mut i = from;
     while i < to {
@@ -41,8 +40,8 @@ fn mirror(scratch: &mut [u16], n: usize, from: usize, to: usize, k: u16)
 // Puts the settled members into the queue. Returns how many there are.
 fn gather(scratch: &mut [u16], n: usize, from: usize, to: usize) -> usize
     requires { Members n from to scratch.old }
-    ensures value { result ≡ length (filterb (settled_at n (was scratch)) (members_of n from to (was scratch))) }
-    ensures scratch_value { left scratch ≡ sets (was scratch) n (filterb (settled_at n (was scratch)) (members_of n from to (was scratch))) }
+    ensures value { result ≡ length (filterb (settled_at n scratch.old) (members_of n from to scratch.old)) }
+    ensures scratch_value { scratch.new ≡ sets scratch.old n (filterb (settled_at n scratch.old) (members_of n from to scratch.old)) }
 {
     let mut t = 0;
     let mut i = from;
@@ -62,8 +61,8 @@ fn gather(scratch: &mut [u16], n: usize, from: usize, to: usize) -> usize
 fn place_all(scratch: &mut [u16], n: usize, m: usize, narrow: bool)
     requires n_bound { (n ≤ 4096) × (m ≤ n) × (areas_end n ≤ length scratch.old) }
     requires placeable_all { PlaceableAll n (n - m) narrow (starts_of n m (work_of n scratch.old)) (work_of n scratch.old) (held_of n scratch.old) }
-    ensures scratch_value { work_of n (left scratch) ≡ words_after n narrow (starts_of n m (work_of n (was scratch))) (work_of n (was scratch)) (held_of n (was scratch)) }
-    ensures scratch_value_2 { held_of n (left scratch) ≡ levels_after n narrow (starts_of n m (work_of n (was scratch))) (work_of n (was scratch)) (held_of n (was scratch)) }
+    ensures scratch_value { work_of n scratch.new ≡ words_after n narrow (starts_of n m (work_of n scratch.old)) (work_of n scratch.old) (held_of n scratch.old) }
+    ensures scratch_value_2 { held_of n scratch.new ≡ levels_after n narrow (starts_of n m (work_of n scratch.old)) (work_of n scratch.old) (held_of n scratch.old) }
 {
     let mut i = 0;
     while i < m {
@@ -78,7 +77,7 @@ fn place_all(scratch: &mut [u16], n: usize, m: usize, narrow: bool)
 fn erase(scratch: &mut [u16], n: usize, base: usize, from: usize, to: usize)
     requires members { Members n from to scratch.old }
     requires n_bound { base + n ≤ members_area n }
-    ensures { left scratch ≡ stored base nought (was scratch) (members_of n from to (was scratch)) }
+    ensures { scratch.new ≡ stored base nought scratch.old (members_of n from to scratch.old) }
 {
     graph_words::legal::erase(scratch, base, MEMBERS * n + from, to - from);
 }
@@ -97,7 +96,7 @@ fn level(
     requires entry_in { EntryIn (graph_now starts neighbours) from to scratch.old }
     requires k_value { k ≡ (work_ends (graph_now starts neighbours) from scratch.old).k }
     requires narrow_value { narrow ≡ ltb (work_ends (graph_now starts neighbours) from scratch.old).u_width (work_ends (graph_now starts neighbours) from scratch.old).v_width }
-    ensures { LevelledIn (graph_was starts neighbours) from to (was scratch) (left scratch) }
+    ensures { LevelledIn (graph_was starts neighbours) from to scratch.old scratch.new }
 {
     let n = starts.len() - 1;
     mirror(scratch, n, from, to, k);
@@ -110,7 +109,7 @@ fn level(
 // Sets count words from a on to 0.
 fn blank(scratch: &mut [u16], a: usize, count: usize)
     requires { a + count ≤ length scratch.old }
-    ensures { left scratch ≡ sets (was scratch) a (replicate count 0) }
+    ensures { scratch.new ≡ sets scratch.old a (replicate count 0) }
 {
     let mut i = 0;
     while i < count {
@@ -123,8 +122,8 @@ fn blank(scratch: &mut [u16], a: usize, count: usize)
 fn tidy(scratch: &mut [u16], n: usize, from: usize, to: usize, k: usize)
     requires n_in_bounds { areas_end n ≤ length scratch.old }
     requires clearable { Clearable n from to k (work_of n scratch.old) }
-    ensures scratch_value { work_of n (left scratch) ≡ zeroed (members_area n) (work_of n (was scratch)) }
-    ensures scratch_value_2 { held_of n (left scratch) ≡ held_of n (was scratch) }
+    ensures scratch_value { work_of n scratch.new ≡ zeroed (members_area n) (work_of n scratch.old) }
+    ensures scratch_value_2 { held_of n scratch.new ≡ held_of n scratch.old }
 {
     erase(scratch, n, 0, from, to);
     erase(scratch, n, SECOND * n, from, to);
@@ -138,7 +137,7 @@ pub fn copy_levels(scratch: &mut [u16], n: usize, base: usize, from: usize, to: 
     requires n_in_bounds { areas_end n ≤ length scratch.old }
     requires n_bound { base + n ≤ members_area n }
     requires members { Members n from to scratch.old }
-    ensures { left scratch ≡ stored (tally_area n) (number_at base (was scratch)) (was scratch) (members_of n from to (was scratch)) }
+    ensures { scratch.new ≡ stored (tally_area n) (number_at base scratch.old) scratch.old (members_of n from to scratch.old) }
 {
     let mut i = from;
     while i < to {
@@ -151,7 +150,7 @@ pub fn copy_levels(scratch: &mut [u16], n: usize, base: usize, from: usize, to: 
 // Moves the levels of a part from MERGED to TALLY, which is 0.
 fn move_levels(scratch: &mut [u16], n: usize, from: usize, to: usize)
     requires { Movable n from to scratch.old }
-    ensures { left scratch ≡ swapped n (was scratch) }
+    ensures { scratch.new ≡ swapped n scratch.old }
 {
     copy_levels(scratch, n, MERGED * n, from, to);
     erase(scratch, n, MERGED * n, from, to);
@@ -172,8 +171,8 @@ pub fn combine(
 ) -> u16
     requires neighbours_value { graph_refusal starts.now neighbours.now ≡ 0 }
     requires given { Given (graph_now starts neighbours) from to k width_v width_u (words_of (size_now starts) scratch.old) (tally_of (size_now starts) scratch.old) }
-    ensures value { result ≡ width_of k (combined (graph_was starts neighbours) (ends_in (graph_was starts neighbours) from (was scratch))) }
-    ensures scratch_value { left scratch ≡ with_levels (graph_was starts neighbours) from (was scratch) (zeroed (members_area (size_was starts)) (words_of (size_was starts) (was scratch))) }
+    ensures value { result ≡ width_of k (combined (graph_was starts neighbours) (ends_in (graph_was starts neighbours) from scratch.old)) }
+    ensures scratch_value { scratch.new ≡ with_levels (graph_was starts neighbours) from scratch.old (zeroed (members_area (size_was starts)) (words_of (size_was starts) scratch.old)) }
 {
     let n = starts.len() - 1;
     blank(scratch, MERGED * n, to - from);

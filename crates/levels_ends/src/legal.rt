@@ -2,7 +2,6 @@
 // s of v's last level in the others. The words are 0 before, and afterwards they have the searches from v and from u.
 ghost use Rattle.std.specs.Prelude.{◌≡◌, List, ◌++◌, ℕ, ◌+◌, ◌≤◌, length, drop, replicate};
 ghost use Rattle.std.proofs.Math.Seq.{slice};
-ghost use Rattle.basis.specs.Moments.{was, left};
 ghost use Rattle.spec.specs.Graph.{graph_of, graph_refusal, first_in_e};
 ghost use Rattle.spec.specs.Levels.{levels, part};
 ghost use Rattle.spec.specs.Ends.{ends};
@@ -26,7 +25,7 @@ pub fn first_in_e(starts: &[u16], nodes: &[u16]) -> u16
     requires by_index { (neighbours : List ℕ) × Starts starts.now neighbours }
     requires nodes { Nodes (size_now starts) nodes.now }
     requires in_bounds { 1 ≤ length nodes.now }
-    ensures { (neighbours : List ℕ) → Starts (was starts) neighbours → result ≡ first_in_e (graph_of (was starts) neighbours) (was nodes) }
+    ensures { (neighbours : List ℕ) → Starts starts.now neighbours → result ≡ first_in_e (graph_of starts.now neighbours) nodes.now }
 {
     let mut first = nodes[0];
     let mut i = 1;
@@ -46,7 +45,7 @@ pub fn first_of_part(starts: &[u16], neighbours: &[u16], node: u16, work: &mut [
     requires le_node { (1 ≤ node) × (node ≤ size_now starts) }
     requires work_value { work.old ≡ replicate (size_now starts + size_now starts) 0 }
     ensures value { result ≡ first_in_e (graph_was starts neighbours) (part (graph_was starts neighbours) node) }
-    ensures work_value_2 { left work ≡ was work }
+    ensures work_value_2 { work.new ≡ work.old }
 {
     let n = starts.len() - 1;
     let r = search(starts, neighbours, node, n, work);
@@ -70,7 +69,7 @@ fn probe(
     requires s_len_bound { length (part (graph_now starts neighbours) s) ≤ most }
     requires queued { Queued (size_now starts) held work.old }
     ensures value { result ≡ rooted_of (levels (graph_was starts neighbours) s) }
-    ensures searched { Searched (was starts) (was neighbours) s (left work) }
+    ensures searched { Searched starts.now neighbours.now s work.new }
 {
     let n = starts.len() - 1;
     wipe(work, n, held);
@@ -92,7 +91,7 @@ fn probe_other(
     requires u_len_bound { length (part (graph_now starts neighbours) u) ≤ most }
     requires queued { Queued (size_now starts) held work.old }
     requires searched { Searched starts.now neighbours.now s work.old }
-    ensures { Searched (was starts) (was neighbours) u (left work) }
+    ensures { Searched starts.now neighbours.now u work.new }
 {
     if s == u {
         return;
@@ -139,7 +138,7 @@ fn try_each(
 ) -> Tried
     requires neighbours_value { graph_refusal starts.now neighbours.now ≡ 0 }
     requires candidates { Candidates starts.now neighbours.now a b work.old }
-    ensures { Tries (was starts) (was neighbours) (slice a b (was work)) depth (was work) (left work) result }
+    ensures { Tries starts.now neighbours.now (slice a b work.old) depth work.old work.new result }
 {
     let n = starts.len() - 1;
     let half = n + n;
@@ -170,7 +169,7 @@ fn try_each(
 // "Take S in E": sorts the last level of the search r, at the end of its queue.
 fn sort_last(starts: &[u16], r: Rooted, work: &mut [u16])
     requires { (neighbours : List ℕ) × (v : ℕ) × Area starts.now neighbours v r work.old }
-    ensures { (neighbours : List ℕ) (v : ℕ) → Area (was starts) neighbours v r (was work) → Sorted (was starts) neighbours v r (left work) }
+    ensures { (neighbours : List ℕ) (v : ℕ) → Area starts.now neighbours v r work.old → Sorted starts.now neighbours v r work.new }
 {
     let n = starts.len() - 1;
     let a = n + wide(r.last);
@@ -181,7 +180,7 @@ fn sort_last(starts: &[u16], r: Rooted, work: &mut [u16])
 // One pass, steps 2 and 3: S is the last level of the search r from v.
 fn pass(starts: &[u16], neighbours: &[u16], r: Rooted, work: &mut [u16]) -> Tried
     requires { (v : ℕ) × At starts.now neighbours.now v r work.old }
-    ensures { (v : ℕ) → At (was starts) (was neighbours) v r (was work) → Passed (was starts) (was neighbours) v result (left work) }
+    ensures { (v : ℕ) → At starts.now neighbours.now v r work.old → Passed starts.now neighbours.now v result work.new }
 {
     let n = starts.len() - 1;
     sort_last(starts, r, &mut work[0..n + n]);
@@ -198,7 +197,7 @@ fn pass(starts: &[u16], neighbours: &[u16], r: Rooted, work: &mut [u16]) -> Trie
 // Copies the search in the second 2n words over the one in the first, node by node: both are of one part of `count` nodes.
 fn copy_over(work: &mut [u16], n: usize, count: usize)
     requires { OnePart n count work.old }
-    ensures { left work ≡ drop (n + n) (was work) ++ drop (n + n) (was work) }
+    ensures { work.new ≡ drop (n + n) work.old ++ drop (n + n) work.old }
 {
     let half = n + n;
     let mut i = 0;
@@ -214,7 +213,7 @@ fn copy_over(work: &mut [u16], n: usize, count: usize)
 // Moves the search in the second 2n words to the first.
 fn take_over(work: &mut [u16], n: usize, count: usize)
     requires { OnePart n count work.old }
-    ensures { left work ≡ drop (n + n) (was work) ++ replicate (n + n) 0 }
+    ensures { work.new ≡ drop (n + n) work.old ++ replicate (n + n) 0 }
 {
     copy_over(work, n, count);
     wipe(&mut work[n + n..], n, count);
@@ -227,7 +226,7 @@ pub fn ends_from(starts: &[u16], neighbours: &[u16], first: u16, work: &mut [u16
     requires first_value { first ≡ first_in_e (graph_now starts neighbours) (part (graph_now starts neighbours) first) }
     requires work_value { work.old ≡ replicate (size_now starts + size_now starts + (size_now starts + size_now starts)) 0 }
     ensures value { result ≡ found_of (graph_was starts neighbours) (ends (graph_was starts neighbours) first) }
-    ensures ended { Ended (was starts) (was neighbours) (ends (graph_was starts neighbours) first) (left work) }
+    ensures ended { Ended starts.now neighbours.now (ends (graph_was starts neighbours) first) work.new }
 {
     let n = starts.len() - 1;
     let mut v = first;

@@ -3,7 +3,6 @@
 // room and the ranges.
 ghost use Rattle.std.specs.Prelude.{◌≡◌, cond, ◌+◌, ◌*◌, ◌≤◌, ◌<◌, length, map};
 ghost use Rattle.basis.specs.Lists.{up_from, greatest};
-ghost use Rattle.basis.specs.Moments.{was, left};
 ghost use Rattle.laws.specs.Scratch.{second_area, areas_end};
 ghost use Rattle.levels_laws.specs.Areas.{work_of, held_of};
 ghost use Rattle.levels_laws.specs.Tally.{tally, untally};
@@ -17,7 +16,7 @@ fn slot(scratch: &[u16], n: usize, base: usize, s: usize, t: usize, p: usize) ->
     requires n_in_bounds { areas_end n ≤ length scratch.now }
     requires readable { Readable n base s t (work_of n scratch.now) }
     requires s_le_p { (s ≤ p) × (p < t) }
-    ensures { result ≡ 2 * n + slot_at n base (work_of n (was scratch)) p }
+    ensures { result ≡ 2 * n + slot_at n base (work_of n scratch.now) p }
 {
     let z = wide(scratch[n + p]);
     let i = wide(scratch[base + z - 1]);
@@ -29,9 +28,9 @@ fn slot(scratch: &[u16], n: usize, base: usize, s: usize, t: usize, p: usize) ->
 fn raise(scratch: &mut [u16], n: usize, base: usize, s: usize, t: usize) -> usize
     requires n_in_bounds { areas_end n ≤ length scratch.old }
     requires countable { Countable n base s t (work_of n scratch.old) }
-    ensures value { result ≡ peak_of n base s t (work_of n (was scratch)) }
-    ensures scratch_value { work_of n (left scratch) ≡ tally (work_of n (was scratch)) (slots n base s t (work_of n (was scratch))) }
-    ensures scratch_value_2 { held_of n (left scratch) ≡ held_of n (was scratch) }
+    ensures value { result ≡ peak_of n base s t (work_of n scratch.old) }
+    ensures scratch_value { work_of n scratch.new ≡ tally (work_of n scratch.old) (slots n base s t (work_of n scratch.old)) }
+    ensures scratch_value_2 { held_of n scratch.new ≡ held_of n scratch.old }
 {
     let mut top = 0;
     let mut p = s;
@@ -49,8 +48,8 @@ fn raise(scratch: &mut [u16], n: usize, base: usize, s: usize, t: usize) -> usiz
 fn lower(scratch: &mut [u16], n: usize, base: usize, s: usize, t: usize)
     requires n_in_bounds { areas_end n ≤ length scratch.old }
     requires full { Full n base s t (work_of n scratch.old) }
-    ensures scratch_value { work_of n (left scratch) ≡ untally (work_of n (was scratch)) (slots n base s t (work_of n (was scratch))) }
-    ensures scratch_value_2 { held_of n (left scratch) ≡ held_of n (was scratch) }
+    ensures scratch_value { work_of n scratch.new ≡ untally (work_of n scratch.old) (slots n base s t (work_of n scratch.old)) }
+    ensures scratch_value_2 { held_of n scratch.new ≡ held_of n scratch.old }
 {
     let mut p = s;
     while p < t {
@@ -65,9 +64,9 @@ fn lower(scratch: &mut [u16], n: usize, base: usize, s: usize, t: usize)
 fn peak(scratch: &mut [u16], n: usize, base: usize, s: usize, t: usize) -> usize
     requires n_in_bounds { areas_end n ≤ length scratch.old }
     requires countable { Countable n base s t (work_of n scratch.old) }
-    ensures value { result ≡ peak_of n base s t (work_of n (was scratch)) }
-    ensures scratch_value { work_of n (left scratch) ≡ work_of n (was scratch) }
-    ensures scratch_value_2 { held_of n (left scratch) ≡ held_of n (was scratch) }
+    ensures value { result ≡ peak_of n base s t (work_of n scratch.old) }
+    ensures scratch_value { work_of n scratch.new ≡ work_of n scratch.old }
+    ensures scratch_value_2 { held_of n scratch.new ≡ held_of n scratch.old }
 {
     let h = raise(scratch, n, base, s, t);
     lower(scratch, n, base, s, t);
@@ -78,8 +77,8 @@ fn peak(scratch: &mut [u16], n: usize, base: usize, s: usize, t: usize) -> usize
 fn put(scratch: &mut [u16], n: usize, base: usize, s: usize, t: usize)
     requires readable { Readable n base s t (work_of n scratch.old) }
     requires n_in_bounds { n ≤ length (held_of n scratch.old) }
-    ensures scratch_value { work_of n (left scratch) ≡ work_of n (was scratch) }
-    ensures scratch_value_2 { held_of n (left scratch) ≡ levels_by n base s t (work_of n (was scratch)) (held_of n (was scratch)) }
+    ensures scratch_value { work_of n scratch.new ≡ work_of n scratch.old }
+    ensures scratch_value_2 { held_of n scratch.new ≡ levels_by n base s t (work_of n scratch.old) (held_of n scratch.old) }
 {
     let mut p = s;
     while p < t {
@@ -93,8 +92,8 @@ fn put(scratch: &mut [u16], n: usize, base: usize, s: usize, t: usize)
 pub fn settle(scratch: &mut [u16], n: usize, base: usize, s: usize, t: usize)
     requires countable { Countable n base s t (work_of n scratch.old) }
     requires n_in_bounds { n ≤ length (held_of n scratch.old) }
-    ensures scratch_value { work_of n (left scratch) ≡ words_by n base s t (work_of n (was scratch)) }
-    ensures scratch_value_2 { held_of n (left scratch) ≡ levels_by n base s t (work_of n (was scratch)) (held_of n (was scratch)) }
+    ensures scratch_value { work_of n scratch.new ≡ words_by n base s t (work_of n scratch.old) }
+    ensures scratch_value_2 { held_of n scratch.new ≡ levels_by n base s t (work_of n scratch.old) (held_of n scratch.old) }
 {
     put(scratch, n, base, s, t);
     raise(scratch, n, base, s, t);
@@ -118,8 +117,8 @@ fn choose(n: usize, h: usize, l: usize, narrow: bool) -> usize
 // Places the piece s..t of the queue against the counts as they now are.
 pub fn place(scratch: &mut [u16], n: usize, s: usize, t: usize, narrow: bool)
     requires { Placeable n s t (work_of n scratch.old) (held_of n scratch.old) }
-    ensures scratch_value { work_of n (left scratch) ≡ words_by n (chosen n s t narrow (work_of n (was scratch))) s t (work_of n (was scratch)) }
-    ensures scratch_value_2 { held_of n (left scratch) ≡ levels_by n (chosen n s t narrow (work_of n (was scratch))) s t (work_of n (was scratch)) (held_of n (was scratch)) }
+    ensures scratch_value { work_of n scratch.new ≡ words_by n (chosen n s t narrow (work_of n scratch.old)) s t (work_of n scratch.old) }
+    ensures scratch_value_2 { held_of n scratch.new ≡ levels_by n (chosen n s t narrow (work_of n scratch.old)) s t (work_of n scratch.old) (held_of n scratch.old) }
 {
     let h = peak(scratch, n, 0, s, t);
     let l = peak(scratch, n, SECOND * n, s, t);
@@ -130,7 +129,7 @@ pub fn place(scratch: &mut [u16], n: usize, s: usize, t: usize, narrow: bool)
 // The greatest count of the levels 1..k.
 pub fn widest(scratch: &[u16], n: usize, k: usize) -> usize
     requires { (n ≤ 4096) × (k ≤ n) × (areas_end n ≤ length scratch.now) }
-    ensures { result ≡ greatest (map (count_of n (work_of n (was scratch))) (up_from 1 k)) }
+    ensures { result ≡ greatest (map (count_of n (work_of n scratch.now)) (up_from 1 k)) }
 {
     let mut top = 0;
     let mut i = 0;

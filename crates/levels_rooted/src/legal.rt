@@ -2,7 +2,6 @@
 // rows of level d are visited, word d - 1 gets its size. The node that stood there is done with, as d levels have at least d nodes.
 ghost use Rattle.std.specs.Prelude.{◌≡◌, ◌≤◌, length, take, replicate};
 ghost use Rattle.std.proofs.Math.Seq.{slice};
-ghost use Rattle.basis.specs.Moments.{was, left};
 ghost use Rattle.spec.specs.Graph.{row_of, graph_refusal};
 ghost use Rattle.laws.specs.Handed.{size_now, graph_was};
 ghost use Rattle.levels_search.specs.Marks.{within, rows};
@@ -18,7 +17,7 @@ use graph_words::{larger, wide};
 fn visit(row: &[u16], levels: &mut [u16], queue: &mut [u16], tail: usize, j: u16) -> usize
     requires ready { Ready levels.old queue.old tail j }
     requires within { within (length levels.old) row.now }
-    ensures { Pushed (was row) j (was levels) (was queue) tail (left levels) (left queue) result }
+    ensures { Pushed row.now j levels.old queue.old tail levels.new queue.new result }
 {
     let mut t = tail;
     let mut k = 0;
@@ -48,7 +47,7 @@ fn visit_node(
     requires ready { Ready levels.old queue.old tail j }
     requires readable { Readable (length levels.old) starts.now neighbours.now }
     requires le_p { (1 ≤ p) × (p ≤ length levels.old) }
-    ensures { Pushed (row_of (was starts) (was neighbours) p) j (was levels) (was queue) tail (left levels) (left queue) result }
+    ensures { Pushed (row_of starts.now neighbours.now p) j levels.old queue.old tail levels.new queue.new result }
 {
     visit(row(starts, neighbours, wide(p)), levels, queue, tail, j)
 }
@@ -67,7 +66,7 @@ fn expand(
     requires readable { Readable (length levels.old) starts.now neighbours.now }
     requires a_le_b { a ≤ b }
     requires within { within (length levels.old) (slice a b queue.old) }
-    ensures { Pushed (rows (was starts) (was neighbours) (slice a b (was queue))) j (was levels) (was queue) b (left levels) (left queue) result }
+    ensures { Pushed (rows starts.now neighbours.now (slice a b queue.old)) j levels.old queue.old b levels.new queue.new result }
 {
     let mut tail = b;
     let mut h = a;
@@ -92,8 +91,8 @@ fn search(
     requires levels_value { levels.old ≡ replicate (size_now starts) 0 }
     requires sizes_len { length sizes.old ≡ size_now starts }
     ensures value { result ≡ figures_of (graph_was starts neighbours) root }
-    ensures levels_value_2 { left levels ≡ list_of (graph_was starts neighbours) root }
-    ensures sizes_value { take result.depth (left sizes) ≡ counts_of (graph_was starts neighbours) root }
+    ensures levels_value_2 { levels.new ≡ list_of (graph_was starts neighbours) root }
+    ensures sizes_value { take result.depth sizes.new ≡ counts_of (graph_was starts neighbours) root }
 {
     let at = wide(root) - 1;
     levels[at] = 1;
@@ -130,8 +129,8 @@ pub fn rooted(
     requires levels_len { length levels.old ≡ size_now starts }
     requires sizes_len { length sizes.old ≡ size_now starts }
     ensures value { result ≡ figures_of (graph_was starts neighbours) root }
-    ensures levels_value { left levels ≡ list_of (graph_was starts neighbours) root }
-    ensures sizes_value { left sizes ≡ sizes_of (graph_was starts neighbours) root }
+    ensures levels_value { levels.new ≡ list_of (graph_was starts neighbours) root }
+    ensures sizes_value { sizes.new ≡ sizes_of (graph_was starts neighbours) root }
 {
     let n = levels.len();
     clear(levels, n);

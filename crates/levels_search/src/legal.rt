@@ -3,7 +3,6 @@
 ghost use Rattle.std.specs.Prelude.{◌≡◌, ◌+◌, ◌≤◌, ◌<◌, true, cond, [], ◌∷◌, length, take, drop, set, replicate, eqb, ltb};
 ghost use Rattle.std.proofs.Math.Seq.{slice};
 ghost use Rattle.basis.specs.Lists.{bit, chainb};
-ghost use Rattle.basis.specs.Moments.{was, left};
 ghost use Rattle.spec.specs.Graph.{row_of, graph_refusal};
 ghost use Rattle.spec.specs.Levels.{levels, part};
 ghost use Rattle.laws.specs.Handed.{graph_now, size_now, graph_was};
@@ -34,7 +33,7 @@ fn level(w: u16, j: u16) -> u16
 fn visit_one(work: &mut [u16], n: usize, tail: usize, v: u16, j: u16) -> usize
     requires lent { Lent n work.old tail j }
     requires within { within n (v ∷ []) }
-    ensures { Moved n (v ∷ []) j (was work) tail (left work) result }
+    ensures { Moved n (v ∷ []) j work.old tail work.new result }
 {
     let at = wide(v) - 1;
     if work[at] != 0 {
@@ -52,7 +51,7 @@ fn visit_two(work: &mut [u16], n: usize, tail: usize, u: u16, v: u16, j: u16) ->
     requires within { within n (u ∷ v ∷ []) }
     requires u_lt_v { u < v }
     requires tail_bound { tail + 1 < n }
-    ensures { Moved n (u ∷ v ∷ []) j (was work) tail (left work) result }
+    ensures { Moved n (u ∷ v ∷ []) j work.old tail work.new result }
 {
     let a = wide(u) - 1;
     let b = wide(v) - 1;
@@ -71,7 +70,7 @@ fn visit(row: &[u16], work: &mut [u16], n: usize, tail: usize, j: u16) -> usize
     requires lent { Lent n work.old tail j }
     requires within { within n row.now }
     requires row_value { chainb ltb row.now ≡ true }
-    ensures { Moved n (was row) j (was work) tail (left work) result }
+    ensures { Moved n row.now j work.old tail work.new result }
 {
     let mut t = tail;
     let mut k = 0;
@@ -100,7 +99,7 @@ fn visit_node(
     requires lent { Lent n work.old tail j }
     requires readable { Readable n starts.now neighbours.now }
     requires le_p { (1 ≤ p) × (p ≤ n) }
-    ensures { Moved n (row_of (was starts) (was neighbours) p) j (was work) tail (left work) result }
+    ensures { Moved n (row_of starts.now neighbours.now p) j work.old tail work.new result }
 {
     visit(row(starts, neighbours, wide(p)), work, n, tail, j)
 }
@@ -122,7 +121,7 @@ fn expand(
     requires a_le_b { a ≤ b }
     requires within { within n (slice a b (drop n work.old)) }
     requires work_bound { b + length (found j (take n work.old) (rows starts.now neighbours.now (slice a b (drop n work.old)))) ≤ most }
-    ensures { Moved n (rows (was starts) (was neighbours) (slice a b (drop n (was work)))) j (was work) b (left work) result }
+    ensures { Moved n (rows starts.now neighbours.now (slice a b (drop n work.old))) j work.old b work.new result }
 {
     let mut tail = b;
     let mut h = a;
@@ -137,7 +136,7 @@ fn expand(
 // Sets the word where the queue ends to 0, if there is one.
 fn shut(work: &mut [u16], n: usize, tail: usize)
     requires { length work.old ≡ n + n }
-    ensures { left work ≡ set (was work) (n + tail) 0 }
+    ensures { work.new ≡ set work.old (n + tail) 0 }
 {
     if tail < n {
         work[n + tail] = 0;
@@ -158,7 +157,7 @@ pub fn search(
     requires root_len_bound { length (part (graph_now starts neighbours) root) ≤ most }
     requires work_value { work.old ≡ replicate (size_now starts + size_now starts) 0 }
     ensures value { result ≡ rooted_of (levels (graph_was starts neighbours) root) }
-    ensures searched { Searched (was starts) (was neighbours) root (left work) }
+    ensures searched { Searched starts.now neighbours.now root work.new }
 {
     let n = starts.len() - 1;
     let at = wide(root) - 1;
@@ -189,7 +188,7 @@ pub fn search(
 // Sets the words of a search to 0 again, node by node, by the `count` nodes that its queue holds.
 fn wipe_each(work: &mut [u16], n: usize, count: usize)
     requires { Queued n count work.old }
-    ensures { left work ≡ replicate (n + n) 0 }
+    ensures { work.new ≡ replicate (n + n) 0 }
 {
     let mut i = 0;
     while i < count {
@@ -204,7 +203,7 @@ fn wipe_each(work: &mut [u16], n: usize, count: usize)
 // The same, and in one go where the part has an eighth of the nodes or more: that is many times faster a word.
 pub fn wipe(work: &mut [u16], n: usize, count: usize)
     requires { Queued n count work.old }
-    ensures { left work ≡ replicate (n + n) 0 }
+    ensures { work.new ≡ replicate (n + n) 0 }
 {
     if count < n / 8 {
         return wipe_each(work, n, count);

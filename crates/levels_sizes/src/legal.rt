@@ -3,7 +3,6 @@
 ghost use Rattle.std.specs.Prelude.{◌≡◌, ℕ, ◌≤◌, ◌<◌, max, length, get_or, replicate};
 ghost use Rattle.std.proofs.lemmas.List.Edits.{sets};
 ghost use Rattle.basis.specs.Lists.{greatest};
-ghost use Rattle.basis.specs.Moments.{was, left};
 ghost use Rattle.spec.specs.Combined.{width_of};
 ghost use Rattle.spec.specs.Graph.{Graph};
 ghost use Rattle.spec.specs.Levels.{levels, size_list};
@@ -20,7 +19,7 @@ use graph_words::wide;
 fn size_at(scratch: &[u16], last: usize, size: u16, at: usize) -> u16
     requires at_in_bounds { at < length scratch.now }
     requires size_value { size ≡ get_or scratch.now last 0 }
-    ensures { result ≡ get_or (was scratch) at 0 }
+    ensures { result ≡ get_or scratch.now at 0 }
 {
     if at == last {
         return size;
@@ -39,9 +38,9 @@ fn wider(x: u16, y: u16) -> u16
 // Returns the greatest: sizes only grow, so it is the greatest that is written.
 fn list_sizes(scratch: &mut [u16], n: usize, base: usize, count: usize) -> u16
     requires { Listable n base count n scratch.old }
-    ensures value { result ≡ greatest (level_sizes n (levels_at n base (was scratch))) }
-    ensures scratch_value { left scratch ≡ sets (was scratch) (tally_area n) (level_sizes n (levels_at n base (was scratch))) }
-    ensures scratch_value_2 { (g : Graph) (r : ℕ) → RootedAt g r n (levels_at n base (was scratch)) → tally_of n (left scratch) ≡ size_list g (levels g r) }
+    ensures value { result ≡ greatest (level_sizes n (levels_at n base scratch.old)) }
+    ensures scratch_value { scratch.new ≡ sets scratch.old (tally_area n) (level_sizes n (levels_at n base scratch.old)) }
+    ensures scratch_value_2 { (g : Graph) (r : ℕ) → RootedAt g r n (levels_at n base scratch.old) → tally_of n scratch.new ≡ size_list g (levels g r) }
 {
     let mut last = TALLY * n;
     let mut size = 0;
@@ -63,7 +62,7 @@ fn list_sizes(scratch: &mut [u16], n: usize, base: usize, count: usize) -> u16
 // Sets the sizes of the levels 1..k to 0.
 fn wipe_sizes(scratch: &mut [u16], n: usize, k: usize)
     requires { (n ≤ 4096) × (k ≤ n) × (areas_end n ≤ length scratch.old) }
-    ensures { left scratch ≡ sets (was scratch) (tally_area n) (replicate k 0) }
+    ensures { scratch.new ≡ sets scratch.old (tally_area n) (replicate k 0) }
 {
     let from = TALLY * n;
     clear(&mut scratch[from..from + k], k);
@@ -72,8 +71,8 @@ fn wipe_sizes(scratch: &mut [u16], n: usize, k: usize)
 // The width of the levels of one search: the greatest of the list of their sizes, which is then 0 again.
 pub fn width_of(scratch: &mut [u16], n: usize, base: usize, count: usize, k: usize) -> u16
     requires { Listable n base count k scratch.old }
-    ensures value { result ≡ width_of k (levels_at n base (was scratch)) }
-    ensures scratch_value { left scratch ≡ was scratch }
+    ensures value { result ≡ width_of k (levels_at n base scratch.old) }
+    ensures scratch_value { scratch.new ≡ scratch.old }
 {
     let top = list_sizes(scratch, n, base, count);
     wipe_sizes(scratch, n, k);
@@ -84,9 +83,9 @@ pub fn width_of(scratch: &mut [u16], n: usize, base: usize, count: usize, k: usi
 pub fn end_widths(scratch: &mut [u16], n: usize, count: u16, k: u16) -> Widths
     requires listable { Listable n 0 count k scratch.old }
     requires listable_2 { Listable n (second_area n) count k scratch.old }
-    ensures v_value { result.v ≡ width_of k (levels_at n 0 (was scratch)) }
-    ensures u_value { result.u ≡ width_of k (levels_at n (second_area n) (was scratch)) }
-    ensures scratch_value { left scratch ≡ was scratch }
+    ensures v_value { result.v ≡ width_of k (levels_at n 0 scratch.old) }
+    ensures u_value { result.u ≡ width_of k (levels_at n (second_area n) scratch.old) }
+    ensures scratch_value { scratch.new ≡ scratch.old }
 {
     let count = wide(count);
     let k = wide(k);

@@ -1,6 +1,5 @@
 // The two lists of a mesh whose elements are not refused.
 ghost use Rattle.std.specs.Prelude.{◌≡◌, ◌≤◌, ◌<◌, length};
-ghost use Rattle.basis.specs.Moments.{was, left};
 ghost use Rattle.spec.specs.Refusal.{refuse};
 ghost use Rattle.spec.specs.Lent.{outcome, filled, zeroed};
 ghost use Rattle.spec.specs.Mesh.{elements_refusal, entry_count, start_list, neighbour_list, refuses11};
@@ -19,10 +18,10 @@ pub fn adjacency(
 ) -> Entries
     requires n_bound { (n ≤ 4096) × (n < length starts.old) × (32768 ≤ length neighbours.old) × (n ≤ length scratch.old) }
     requires elements_value { elements_refusal (length elements.now) n elements.now ≡ 0 }
-    ensures result_value { meaning result ≡ outcome (refuse (refuses11 (graph_of_elements n (was elements))) 11) (entry_count (graph_of_elements n (was elements))) }
-    ensures starts_value { left starts ≡ filled (refuse (refuses11 (graph_of_elements n (was elements))) 11) (start_list (graph_of_elements n (was elements))) (was starts) }
-    ensures neighbours_value { left neighbours ≡ filled (refuse (refuses11 (graph_of_elements n (was elements))) 11) (neighbour_list (graph_of_elements n (was elements))) (was neighbours) }
-    ensures scratch_value { left scratch ≡ zeroed n (was scratch) }
+    ensures result_value { meaning result ≡ outcome (refuse (refuses11 (graph_of_elements n elements.now)) 11) (entry_count (graph_of_elements n elements.now)) }
+    ensures starts_value { starts.new ≡ filled (refuse (refuses11 (graph_of_elements n elements.now)) 11) (start_list (graph_of_elements n elements.now)) starts.old }
+    ensures neighbours_value { neighbours.new ≡ filled (refuse (refuses11 (graph_of_elements n elements.now)) 11) (neighbour_list (graph_of_elements n elements.now)) neighbours.old }
+    ensures scratch_value { scratch.new ≡ zeroed n scratch.old }
 {
     let lists = &mut scratch[..n];
     if mesh_rows::legal::over(lists, elements, starts, neighbours) {

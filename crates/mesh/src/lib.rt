@@ -2,7 +2,6 @@
 #![tactic(auto)]
 
 ghost use Rattle.std.specs.Prelude.{◌≡◌};
-ghost use Rattle.basis.specs.Moments.{was, left};
 ghost use Rattle.spec.specs.CallsMesh.{mesh_answer, mesh_starts, mesh_neighbours, mesh_scratch};
 ghost use Rattle.mesh.specs.Answer.{meaning};
 
@@ -19,10 +18,10 @@ pub fn mesh_lists(
     neighbours: &mut [u16],
     scratch: &mut [u16],
 ) -> Entries
-    ensures result_value { meaning result ≡ mesh_answer n (was elements) (was starts) (was neighbours) (was scratch) }
-    ensures starts_value { left starts ≡ mesh_starts n (was elements) (was starts) (was neighbours) (was scratch) }
-    ensures neighbours_value { left neighbours ≡ mesh_neighbours n (was elements) (was starts) (was neighbours) (was scratch) }
-    ensures scratch_value { left scratch ≡ mesh_scratch n (was elements) (was starts) (was neighbours) (was scratch) }
+    ensures result_value { meaning result ≡ mesh_answer n elements.now starts.old neighbours.old scratch.old }
+    ensures starts_value { starts.new ≡ mesh_starts n elements.now starts.old neighbours.old scratch.old }
+    ensures neighbours_value { neighbours.new ≡ mesh_neighbours n elements.now starts.old neighbours.old scratch.old }
+    ensures scratch_value { scratch.new ≡ mesh_scratch n elements.now starts.old neighbours.old scratch.old }
 {
     if n == 0 {
         return Entries::Refused(1);

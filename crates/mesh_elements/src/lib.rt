@@ -2,7 +2,6 @@
 #![tactic(auto)]
 
 ghost use Rattle.std.specs.Prelude.{◌≡◌, length, eqb, ltb};
-ghost use Rattle.basis.specs.Moments.{was};
 ghost use Rattle.spec.specs.Refusal.{refuse, ◌or_else◌};
 ghost use Rattle.spec.specs.Mesh.{node_count, element_refusal, elements_refusal};
 
@@ -49,7 +48,7 @@ fn record_refusal(short: u16, kind: u16, left: usize) -> u16
 // What the element of this kind is refused by, or 0: "9 before 10 in each". `rest` is what follows its kind word; `short` is the
 // number for a record that runs past the end: 9 in the mesh call, 12 in a file.
 pub fn element_refusal(short: u16, n: usize, kind: u16, rest: &[u16]) -> u16
-    ensures { result ≡ element_refusal short n kind (was rest) }
+    ensures { result ≡ element_refusal short n kind rest.now }
 {
     let left = rest.len();
     let end = graph_words::smaller(node_count(kind), left);
@@ -60,7 +59,7 @@ pub fn element_refusal(short: u16, n: usize, kind: u16, rest: &[u16]) -> u16
 
 // What the elements are refused by, 9 or 10, or 0: "Elements are tested one by one".
 pub fn elements_refusal(n: usize, elements: &[u16]) -> u16
-    ensures { result ≡ elements_refusal (length (was elements)) n (was elements) }
+    ensures { result ≡ elements_refusal (length elements.now) n elements.now }
 {
     let mut at = 0;
     while at < elements.len() {

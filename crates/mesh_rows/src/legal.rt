@@ -1,7 +1,6 @@
 // Functions that ask for elements that are not refused, one word a node, and room.
 ghost use Rattle.std.specs.Prelude.{◌≡◌, true, ◌≤◌, length, replicate};
 ghost use Rattle.basis.specs.Lists.{overwrite};
-ghost use Rattle.basis.specs.Moments.{was, left};
 ghost use Rattle.spec.specs.Mesh.{elements_refusal, entry_count, start_list, neighbour_list, refuses11};
 ghost use Rattle.spec.specs.CallsMesh.{graph_of_elements};
 ghost use Rattle.mesh_rows.specs.Rows.{Room};
@@ -15,10 +14,10 @@ mod row;
 fn count(lists: &mut [u16], elements: &[u16], starts: &mut [u16], neighbours: &mut [u16]) -> usize
     requires lists_len_bound { length lists.old ≤ 4096 }
     requires elements_value { elements_refusal (length elements.now) (length lists.old) elements.now ≡ 0 }
-    ensures value { result ≡ entry_count (graph_of_elements (length (was lists)) (was elements)) }
-    ensures lists_value { left lists ≡ replicate (length (was lists)) 0 }
-    ensures starts_value { left starts ≡ was starts }
-    ensures neighbours_value { left neighbours ≡ was neighbours }
+    ensures value { result ≡ entry_count (graph_of_elements (length lists.old) elements.now) }
+    ensures lists_value { lists.new ≡ replicate (length lists.old) 0 }
+    ensures starts_value { starts.new ≡ starts.old }
+    ensures neighbours_value { neighbours.new ≡ neighbours.old }
 {
     let n = lists.len();
     let mut bits = [0u64; 64];
@@ -38,10 +37,10 @@ fn count(lists: &mut [u16], elements: &[u16], starts: &mut [u16], neighbours: &m
 pub fn over(lists: &mut [u16], elements: &[u16], starts: &mut [u16], neighbours: &mut [u16]) -> bool
     requires lists_len_bound { length lists.old ≤ 4096 }
     requires elements_value { elements_refusal (length elements.now) (length lists.old) elements.now ≡ 0 }
-    ensures value { result ≡ refuses11 (graph_of_elements (length (was lists)) (was elements)) }
-    ensures lists_value { result ≡ true → left lists ≡ replicate (length (was lists)) 0 }
-    ensures starts_value { left starts ≡ was starts }
-    ensures neighbours_value { left neighbours ≡ was neighbours }
+    ensures value { result ≡ refuses11 (graph_of_elements (length lists.old) elements.now) }
+    ensures lists_value { result ≡ true → lists.new ≡ replicate (length lists.old) 0 }
+    ensures starts_value { starts.new ≡ starts.old }
+    ensures neighbours_value { neighbours.new ≡ neighbours.old }
 {
     if bound::few(elements) {
         return false;
@@ -58,10 +57,10 @@ pub fn fill(
 ) -> usize
     requires elements_value { elements_refusal (length elements.now) (length lists.old) elements.now ≡ 0 }
     requires room { Room (graph_of_elements (length lists.old) elements.now) (length lists.old) starts.old neighbours.old }
-    ensures value { result ≡ entry_count (graph_of_elements (length (was lists)) (was elements)) }
-    ensures lists_value { left lists ≡ replicate (length (was lists)) 0 }
-    ensures starts_value { left starts ≡ overwrite (start_list (graph_of_elements (length (was lists)) (was elements))) (was starts) }
-    ensures neighbours_value { left neighbours ≡ overwrite (neighbour_list (graph_of_elements (length (was lists)) (was elements))) (was neighbours) }
+    ensures value { result ≡ entry_count (graph_of_elements (length lists.old) elements.now) }
+    ensures lists_value { lists.new ≡ replicate (length lists.old) 0 }
+    ensures starts_value { starts.new ≡ overwrite (start_list (graph_of_elements (length lists.old) elements.now)) starts.old }
+    ensures neighbours_value { neighbours.new ≡ overwrite (neighbour_list (graph_of_elements (length lists.old) elements.now)) neighbours.old }
 {
     let n = lists.len();
     let mut bits = [0u64; 64];

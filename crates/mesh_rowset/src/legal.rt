@@ -2,7 +2,6 @@
 ghost use Rattle.std.specs.Prelude.{◌≡◌, ℕ, ◌+◌, ◌≤◌, ◌<◌, length, get_or, set};
 ghost use Rattle.std.proofs.lemmas.List.Edits.{sets};
 ghost use Rattle.basis.specs.Lists.{memb};
-ghost use Rattle.basis.specs.Moments.{was, left};
 ghost use Rattle.mesh_rowset.specs.Set.{Covered, Added, Empty, Wrote, members};
 
 // Adds the nodes to the set, and returns its mask.
@@ -10,8 +9,8 @@ pub fn add(bits: &mut [u64], nodes: &[u16], mask: u64) -> u64
     requires bits_len { length bits.old ≡ 64 }
     requires by_index { (j : ℕ) → j < length nodes.now → (1 ≤ get_or nodes.now j 0) × (get_or nodes.now j 0 ≤ 4096) }
     requires covered { Covered mask bits.old }
-    ensures covered_2 { Covered result (left bits) }
-    ensures added { Added (λ q. memb q (was nodes)) (was bits) (left bits) }
+    ensures covered_2 { Covered result bits.new }
+    ensures added { Added (λ q. memb q nodes.now) bits.old bits.new }
 {
     let mut cover = mask;
     let mut j = 0;
@@ -28,8 +27,8 @@ pub fn add(bits: &mut [u64], nodes: &[u16], mask: u64) -> u64
 // Stores q at `at` where the list has room, and returns the next place; p is left out.
 fn put(list: &mut [u16], at: usize, q: usize, p: usize) -> usize
     requires { (q ≤ 4096) × (at ≤ 4294967296) }
-    ensures value { q ≡ p → (result ≡ at) × (left list ≡ was list) }
-    ensures value_2 { (q ≡ p → ⊥) → (result ≡ at + 1) × (left list ≡ set (was list) at q) }
+    ensures value { q ≡ p → (result ≡ at) × (list.new ≡ list.old) }
+    ensures value_2 { (q ≡ p → ⊥) → (result ≡ at + 1) × (list.new ≡ set list.old at q) }
 {
     if q == p {
         return at;
@@ -43,7 +42,7 @@ fn put(list: &mut [u16], at: usize, q: usize, p: usize) -> usize
 // Writes the nodes of one word, whose nodes follow base, from `at` on, p left out; returns where they end.
 fn write_word(word: u64, base: usize, p: usize, at: usize, list: &mut [u16]) -> usize
     requires { (base + 64 ≤ 4096) × (at + 64 ≤ 4294967296) }
-    ensures { Wrote word base p at (was list) result (left list) }
+    ensures { Wrote word base p at list.old result list.new }
 {
     let mut to = at;
     let mut k = 0;
@@ -62,9 +61,9 @@ fn write_word(word: u64, base: usize, p: usize, at: usize, list: &mut [u16]) -> 
 pub fn empty(bits: &mut [u64], mask: u64, p: usize, at: usize, list: &mut [u16]) -> usize
     requires bits_len { (length bits.old ≡ 64) × (at ≤ 2147483648) }
     requires covered { Covered mask bits.old }
-    ensures value { result ≡ at + length (members p (was bits)) }
-    ensures list_value { left list ≡ sets (was list) at (members p (was bits)) }
-    ensures empty { Empty (left bits) }
+    ensures value { result ≡ at + length (members p bits.old) }
+    ensures list_value { list.new ≡ sets list.old at (members p bits.old) }
+    ensures empty { Empty bits.new }
 {
     let mut to = at;
     let mut g = 0;

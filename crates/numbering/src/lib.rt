@@ -5,7 +5,6 @@
 pub mod answer;
 
 ghost use Rattle.std.specs.Prelude.{◌≡◌, ◌||◌, ◌*◌, ◌≤◌, ltb, take};
-ghost use Rattle.basis.specs.Moments.{was, left};
 ghost use Rattle.spec.specs.CallsCuthill.{cuthill_answer, cuthill_numbers, cuthill_levels, cuthill_passes, cuthill_scratch};
 ghost use Rattle.spec_claims.specs.Claim.{Numbered};
 ghost use Rattle.spec_claims.specs.ClaimCuthill.{CuthillNumbered};
@@ -51,12 +50,12 @@ fn number(
     passes: &mut [u16],
     scratch: &mut [u16],
 ) -> RunAnswer
-    ensures result_value { meaning result ≡ answer_in order (was starts) (was neighbours) (was counts) (was numbers) (was levels) (was passes) (was scratch) }
-    ensures numbers_value { left numbers ≡ numbers_in order (was starts) (was neighbours) (was counts) (was numbers) (was levels) (was passes) (was scratch) }
-    ensures levels_value { left levels ≡ levels_in order (was starts) (was neighbours) (was counts) (was numbers) (was levels) (was passes) (was scratch) }
-    ensures passes_value { left passes ≡ passes_in order (was starts) (was neighbours) (was counts) (was numbers) (was levels) (was passes) (was scratch) }
-    ensures scratch_value { left scratch ≡ run_scratch (was starts) (was neighbours) (was counts) (was numbers) (was levels) (was passes) (was scratch) }
-    ensures numbered_in { (F : Figures) → meaning result ≡ accepted F → NumberedIn order (was starts) (was neighbours) (was counts) F (take (size_of (was starts)) (left numbers)) (take (size_of (was starts)) (left levels)) }
+    ensures result_value { meaning result ≡ answer_in order starts.now neighbours.now counts.now numbers.old levels.old passes.old scratch.old }
+    ensures numbers_value { numbers.new ≡ numbers_in order starts.now neighbours.now counts.now numbers.old levels.old passes.old scratch.old }
+    ensures levels_value { levels.new ≡ levels_in order starts.now neighbours.now counts.now numbers.old levels.old passes.old scratch.old }
+    ensures passes_value { passes.new ≡ passes_in order starts.now neighbours.now counts.now numbers.old levels.old passes.old scratch.old }
+    ensures scratch_value { scratch.new ≡ run_scratch starts.now neighbours.now counts.now numbers.old levels.old passes.old scratch.old }
+    ensures numbered_in { (F : Figures) → meaning result ≡ accepted F → NumberedIn order starts.now neighbours.now counts.now F (take (size_of starts.now) numbers.new) (take (size_of starts.now) levels.new) }
 {
     match graph::test_adjacency(starts, neighbours) {
         Adjacency::Refused(c) => RunAnswer::Refused(c),
@@ -95,12 +94,12 @@ pub fn run(
     passes: &mut [u16],
     scratch: &mut [u16],
 ) -> RunAnswer
-    ensures result_value { meaning result ≡ run_answer (was starts) (was neighbours) (was counts) (was numbers) (was levels) (was passes) (was scratch) }
-    ensures numbers_value { left numbers ≡ run_numbers (was starts) (was neighbours) (was counts) (was numbers) (was levels) (was passes) (was scratch) }
-    ensures levels_value { left levels ≡ run_levels (was starts) (was neighbours) (was counts) (was numbers) (was levels) (was passes) (was scratch) }
-    ensures passes_value { left passes ≡ run_passes (was starts) (was neighbours) (was counts) (was numbers) (was levels) (was passes) (was scratch) }
-    ensures scratch_value { left scratch ≡ run_scratch (was starts) (was neighbours) (was counts) (was numbers) (was levels) (was passes) (was scratch) }
-    ensures numbered { (F : Figures) → meaning result ≡ accepted F → Numbered (was starts) (was neighbours) (was counts) F (take (size_of (was starts)) (left numbers)) (take (size_of (was starts)) (left levels)) }
+    ensures result_value { meaning result ≡ run_answer starts.now neighbours.now counts.now numbers.old levels.old passes.old scratch.old }
+    ensures numbers_value { numbers.new ≡ run_numbers starts.now neighbours.now counts.now numbers.old levels.old passes.old scratch.old }
+    ensures levels_value { levels.new ≡ run_levels starts.now neighbours.now counts.now numbers.old levels.old passes.old scratch.old }
+    ensures passes_value { passes.new ≡ run_passes starts.now neighbours.now counts.now numbers.old levels.old passes.old scratch.old }
+    ensures scratch_value { scratch.new ≡ run_scratch starts.now neighbours.now counts.now numbers.old levels.old passes.old scratch.old }
+    ensures numbered { (F : Figures) → meaning result ≡ accepted F → Numbered starts.now neighbours.now counts.now F (take (size_of starts.now) numbers.new) (take (size_of starts.now) levels.new) }
 {
     number(
         Order::GibbsPooleStockmeyer,
@@ -124,12 +123,12 @@ pub fn reverse_cuthill_mckee(
     passes: &mut [u16],
     scratch: &mut [u16],
 ) -> RunAnswer
-    ensures result_value { meaning result ≡ cuthill_answer (was starts) (was neighbours) (was counts) (was numbers) (was levels) (was passes) (was scratch) }
-    ensures numbers_value { left numbers ≡ cuthill_numbers (was starts) (was neighbours) (was counts) (was numbers) (was levels) (was passes) (was scratch) }
-    ensures levels_value { left levels ≡ cuthill_levels (was starts) (was neighbours) (was counts) (was numbers) (was levels) (was passes) (was scratch) }
-    ensures passes_value { left passes ≡ cuthill_passes (was starts) (was neighbours) (was counts) (was numbers) (was levels) (was passes) (was scratch) }
-    ensures scratch_value { left scratch ≡ cuthill_scratch (was starts) (was neighbours) (was counts) (was numbers) (was levels) (was passes) (was scratch) }
-    ensures cuthill_numbered { (F : Figures) → meaning result ≡ accepted F → CuthillNumbered (was starts) (was neighbours) (was counts) F (take (size_of (was starts)) (left numbers)) (take (size_of (was starts)) (left levels)) }
+    ensures result_value { meaning result ≡ cuthill_answer starts.now neighbours.now counts.now numbers.old levels.old passes.old scratch.old }
+    ensures numbers_value { numbers.new ≡ cuthill_numbers starts.now neighbours.now counts.now numbers.old levels.old passes.old scratch.old }
+    ensures levels_value { levels.new ≡ cuthill_levels starts.now neighbours.now counts.now numbers.old levels.old passes.old scratch.old }
+    ensures passes_value { passes.new ≡ cuthill_passes starts.now neighbours.now counts.now numbers.old levels.old passes.old scratch.old }
+    ensures scratch_value { scratch.new ≡ cuthill_scratch starts.now neighbours.now counts.now numbers.old levels.old passes.old scratch.old }
+    ensures cuthill_numbered { (F : Figures) → meaning result ≡ accepted F → CuthillNumbered starts.now neighbours.now counts.now F (take (size_of starts.now) numbers.new) (take (size_of starts.now) levels.new) }
 {
     number(
         Order::ReverseCuthillMcKee,

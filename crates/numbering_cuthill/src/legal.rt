@@ -3,7 +3,6 @@
 // the sorts: nothing here is n.
 ghost use Rattle.std.specs.Prelude.{◌≡◌, false, ◌+◌, ◌≤◌, length, take, drop, replicate};
 ghost use Rattle.std.proofs.lemmas.List.Edits.{sets};
-ghost use Rattle.basis.specs.Moments.{was, left};
 ghost use Rattle.spec.specs.Cuthill.{cuthill_result};
 ghost use Rattle.spec.specs.Ends.{ends};
 ghost use Rattle.spec.specs.Graph.{graph_refusal};
@@ -34,7 +33,7 @@ fn wipe_both(work: &mut [u16], n: usize, count: usize)
     requires n_bound { n ≤ 4096 }
     requires queued { Queued n count (take (n + n) work.old) }
     requires queued_2 { Queued n count (drop (n + n) work.old) }
-    ensures { left work ≡ replicate (n + n + (n + n)) 0 }
+    ensures { work.new ≡ replicate (n + n + (n + n)) 0 }
 {
     wipe(&mut work[0..n + n], n, count);
     wipe(&mut work[n + n..], n, count);
@@ -50,8 +49,8 @@ fn root_part(
 ) -> PartRoot
     requires neighbours_value { graph_refusal starts.now neighbours.now ≡ 0 }
     requires part_given { PartGiven (graph_now starts neighbours) from to (words_of (size_now starts) scratch.old) (tally_of (size_now starts) scratch.old) }
-    ensures value { result ≡ part_root_of (ends (graph_was starts neighbours) (lowest_in (size_was starts) from (was scratch))) }
-    ensures scratch_value { left scratch ≡ sets (was scratch) (tally_area (size_was starts)) (rooted_by (graph_was starts neighbours) (ends (graph_was starts neighbours) (lowest_in (size_was starts) from (was scratch)))) }
+    ensures value { result ≡ part_root_of (ends (graph_was starts neighbours) (lowest_in (size_was starts) from scratch.old)) }
+    ensures scratch_value { scratch.new ≡ sets scratch.old (tally_area (size_was starts)) (rooted_by (graph_was starts neighbours) (ends (graph_was starts neighbours) (lowest_in (size_was starts) from scratch.old))) }
 {
     let n = starts.len() - 1;
     let first = first_in_e(starts, &scratch[MEMBERS * n + from..MEMBERS * n + to]);
@@ -78,7 +77,7 @@ fn order_part(
 )
     requires neighbours_value { graph_refusal starts.now neighbours.now ≡ 0 }
     requires orderable { Orderable (graph_now starts neighbours) at from m k v scratch.old }
-    ensures { left scratch ≡ sets (was scratch) (size_was starts) (turned_by (graph_was starts neighbours) (ends_in (graph_was starts neighbours) from (was scratch))) }
+    ensures { scratch.new ≡ sets scratch.old (size_was starts) (turned_by (graph_was starts neighbours) (ends_in (graph_was starts neighbours) from scratch.old)) }
 {
     let n = starts.len() - 1;
     from_root(starts, neighbours, scratch, at, k, v);
@@ -98,8 +97,8 @@ fn find_rooted(
     requires neighbours_value { graph_refusal starts.now neighbours.now ≡ 0 }
     requires counts_value { bad_counts (size_now starts) counts.now ≡ false }
     requires part_given { PartGiven (graph_now starts neighbours) from to (words_of (size_now starts) scratch.old) (tally_of (size_now starts) scratch.old) }
-    ensures value { result ≡ part_figures_of (cuthill_result (graph_was starts neighbours) (was counts) (lowest_in (size_was starts) from (was scratch))).report }
-    ensures scratch_value { left scratch ≡ with_result (size_was starts) (tally_area (size_was starts)) (cuthill_result (graph_was starts neighbours) (was counts) (lowest_in (size_was starts) from (was scratch))) (was scratch) }
+    ensures value { result ≡ part_figures_of (cuthill_result (graph_was starts neighbours) counts.now (lowest_in (size_was starts) from scratch.old)).report }
+    ensures scratch_value { scratch.new ≡ with_result (size_was starts) (tally_area (size_was starts)) (cuthill_result (graph_was starts neighbours) counts.now (lowest_in (size_was starts) from scratch.old)) scratch.old }
 {
     let n = starts.len() - 1;
     let f = root_part(starts, neighbours, scratch, from, to);
@@ -137,12 +136,12 @@ pub fn cuthill_part(
     requires counts_value { bad_counts (size_now starts) counts.now ≡ false }
     requires part_given { PartGiven (graph_now starts neighbours) from to (words_of (size_now starts) scratch.old) (tally_of (size_now starts) scratch.old) }
     requires numbers_len { (length numbers.old ≡ size_now starts) × (length levels.old ≡ size_now starts) }
-    ensures value { result ≡ part_figures_of (cuthill_result (graph_was starts neighbours) (was counts) (lowest_in (size_was starts) from (was scratch))).report }
-    ensures scratch_value { left scratch ≡ was scratch }
-    ensures numbers_value { left numbers ≡ new_numbers (graph_was starts neighbours) (lowest_in (size_was starts) from (was scratch))
-        (cuthill_result (graph_was starts neighbours) (was counts) (lowest_in (size_was starts) from (was scratch))) from (was numbers) }
-    ensures levels_value { left levels ≡ new_levels (graph_was starts neighbours) (lowest_in (size_was starts) from (was scratch))
-        (cuthill_result (graph_was starts neighbours) (was counts) (lowest_in (size_was starts) from (was scratch))) (was levels) }
+    ensures value { result ≡ part_figures_of (cuthill_result (graph_was starts neighbours) counts.now (lowest_in (size_was starts) from scratch.old)).report }
+    ensures scratch_value { scratch.new ≡ scratch.old }
+    ensures numbers_value { numbers.new ≡ new_numbers (graph_was starts neighbours) (lowest_in (size_was starts) from scratch.old)
+        (cuthill_result (graph_was starts neighbours) counts.now (lowest_in (size_was starts) from scratch.old)) from numbers.old }
+    ensures levels_value { levels.new ≡ new_levels (graph_was starts neighbours) (lowest_in (size_was starts) from scratch.old)
+        (cuthill_result (graph_was starts neighbours) counts.now (lowest_in (size_was starts) from scratch.old)) levels.old }
 {
     let n = starts.len() - 1;
     let f = find_rooted(starts, neighbours, counts, scratch, from, to);

@@ -1,7 +1,6 @@
 // A legal graph with legal counts, and buffers of n words each: the tests 13, 7 and 14.
 ghost use Rattle.std.specs.Prelude.{◌≡◌, false, not, length, replicate};
 ghost use Rattle.basis.specs.Lists.{sum};
-ghost use Rattle.basis.specs.Moments.{was, left};
 ghost use Rattle.spec_import.specs.CallsImport.{supplied, refuses13};
 ghost use Rattle.spec.specs.Lent.{outcome, filled, scratch_after};
 ghost use Rattle.spec.specs.Unknowns.{bad_counts};
@@ -29,8 +28,8 @@ fn numbering_refusal(
     requires counts_value { bad_counts (size_now starts) counts.now ≡ false }
     requires words_len { length words.old ≡ size_now starts }
     requires total_value { total ≡ sum counts.now }
-    ensures value { result ≡ numbering_refusal (was starts) (was neighbours) (was counts) (was numbering) (sent_three sent) }
-    ensures words_value { left words ≡ replicate (size_was starts) 0 }
+    ensures value { result ≡ numbering_refusal starts.now neighbours.now counts.now numbering.now (sent_three sent) }
+    ensures words_value { words.new ≡ replicate (size_was starts) 0 }
 {
     let n = words.len();
     if graph_envelope::legal::numbered(numbering, n, words) {
@@ -61,9 +60,9 @@ fn import_with(
     requires scratch_len { length scratch.old ≡ size_now starts }
     requires own_value { own.old ≡ replicate (size_now starts) 0 }
     requires total_value { total ≡ sum counts.now }
-    ensures result_value { meaning result ≡ outcome (pairs_refusal (was starts) (was neighbours) (was counts) (was pairs) (sent_three sent)) tt }
-    ensures numbers_value { left numbers ≡ filled (pairs_refusal (was starts) (was neighbours) (was counts) (was pairs) (sent_three sent)) (supplied (size_was starts) (was pairs)) (was numbers) }
-    ensures scratch_value { left scratch ≡ scratch_after (not (refuses13 (size_was starts) (was pairs))) (size_was starts) (was scratch) }
+    ensures result_value { meaning result ≡ outcome (pairs_refusal starts.now neighbours.now counts.now pairs.now (sent_three sent)) tt }
+    ensures numbers_value { numbers.new ≡ filled (pairs_refusal starts.now neighbours.now counts.now pairs.now (sent_three sent)) (supplied (size_was starts) pairs.now) numbers.old }
+    ensures scratch_value { scratch.new ≡ scratch_after (not (refuses13 (size_was starts) pairs.now)) (size_was starts) scratch.old }
 {
     if bad_pairs(pairs, own) {
         return ImportAnswer::Refused(13);
@@ -94,9 +93,9 @@ pub(crate) fn import(
     requires numbers_len { length numbers.old ≡ size_now starts }
     requires scratch_len { length scratch.old ≡ size_now starts }
     requires total_value { total ≡ sum counts.now }
-    ensures result_value { meaning result ≡ outcome (pairs_refusal (was starts) (was neighbours) (was counts) (was pairs) (sent_three sent)) tt }
-    ensures numbers_value { left numbers ≡ filled (pairs_refusal (was starts) (was neighbours) (was counts) (was pairs) (sent_three sent)) (supplied (size_was starts) (was pairs)) (was numbers) }
-    ensures scratch_value { left scratch ≡ scratch_after (not (refuses13 (size_was starts) (was pairs))) (size_was starts) (was scratch) }
+    ensures result_value { meaning result ≡ outcome (pairs_refusal starts.now neighbours.now counts.now pairs.now (sent_three sent)) tt }
+    ensures numbers_value { numbers.new ≡ filled (pairs_refusal starts.now neighbours.now counts.now pairs.now (sent_three sent)) (supplied (size_was starts) pairs.now) numbers.old }
+    ensures scratch_value { scratch.new ≡ scratch_after (not (refuses13 (size_was starts) pairs.now)) (size_was starts) scratch.old }
 {
     let n = numbers.len();
     let mut own = [0u16; 4096];

@@ -3,7 +3,6 @@
 #![tactic(auto)]
 
 ghost use Rattle.std.specs.Prelude.{◌≡◌};
-ghost use Rattle.basis.specs.Moments.{was, left};
 ghost use Rattle.spec_import.specs.CallsImport.{import_answer, import_numbers, import_scratch};
 ghost use Rattle.numbering_import.specs.Answer.{sent_three, meaning};
 
@@ -26,9 +25,9 @@ pub fn import_numbering(
     numbers: &mut [u16],
     scratch: &mut [u16],
 ) -> ImportAnswer
-    ensures result_value { meaning result ≡ import_answer (was starts) (was neighbours) (was counts) (was pairs) (sent_three sent) (was numbers) (was scratch) }
-    ensures numbers_value { left numbers ≡ import_numbers (was starts) (was neighbours) (was counts) (was pairs) (sent_three sent) (was numbers) (was scratch) }
-    ensures scratch_value { left scratch ≡ import_scratch (was starts) (was neighbours) (was counts) (was pairs) (sent_three sent) (was numbers) (was scratch) }
+    ensures result_value { meaning result ≡ import_answer starts.now neighbours.now counts.now pairs.now (sent_three sent) numbers.old scratch.old }
+    ensures numbers_value { numbers.new ≡ import_numbers starts.now neighbours.now counts.now pairs.now (sent_three sent) numbers.old scratch.old }
+    ensures scratch_value { scratch.new ≡ import_scratch starts.now neighbours.now counts.now pairs.now (sent_three sent) numbers.old scratch.old }
 {
     let tested = graph::test_adjacency(starts, neighbours);
     if let Adjacency::Refused(c) = tested {

@@ -1,7 +1,6 @@
 // The full numbering of n nodes that a list of pairs gives.
 ghost use Rattle.std.specs.Prelude.{◌≡◌, false, ◌≤◌, length};
 ghost use Rattle.basis.specs.Lists.{up_from};
-ghost use Rattle.basis.specs.Moments.{was, left};
 ghost use Rattle.spec_import.specs.CallsImport.{refuses13, supplied};
 
 use graph_words::wide;
@@ -9,7 +8,7 @@ use graph_words::wide;
 // Every node has its own number.
 fn own_numbers(numbers: &mut [u16])
     requires { length numbers.old ≤ 4096 }
-    ensures { left numbers ≡ up_from 1 (length (was numbers)) }
+    ensures { numbers.new ≡ up_from 1 (length numbers.old) }
 {
     let n = numbers.len();
     let mut i = 0;
@@ -23,7 +22,7 @@ fn own_numbers(numbers: &mut [u16])
 fn put_pairs(pairs: &[u16], numbers: &mut [u16])
     requires pairs_value { refuses13 (length numbers.old) pairs.now ≡ false }
     requires numbers_value { numbers.old ≡ up_from 1 (length numbers.old) }
-    ensures { left numbers ≡ supplied (length (was numbers)) (was pairs) }
+    ensures { numbers.new ≡ supplied (length numbers.old) pairs.now }
 {
     let count = pairs.len() / 2;
     let mut i = 0;
@@ -38,7 +37,7 @@ fn put_pairs(pairs: &[u16], numbers: &mut [u16])
 pub(crate) fn supply(pairs: &[u16], numbers: &mut [u16])
     requires numbers_len_bound { length numbers.old ≤ 4096 }
     requires pairs_value { refuses13 (length numbers.old) pairs.now ≡ false }
-    ensures { left numbers ≡ supplied (length (was numbers)) (was pairs) }
+    ensures { numbers.new ≡ supplied (length numbers.old) pairs.now }
 {
     own_numbers(numbers);
     put_pairs(pairs, numbers);

@@ -1,7 +1,6 @@
 // A list of pairs of words, old number then new.
 ghost use Rattle.std.specs.Prelude.{◌≡◌, ◌||◌, length, replicate};
 ghost use Rattle.basis.specs.Lists.{anyb};
-ghost use Rattle.basis.specs.Moments.{was};
 ghost use Rattle.spec_import.specs.CallsImport.{old_numbers, given_twice, refuses13};
 ghost use Rattle.spec.specs.Graph.{outside};
 
@@ -11,7 +10,7 @@ use graph_words::wide;
 // passed, however long the list.
 fn bad_olds(pairs: &[u16], seen: &mut [u16]) -> bool
     requires { seen.old ≡ replicate (length seen.old) 0 }
-    ensures { result ≡ given_twice (old_numbers (was pairs)) || anyb (outside (length (was seen))) (old_numbers (was pairs)) }
+    ensures { result ≡ given_twice (old_numbers pairs.now) || anyb (outside (length seen.old)) (old_numbers pairs.now) }
 {
     let n = seen.len();
     let count = pairs.len() / 2;
@@ -36,7 +35,7 @@ fn bad_olds(pairs: &[u16], seen: &mut [u16]) -> bool
 // 13: an odd number of words, or an old number given twice or outside 1 to n, of as many nodes as words are lent.
 pub(crate) fn bad_pairs(pairs: &[u16], seen: &mut [u16]) -> bool
     requires { seen.old ≡ replicate (length seen.old) 0 }
-    ensures { result ≡ refuses13 (length (was seen)) (was pairs) }
+    ensures { result ≡ refuses13 (length seen.old) pairs.now }
 {
     if pairs.len() % 2 == 1 {
         return true;

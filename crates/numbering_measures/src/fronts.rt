@@ -3,7 +3,6 @@
 // 6 + opened − passed, and so is never below 0.
 ghost use Rattle.std.specs.Prelude.{◌≡◌, map, ◌-◌, ◌*◌, length, take, replicate};
 ghost use Rattle.basis.specs.Lists.{greatest, sum, up_from};
-ghost use Rattle.basis.specs.Moments.{was, left};
 ghost use Rattle.numbering_measures.specs.Fronts.{Climbs, Sweeps, steps_of};
 
 use graph_words::{larger, wide};
@@ -11,7 +10,7 @@ use graph_words::{larger, wide};
 // In place of the unknowns ahead of each number: 6 less those of the number before it.
 pub(crate) fn steps(words: &mut [u16])
     requires { Climbs words.old }
-    ensures { left words ≡ steps_of (was words) }
+    ensures { words.new ≡ steps_of words.old }
 {
     let n = words.len();
     let mut last = 0;
@@ -27,8 +26,8 @@ pub(crate) fn steps(words: &mut [u16])
 // The greatest of what is opened up to i and not passed before i. The words end as 0.
 pub(crate) fn sweep(words: &mut [u16]) -> usize
     requires { Sweeps words.old }
-    ensures value { result ≡ greatest (map (λ i. sum (take i (was words)) - 6 * i) (up_from 1 (length (was words)))) }
-    ensures words_value { left words ≡ replicate (length (was words)) 0 }
+    ensures value { result ≡ greatest (map (λ i. sum (take i words.old) - 6 * i) (up_from 1 (length words.old))) }
+    ensures words_value { words.new ≡ replicate (length words.old) 0 }
 {
     let n = words.len();
     let mut live = 0;

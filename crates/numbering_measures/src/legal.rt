@@ -1,7 +1,6 @@
 // The three measures of a legal graph under a numbering, in unknowns: for the call, and for the crates above.
 ghost use Rattle.std.specs.Prelude.{◌≡◌, true, false, length, replicate};
 ghost use Rattle.basis.specs.Lists.{sum};
-ghost use Rattle.basis.specs.Moments.{was, left};
 ghost use Rattle.spec.specs.CallsNumbering.{measure_figures};
 ghost use Rattle.spec.specs.Measures.{is_numbering};
 ghost use Rattle.spec.specs.Unknowns.{bad_counts, renumbered_unknowns};
@@ -27,8 +26,8 @@ pub fn figures(
     requires numbering_value { is_numbering (size_now starts) numbering.now ≡ true }
     requires words_len { length words.old ≡ size_now starts }
     requires total_value { total ≡ sum counts.now }
-    ensures result_value { three result ≡ measure_figures (renumbered_unknowns (graph_was starts neighbours) (was counts) (was numbering)) }
-    ensures words_value { left words ≡ replicate (size_was starts) 0 }
+    ensures result_value { three result ≡ measure_figures (renumbered_unknowns (graph_was starts neighbours) counts.now numbering.now) }
+    ensures words_value { words.new ≡ replicate (size_was starts) 0 }
 {
     if total == numbering.len() {
         return numbering_ones::legal::figures(starts, neighbours, numbering, words);

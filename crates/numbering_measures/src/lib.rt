@@ -2,7 +2,6 @@
 #![tactic(auto)]
 
 ghost use Rattle.std.specs.Prelude.{◌≡◌};
-ghost use Rattle.basis.specs.Moments.{was, left};
 ghost use Rattle.spec.specs.CallsNumbering.{measures_answer, measures_scratch};
 ghost use Rattle.numbering_measures.specs.Answer.{meaning};
 
@@ -23,8 +22,8 @@ pub fn measures(
     numbering: &[u16],
     scratch: &mut [u16],
 ) -> MeasuresAnswer
-    ensures result_value { meaning result ≡ measures_answer (was starts) (was neighbours) (was counts) (was numbering) (was scratch) }
-    ensures scratch_value { left scratch ≡ measures_scratch (was starts) (was neighbours) (was counts) (was numbering) (was scratch) }
+    ensures result_value { meaning result ≡ measures_answer starts.now neighbours.now counts.now numbering.now scratch.old }
+    ensures scratch_value { scratch.new ≡ measures_scratch starts.now neighbours.now counts.now numbering.now scratch.old }
 {
     let tested = graph::test_adjacency(starts, neighbours);
     if let Adjacency::Refused(c) = tested {

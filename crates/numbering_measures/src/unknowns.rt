@@ -2,7 +2,6 @@
 // From the unknowns ahead of q and of f_q follow the node's share of the profile and how far its last unknown reaches: the bandwidth is the
 // greatest reach, as each edge is seen from its higher end. A second walk, in the same words, adds up the counts by f for the front.
 ghost use Rattle.std.specs.Prelude.{◌≡◌, length, replicate};
-ghost use Rattle.basis.specs.Moments.{was, left};
 ghost use Rattle.spec.specs.CallsNumbering.{measure_figures};
 ghost use Rattle.spec.specs.Measures.{order_of, bandwidth, profile};
 ghost use Rattle.spec.specs.Unknowns.{renumbered_unknowns};
@@ -35,8 +34,8 @@ fn walk(
 ) -> Spans
     requires measurable { Measurable starts.now neighbours.now counts.now numbering.now }
     requires ahead_value { ahead.now ≡ aheads counts.now (order_of numbering.now) }
-    ensures bandwidth_value { result.bandwidth ≡ bandwidth (renumbered_unknowns (graph_was starts neighbours) (was counts) (was numbering)) }
-    ensures profile_value { result.profile ≡ profile (renumbered_unknowns (graph_was starts neighbours) (was counts) (was numbering)) }
+    ensures bandwidth_value { result.bandwidth ≡ bandwidth (renumbered_unknowns (graph_was starts neighbours) counts.now numbering.now) }
+    ensures profile_value { result.profile ≡ profile (renumbered_unknowns (graph_was starts neighbours) counts.now numbering.now) }
 {
     let n = numbering.len();
     let mut widest = 0;
@@ -60,7 +59,7 @@ fn gather(starts: &[u16], neighbours: &[u16], counts: &[u16], numbering: &[u16],
     requires measurable { Measurable starts.now neighbours.now counts.now numbering.now }
     requires words_len { length words.old ≡ size_now starts }
     requires low { Low words.old }
-    ensures { left words ≡ opened (graph_was starts neighbours) (was counts) (was numbering) (was words) (size_was starts) }
+    ensures { words.new ≡ opened (graph_was starts neighbours) counts.now numbering.now words.old (size_was starts) }
 {
     let n = numbering.len();
     let mut p = 0;
@@ -82,8 +81,8 @@ fn figures_by_order(
 ) -> Measures
     requires measurable { Measurable starts.now neighbours.now counts.now numbering.now }
     requires words_value { words.old ≡ order_of numbering.now }
-    ensures result_value { three result ≡ measure_figures (renumbered_unknowns (graph_was starts neighbours) (was counts) (was numbering)) }
-    ensures words_value_2 { left words ≡ replicate (size_was starts) 0 }
+    ensures result_value { three result ≡ measure_figures (renumbered_unknowns (graph_was starts neighbours) counts.now numbering.now) }
+    ensures words_value_2 { words.new ≡ replicate (size_was starts) 0 }
 {
     add_up(counts, words);
     let spans = walk(starts, neighbours, counts, numbering, words);
@@ -107,8 +106,8 @@ pub(crate) fn figures_in_unknowns(
 ) -> Measures
     requires measurable { Measurable starts.now neighbours.now counts.now numbering.now }
     requires words_len { length words.old ≡ size_now starts }
-    ensures result_value { three result ≡ measure_figures (renumbered_unknowns (graph_was starts neighbours) (was counts) (was numbering)) }
-    ensures words_value { left words ≡ replicate (size_was starts) 0 }
+    ensures result_value { three result ≡ measure_figures (renumbered_unknowns (graph_was starts neighbours) counts.now numbering.now) }
+    ensures words_value { words.new ≡ replicate (size_was starts) 0 }
 {
     numbered(numbering, numbering.len(), words);
     figures_by_order(starts, neighbours, counts, numbering, words)

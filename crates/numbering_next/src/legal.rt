@@ -1,6 +1,5 @@
 // One part of a whole legal graph, in either order: it gets the next free numbers. Which order it is, one function looks at: `number_one`.
 ghost use Rattle.std.specs.Prelude.{◌≡◌, false, ◌+◌, ◌*◌, ◌≤◌, ◌<◌, max, length, set};
-ghost use Rattle.basis.specs.Moments.{was, left};
 ghost use Rattle.spec.specs.Graph.{graph_refusal};
 ghost use Rattle.spec.specs.Levels.{parts};
 ghost use Rattle.spec.specs.Unknowns.{bad_counts};
@@ -31,7 +30,7 @@ fn add_part(t: Tally, m: u16, f: PartFigures, passes: &mut [u16]) -> Tally
     requires parts_in_bounds { (t.parts < length passes.old) × (length passes.old ≤ 4096) × (t.nodes + m ≤ 4096) }
     requires k_bound { t.levels + f.k ≤ 4096 * 4096 }
     ensures value { result ≡ added t m f }
-    ensures passes_value { left passes ≡ set (was passes) t.parts f.passes }
+    ensures passes_value { passes.new ≡ set passes.old t.parts f.passes }
 {
     passes[wide(t.parts)] = f.passes;
     Tally {
@@ -58,12 +57,12 @@ fn number_one(
     requires counts_value { bad_counts (size_now starts) counts.now ≡ false }
     requires part_given { PartGiven (graph_now starts neighbours) from to (words_of (size_now starts) scratch.old) (tally_of (size_now starts) scratch.old) }
     requires numbers_len { (length numbers.old ≡ size_now starts) × (length levels.old ≡ size_now starts) }
-    ensures value { result ≡ part_figures_of (result_of order (graph_was starts neighbours) (was counts) (lowest_in (size_was starts) from (was scratch))).report }
-    ensures scratch_value { left scratch ≡ was scratch }
-    ensures numbers_value { left numbers ≡ new_numbers (graph_was starts neighbours) (lowest_in (size_was starts) from (was scratch))
-        (result_of order (graph_was starts neighbours) (was counts) (lowest_in (size_was starts) from (was scratch))) from (was numbers) }
-    ensures levels_value { left levels ≡ new_levels (graph_was starts neighbours) (lowest_in (size_was starts) from (was scratch))
-        (result_of order (graph_was starts neighbours) (was counts) (lowest_in (size_was starts) from (was scratch))) (was levels) }
+    ensures value { result ≡ part_figures_of (result_of order (graph_was starts neighbours) counts.now (lowest_in (size_was starts) from scratch.old)).report }
+    ensures scratch_value { scratch.new ≡ scratch.old }
+    ensures numbers_value { numbers.new ≡ new_numbers (graph_was starts neighbours) (lowest_in (size_was starts) from scratch.old)
+        (result_of order (graph_was starts neighbours) counts.now (lowest_in (size_was starts) from scratch.old)) from numbers.old }
+    ensures levels_value { levels.new ≡ new_levels (graph_was starts neighbours) (lowest_in (size_was starts) from scratch.old)
+        (result_of order (graph_was starts neighbours) counts.now (lowest_in (size_was starts) from scratch.old)) levels.old }
 {
     match order {
         Order::GibbsPooleStockmeyer => number_part(
@@ -90,8 +89,8 @@ pub fn next_part(
     requires parts_in_bounds { t.parts < length (parts (graph_now starts neighbours)) }
     requires ran { Ran order starts.now neighbours.now counts.now t.parts t.nodes t.levels t.width numbers.old levels.old passes.old scratch.old }
     ensures parts_value { result.parts ≡ t.parts + 1 }
-    ensures ran_2 { Ran order (was starts) (was neighbours) (was counts) result.parts result.nodes result.levels result.width (left numbers) (left levels) (left passes) (was scratch) }
-    ensures scratch_value { left scratch ≡ was scratch }
+    ensures ran_2 { Ran order starts.now neighbours.now counts.now result.parts result.nodes result.levels result.width numbers.new levels.new passes.new scratch.old }
+    ensures scratch_value { scratch.new ≡ scratch.old }
 {
     let n = starts.len() - 1;
     let from = wide(t.nodes);

@@ -2,7 +2,6 @@
 // what is counted up to i, less the i − 1 numbers that are passed.
 ghost use Rattle.std.specs.Prelude.{◌≡◌, map, ◌-◌, length, take, replicate};
 ghost use Rattle.basis.specs.Lists.{greatest, sum, up_from};
-ghost use Rattle.basis.specs.Moments.{was, left};
 ghost use Rattle.numbering_ones.specs.Fronts.{Sweeps};
 
 use graph_words::{larger, wide};
@@ -10,8 +9,8 @@ use graph_words::{larger, wide};
 // The greatest of what is opened up to i and not passed before i. The words end as 0.
 pub(crate) fn sweep(counts: &mut [u16]) -> usize
     requires { Sweeps counts.old }
-    ensures value { result ≡ greatest (map (λ i. sum (take i (was counts)) - (i - 1)) (up_from 1 (length (was counts)))) }
-    ensures counts_value { left counts ≡ replicate (length (was counts)) 0 }
+    ensures value { result ≡ greatest (map (λ i. sum (take i counts.old) - (i - 1)) (up_from 1 (length counts.old))) }
+    ensures counts_value { counts.new ≡ replicate (length counts.old) 0 }
 {
     let n = counts.len();
     let mut live = 0;

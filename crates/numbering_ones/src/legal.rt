@@ -2,7 +2,6 @@
 // each number q: the profile is the sum of q − f_q; the bandwidth is the greatest, as each edge is seen from its higher end; and the
 // front follows from how often each f occurs.
 ghost use Rattle.std.specs.Prelude.{◌≡◌, true, length, replicate};
-ghost use Rattle.basis.specs.Moments.{was, left};
 ghost use Rattle.spec.specs.CallsNumbering.{measure_figures};
 ghost use Rattle.spec.specs.Measures.{is_numbering, renumbered, bandwidth, profile};
 ghost use Rattle.laws.specs.Handed.{graph_was, size_now, size_was};
@@ -28,9 +27,9 @@ fn walk(starts: &[u16], neighbours: &[u16], numbering: &[u16], counts: &mut [u16
     requires legal_lists { LegalLists starts.now neighbours.now }
     requires numbering_value { is_numbering (size_now starts) numbering.now ≡ true }
     requires counts_value { counts.old ≡ replicate (size_now starts) 0 }
-    ensures bandwidth_value { result.bandwidth ≡ bandwidth (renumbered (graph_was starts neighbours) (was numbering)) }
-    ensures profile_value { result.profile ≡ profile (renumbered (graph_was starts neighbours) (was numbering)) }
-    ensures counts_value_2 { left counts ≡ opened (graph_was starts neighbours) (was numbering) (size_was starts) }
+    ensures bandwidth_value { result.bandwidth ≡ bandwidth (renumbered (graph_was starts neighbours) numbering.now) }
+    ensures profile_value { result.profile ≡ profile (renumbered (graph_was starts neighbours) numbering.now) }
+    ensures counts_value_2 { counts.new ≡ opened (graph_was starts neighbours) numbering.now (size_was starts) }
 {
     let n = numbering.len();
     let mut widest = 0;
@@ -61,8 +60,8 @@ pub fn figures(
     requires legal_lists { LegalLists starts.now neighbours.now }
     requires numbering_value { is_numbering (size_now starts) numbering.now ≡ true }
     requires counts_len { length counts.old ≡ size_now starts }
-    ensures result_value { three result ≡ measure_figures (renumbered (graph_was starts neighbours) (was numbering)) }
-    ensures counts_value { left counts ≡ replicate (size_was starts) 0 }
+    ensures result_value { three result ≡ measure_figures (renumbered (graph_was starts neighbours) numbering.now) }
+    ensures counts_value { counts.new ≡ replicate (size_was starts) 0 }
 {
     clear(counts, numbering.len());
     let spans = walk(starts, neighbours, numbering, counts);

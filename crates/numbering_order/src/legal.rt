@@ -4,7 +4,6 @@
 ghost use Rattle.std.specs.Prelude.{◌≡◌, true, false, ℕ, ◌+◌, ◌≤◌, length, take, drop, replicate, ltb};
 ghost use mathlib.Core.List.{List, [], ◌∷◌, ◌++◌, foldl};
 ghost use Rattle.basis.specs.Lists.{filterb, chainb, memb};
-ghost use Rattle.basis.specs.Moments.{was, left};
 ghost use Rattle.spec.specs.Graph.{graph_of, graph_refusal};
 ghost use Rattle.laws.specs.Handed.{graph_now, graph_was, size_now, size_was};
 ghost use Rattle.laws.specs.Legal.{Starts};
@@ -22,7 +21,7 @@ use numbering_stacks::legal::{rank, unmarked, unrank};
 // Whether the node q has no number yet and stands in level i.
 fn is_free(work: &[u16], at: usize, q: usize, i: u16) -> bool
     requires { (1 ≤ q) × (at + q ≤ length work.now) }
-    ensures { result ≡ is_free (was work) at i q }
+    ensures { result ≡ is_free work.now at i q }
 {
     let p = q - 1;
     if work[p] != 0 {
@@ -36,7 +35,7 @@ fn push(work: &mut [u16], n: usize, t: usize, z: u16)
     requires fact { Open n t work.old }
     requires le_z { (1 ≤ z) × (z ≤ n) }
     requires work_value { memb z (order_in n t work.old) ≡ false }
-    ensures { left work ≡ stand n (order_in n t (was work) ++ (z ∷ [])) (drop n (was work)) }
+    ensures { work.new ≡ stand n (order_in n t work.old ++ (z ∷ [])) (drop n work.old) }
 {
     let p = wide(z) - 1;
     work[p] = 1;
@@ -48,7 +47,7 @@ fn offer(work: &mut [u16], n: usize, at: usize, t: usize, q: u16, i: u16) -> usi
     requires fact { Open n t work.old }
     requires far { Far n at work.old }
     requires le_q { (1 ≤ q) × (q ≤ n) }
-    ensures { Became n (was work) (order_in n t (was work) ++ filterb (free (drop at (was work)) i (order_in n t (was work))) (q ∷ [])) result (left work) }
+    ensures { Became n work.old (order_in n t work.old ++ filterb (free (drop at work.old) i (order_in n t work.old)) (q ∷ [])) result work.new }
 {
     if is_free(work, at, wide(q), i) {
         push(work, n, t, q);
@@ -63,7 +62,7 @@ fn append(row: &[u16], work: &mut [u16], n: usize, at: usize, t: usize, i: u16) 
     requires far { Far n at work.old }
     requires nodes { Nodes n row.now }
     requires row_value { chainb ltb row.now ≡ true }
-    ensures { Became n (was work) (order_in n t (was work) ++ filterb (free (drop at (was work)) i (order_in n t (was work))) (was row)) result (left work) }
+    ensures { Became n work.old (order_in n t work.old ++ filterb (free (drop at work.old) i (order_in n t work.old)) row.now) result work.new }
 {
     let mut e = t;
     let mut j = 0;
@@ -81,7 +80,7 @@ fn sort_tail(starts: &[u16], work: &mut [u16], n: usize, t: usize, e: usize)
     requires n_value { n ≡ size_now starts }
     requires fact { Open n e work.old }
     requires t_le_e { t ≤ e }
-    ensures { (neighbours : List ℕ) → Starts (was starts) neighbours → left work ≡ stand n (tail_sorted (graph_of (was starts) neighbours) t (order_in n e (was work))) (drop n (was work)) }
+    ensures { (neighbours : List ℕ) → Starts starts.now neighbours → work.new ≡ stand n (tail_sorted (graph_of starts.now neighbours) t (order_in n e work.old)) (drop n work.old) }
 {
     levels_sort::legal::by_e(starts, &mut work[n + t..n + e]);
 }
@@ -102,7 +101,7 @@ fn extend(
     requires fact { Open n t work.old }
     requires far { Far n at work.old }
     requires le_w { (1 ≤ w) × (w ≤ n) }
-    ensures { Became n (was work) (add_by (found_by (graph_was starts neighbours) (drop at (was work)) i) (order_in n t (was work)) w) result (left work) }
+    ensures { Became n work.old (add_by (found_by (graph_was starts neighbours) (drop at work.old) i) (order_in n t work.old) w) result work.new }
 {
     let row = graph::legal::row(starts, neighbours, wide(w));
     let e = append(row, work, n, at, t, i);
@@ -126,7 +125,7 @@ fn from_before(
     requires fact { Open n b work.old }
     requires far { Far n at work.old }
     requires a_le_b { a ≤ b }
-    ensures { Became n (was work) (foldl (add_by (found_by (graph_was starts neighbours) (drop at (was work)) i)) (order_in n b (was work)) (drop a (order_in n b (was work)))) result (left work) }
+    ensures { Became n work.old (foldl (add_by (found_by (graph_was starts neighbours) (drop at work.old) i)) (order_in n b work.old) (drop a (order_in n b work.old))) result work.new }
 {
     let mut e = b;
     let mut h = a;
@@ -154,7 +153,7 @@ fn spread(
     requires n_value { n ≡ size_now starts }
     requires fact { Open n t work.old }
     requires far { Far n at work.old }
-    ensures { Spreads n (found_by (graph_was starts neighbours) (drop at (was work)) i) c (order_in n t (was work)) (was work) result (left work) }
+    ensures { Spreads n (found_by (graph_was starts neighbours) (drop at work.old) i) c (order_in n t work.old) work.old result work.new }
 {
     let mut e = t;
     let mut h = c;
@@ -183,7 +182,7 @@ fn resume(
     requires far { Far n at work.old }
     requires le_z { (1 ≤ z) × (z ≤ n) }
     requires work_value { memb z (order_in n t work.old) ≡ false }
-    ensures { Spreads n (found_by (graph_was starts neighbours) (drop at (was work)) i) t (order_in n t (was work) ++ (z ∷ [])) (was work) result (left work) }
+    ensures { Spreads n (found_by (graph_was starts neighbours) (drop at work.old) i) t (order_in n t work.old ++ (z ∷ [])) work.old result work.new }
 {
     push(work, n, t, z);
     spread(starts, neighbours, work, n, at, t, t + 1, i)
@@ -206,7 +205,7 @@ fn fill(
     requires fact { Open n t work.old }
     requires i_le_n { i ≤ n }
     requires by_index { (P : List ℕ) × Fills (graph_now starts neighbours) n at t i b work.old P }
-    ensures { (P : List ℕ) → Fills (graph_was starts neighbours) n at t i b (was work) P → RestNumbered (graph_was starts neighbours) n at t i (was work) P result (left work) }
+    ensures { (P : List ℕ) → Fills (graph_was starts neighbours) n at t i b work.old P → RestNumbered (graph_was starts neighbours) n at t i work.old P result work.new }
 {
     let top = work[n + n + n + (wide(i) - 1)];
     let left = unmarked(work, n, top);
@@ -238,7 +237,7 @@ fn level(
     requires fact { Open n b work.old }
     requires i_le_n { i ≤ n }
     requires by_index { (P : List ℕ) × Follows (graph_now starts neighbours) n at b i a work.old P }
-    ensures { (P : List ℕ) → Follows (graph_was starts neighbours) n at b i a (was work) P → LevelNumbered (graph_was starts neighbours) n at b i (was work) P result (left work) }
+    ensures { (P : List ℕ) → Follows (graph_was starts neighbours) n at b i a work.old P → LevelNumbered (graph_was starts neighbours) n at b i work.old P result work.new }
 {
     let e = from_before(starts, neighbours, work, n, at, a, b, i);
     fill(starts, neighbours, work, n, at, b, e, i)
@@ -247,7 +246,7 @@ fn level(
 // Sets the marks of the t nodes of the order to 0 again.
 fn wipe(work: &mut [u16], n: usize, t: usize)
     requires { Open n t work.old }
-    ensures { left work ≡ replicate n 0 ++ drop n (was work) }
+    ensures { work.new ≡ replicate n 0 ++ drop n work.old }
 {
     erase(work, 0, n, t);
 }
@@ -267,7 +266,7 @@ fn later_levels(
     requires fact { Open n t work.old }
     requires le_k { (1 ≤ k) × (k ≤ n) }
     requires by_index { (P : List ℕ) × Follows (graph_now starts neighbours) n at t 2 0 work.old P }
-    ensures { (P : List ℕ) → Follows (graph_was starts neighbours) n at t 2 0 (was work) P → LevelsNumbered (graph_was starts neighbours) n at t k (was work) P result (left work) }
+    ensures { (P : List ℕ) → Follows (graph_was starts neighbours) n at t 2 0 work.old P → LevelsNumbered (graph_was starts neighbours) n at t k work.old P result work.new }
 {
     let mut a = 0;
     let mut b = t;
@@ -287,7 +286,7 @@ fn number(starts: &[u16], neighbours: &[u16], work: &mut [u16], n: usize, at: us
     requires n_value { n ≡ size_now starts }
     requires work_value { take n work.old ≡ replicate n 0 }
     requires by_index { (P : List ℕ) × Opens (graph_now starts neighbours) n at k v work.old P }
-    ensures { (P : List ℕ) → Opens (graph_was starts neighbours) n at k v (was work) P → left work ≡ ordered n (forward_in (graph_was starts neighbours) at k v (was work) P) (was work) }
+    ensures { (P : List ℕ) → Opens (graph_was starts neighbours) n at k v work.old P → work.new ≡ ordered n (forward_in (graph_was starts neighbours) at k v work.old P) work.old }
 {
     push(work, n, 0, v);
     let b = fill(starts, neighbours, work, n, at, 0, 1, 1);
@@ -311,7 +310,7 @@ pub fn forward(
     requires work_value { take (members_area (size_now starts)) work.old ≡ replicate (members_area (size_now starts)) 0 }
     requires behind { Behind (graph_now starts neighbours) (size_now starts) at from m work.old }
     requires starting { Starting (levels_in (graph_now starts neighbours) at from m work.old) (members_in from m work.old) k v }
-    ensures { left work ≡ ordered (size_was starts) (forward_in (graph_was starts neighbours) at k v (was work) (members_in from m (was work))) (was work) }
+    ensures { work.new ≡ ordered (size_was starts) (forward_in (graph_was starts neighbours) at k v work.old (members_in from m work.old)) work.old }
 {
     let n = starts.len() - 1;
     rank(starts, neighbours, work, n, at, from, m);

@@ -3,7 +3,6 @@
 // entries: nothing here is n.
 ghost use Rattle.std.specs.Prelude.{◌≡◌, false, ◌+◌, ◌-◌, ◌≤◌, ◌<◌, length, replicate, set};
 ghost use Rattle.std.proofs.lemmas.List.Edits.{sets};
-ghost use Rattle.basis.specs.Moments.{was, left};
 ghost use Rattle.basis.specs.Stored.{stored, nought};
 ghost use Rattle.spec.specs.Graph.{graph_refusal};
 ghost use Rattle.spec.specs.Numbering.{part_result};
@@ -28,8 +27,8 @@ use numbering_width::legal::width_of;
 // "take the next free numbers": those after a, in the part's order, whose words it clears.
 pub fn give_numbers(scratch: &mut [u16], numbers: &mut [u16], n: usize, m: usize, a: usize)
     requires { Numberable n m a scratch.old numbers.old }
-    ensures scratch_value { left scratch ≡ sets (was scratch) n (replicate m 0) }
-    ensures numbers_value { left numbers ≡ numbered a (order_at n m (was scratch)) (was numbers) }
+    ensures scratch_value { scratch.new ≡ sets scratch.old n (replicate m 0) }
+    ensures numbers_value { numbers.new ≡ numbered a (order_at n m scratch.old) numbers.old }
 {
     let mut i = 0;
     while i < m {
@@ -46,8 +45,8 @@ pub fn give_levels(scratch: &mut [u16], levels: &mut [u16], n: usize, from: usiz
     requires members { Members n from to scratch.old }
     requires n_in_bounds { areas_end n ≤ length scratch.old }
     requires levels_len { length levels.old ≡ n }
-    ensures scratch_value { left scratch ≡ stored (tally_area n) nought (was scratch) (members_of n from to (was scratch)) }
-    ensures levels_value { left levels ≡ written (number_at (tally_area n) (was scratch)) (was levels) (members_of n from to (was scratch)) }
+    ensures scratch_value { scratch.new ≡ stored (tally_area n) nought scratch.old (members_of n from to scratch.old) }
+    ensures levels_value { levels.new ≡ written (number_at (tally_area n) scratch.old) levels.old (members_of n from to scratch.old) }
 {
     let mut i = from;
     while i < to {
@@ -63,8 +62,8 @@ pub fn number_lone(numbers: &mut [u16], levels: &mut [u16], q: usize, from: usiz
     requires le_q { (1 ≤ q) × (q ≤ length numbers.old) }
     requires levels_len { length levels.old ≡ length numbers.old }
     requires numbers_len_bound { (length numbers.old ≤ 4096) × (from < 4096) }
-    ensures numbers_value { left numbers ≡ set (was numbers) (q - 1) (from + 1) }
-    ensures levels_value { left levels ≡ set (was levels) (q - 1) 1 }
+    ensures numbers_value { numbers.new ≡ set numbers.old (q - 1) (from + 1) }
+    ensures levels_value { levels.new ≡ set levels.old (q - 1) 1 }
 {
     let number = from + 1;
     numbers[q - 1] = number as u16;
@@ -84,8 +83,8 @@ pub fn find_part(
     requires neighbours_value { graph_refusal starts.now neighbours.now ≡ 0 }
     requires counts_value { bad_counts (size_now starts) counts.now ≡ false }
     requires part_given { PartGiven (graph_now starts neighbours) from to (words_of (size_now starts) scratch.old) (tally_of (size_now starts) scratch.old) }
-    ensures result_value { found_meaning result ≡ (part_result (graph_was starts neighbours) (was counts) (lowest_in (size_was starts) from (was scratch))).report }
-    ensures scratch_value { left scratch ≡ with_result (size_was starts) (tally_area (size_was starts)) (part_result (graph_was starts neighbours) (was counts) (lowest_in (size_was starts) from (was scratch))) (was scratch) }
+    ensures result_value { found_meaning result ≡ (part_result (graph_was starts neighbours) counts.now (lowest_in (size_was starts) from scratch.old)).report }
+    ensures scratch_value { scratch.new ≡ with_result (size_was starts) (tally_area (size_was starts)) (part_result (graph_was starts neighbours) counts.now (lowest_in (size_was starts) from scratch.old)) scratch.old }
 {
     let n = starts.len() - 1;
     let f = combine_part(starts, neighbours, scratch, from, to);
@@ -128,12 +127,12 @@ pub fn number_part(
     requires counts_value { bad_counts (size_now starts) counts.now ≡ false }
     requires part_given { PartGiven (graph_now starts neighbours) from to (words_of (size_now starts) scratch.old) (tally_of (size_now starts) scratch.old) }
     requires numbers_len { (length numbers.old ≡ size_now starts) × (length levels.old ≡ size_now starts) }
-    ensures value { result ≡ part_figures_of (part_result (graph_was starts neighbours) (was counts) (lowest_in (size_was starts) from (was scratch))).report }
-    ensures scratch_value { left scratch ≡ was scratch }
-    ensures numbers_value { left numbers ≡ new_numbers (graph_was starts neighbours) (lowest_in (size_was starts) from (was scratch))
-        (part_result (graph_was starts neighbours) (was counts) (lowest_in (size_was starts) from (was scratch))) from (was numbers) }
-    ensures levels_value { left levels ≡ new_levels (graph_was starts neighbours) (lowest_in (size_was starts) from (was scratch))
-        (part_result (graph_was starts neighbours) (was counts) (lowest_in (size_was starts) from (was scratch))) (was levels) }
+    ensures value { result ≡ part_figures_of (part_result (graph_was starts neighbours) counts.now (lowest_in (size_was starts) from scratch.old)).report }
+    ensures scratch_value { scratch.new ≡ scratch.old }
+    ensures numbers_value { numbers.new ≡ new_numbers (graph_was starts neighbours) (lowest_in (size_was starts) from scratch.old)
+        (part_result (graph_was starts neighbours) counts.now (lowest_in (size_was starts) from scratch.old)) from numbers.old }
+    ensures levels_value { levels.new ≡ new_levels (graph_was starts neighbours) (lowest_in (size_was starts) from scratch.old)
+        (part_result (graph_was starts neighbours) counts.now (lowest_in (size_was starts) from scratch.old)) levels.old }
 {
     let n = starts.len() - 1;
     let f = find_part(starts, neighbours, counts, scratch, from, to);

@@ -7,7 +7,6 @@ pub mod legal;
 mod part;
 
 ghost use Rattle.std.specs.Prelude.{◌≡◌};
-ghost use Rattle.basis.specs.Moments.{was, left};
 ghost use Rattle.spec.specs.CallsNumbering.{report_answer, report_scratch};
 ghost use Rattle.numbering_report.specs.Answers.{answer_meaning};
 
@@ -24,8 +23,8 @@ pub fn part_report(
     node: u16,
     scratch: &mut [u16],
 ) -> ReportAnswer
-    ensures result_value { answer_meaning result ≡ report_answer (was starts) (was neighbours) (was counts) node (was scratch) }
-    ensures scratch_value { left scratch ≡ report_scratch (was starts) (was neighbours) (was counts) node (was scratch) }
+    ensures result_value { answer_meaning result ≡ report_answer starts.now neighbours.now counts.now node scratch.old }
+    ensures scratch_value { scratch.new ≡ report_scratch starts.now neighbours.now counts.now node scratch.old }
 {
     match graph::test_adjacency(starts, neighbours) {
         Adjacency::Refused(c) => ReportAnswer::Refused(c),

@@ -1,6 +1,5 @@
 // The call on one part: what it does in its scratch once it was tested.
 ghost use Rattle.std.specs.Prelude.{◌≡◌, false, ◌*◌, ◌≤◌, length};
-ghost use Rattle.basis.specs.Moments.{was, left};
 ghost use Rattle.spec.specs.Graph.{graph_refusal};
 ghost use Rattle.spec.specs.Lent.{zeroed, words_per_node};
 ghost use Rattle.spec.specs.Numbering.{part_result};
@@ -26,8 +25,8 @@ pub(crate) fn find_report(
     requires counts_value { bad_counts (size_now starts) counts.now ≡ false }
     requires le_node { (1 ≤ node) × (node ≤ size_now starts) }
     requires starts_in_bounds { words_per_node * size_now starts ≤ length scratch.old }
-    ensures result_value { report_meaning result ≡ (part_result (graph_was starts neighbours) (was counts) node).report }
-    ensures scratch_value { left scratch ≡ zeroed (words_per_node * size_was starts) (was scratch) }
+    ensures result_value { report_meaning result ≡ (part_result (graph_was starts neighbours) counts.now node).report }
+    ensures scratch_value { scratch.new ≡ zeroed (words_per_node * size_was starts) scratch.old }
 {
     let n = starts.len() - 1;
     clear(scratch, WORDS_PER_NODE * n);

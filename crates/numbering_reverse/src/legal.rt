@@ -2,7 +2,6 @@
 // and entries: nothing here is n.
 ghost use Rattle.std.specs.Prelude.{◌≡◌, cond, false, ◌++◌, map, reverse, ◌+◌, ◌-◌, ◌≤◌, ◌<◌, max, suc, length, drop, replicate};
 ghost use Rattle.basis.specs.Lists.{greatest, least};
-ghost use Rattle.basis.specs.Moments.{was, left};
 ghost use Rattle.spec.specs.Graph.{of_node};
 ghost use Rattle.spec.specs.Measures.{in_order, profile};
 ghost use Rattle.spec.specs.Numbering.{turns};
@@ -36,7 +35,7 @@ fn put_aheads(counts: &[u16], work: &mut [u16], n: usize, m: usize)
     requires m_le_n { (m ≤ n) × (n ≤ 4096) × (n + m ≤ length work.old) }
     requires listed { Listed n (segment n m work.old) }
     requires counts_value { bad_counts n counts.now ≡ false }
-    ensures { Put (was counts) n m (was work) (left work) m }
+    ensures { Put counts.now n m work.old work.new m }
 {
     let mut sum: usize = 0;
     let mut i = 0;
@@ -54,8 +53,8 @@ fn ends(row: &[u16], ahead: &[u16], counts: &[u16], own: usize, upto: usize) -> 
     requires words { Words (length ahead.now) row.now }
     requires counts_value { bad_counts (length ahead.now) counts.now ≡ false }
     requires few { Few row.now ahead.now }
-    ensures first_value { result.first ≡ least own (map (of_node (was ahead)) (was row)) }
-    ensures last_value { result.last ≡ max upto (greatest (map (λ y. of_node (was ahead) y + of_node (was counts) y) (was row))) }
+    ensures first_value { result.first ≡ least own (map (of_node ahead.now) row.now) }
+    ensures last_value { result.last ≡ max upto (greatest (map (λ y. of_node ahead.now y + of_node counts.now y) row.now)) }
 {
     let mut first = own;
     let mut last = upto;
@@ -88,8 +87,8 @@ fn span(
     requires part { Part starts.now neighbours.now (segment n m work.now) }
     requires counts_value { bad_counts (size_now starts) counts.now ≡ false }
     requires placed { Placed counts.now (segment n m work.now) work.now }
-    ensures forward_value { result.forward ≡ node_span (in_order (graph_was starts neighbours) (segment n m (was work))) (counts_in (was counts) (segment n m (was work))) (suc a) }
-    ensures backward_value { result.backward ≡ node_span (in_order (graph_was starts neighbours) (reverse (segment n m (was work)))) (counts_in (was counts) (reverse (segment n m (was work)))) (m - a) }
+    ensures forward_value { result.forward ≡ node_span (in_order (graph_was starts neighbours) (segment n m work.now)) (counts_in counts.now (segment n m work.now)) (suc a) }
+    ensures backward_value { result.backward ≡ node_span (in_order (graph_was starts neighbours) (reverse (segment n m work.now))) (counts_in counts.now (reverse (segment n m work.now))) (m - a) }
     ensures forward_bound { (result.forward ≤ 147471) × (result.backward ≤ 147471) }
 {
     let z = wide(work[n + a]);
@@ -118,8 +117,8 @@ fn spans(
     requires part { Part starts.now neighbours.now (segment n m work.now) }
     requires counts_value { bad_counts (size_now starts) counts.now ≡ false }
     requires placed { Placed counts.now (segment n m work.now) work.now }
-    ensures forward_value { result.forward ≡ profile (order_unknowns (graph_was starts neighbours) (was counts) (segment n m (was work))) }
-    ensures backward_value { result.backward ≡ profile (order_unknowns (graph_was starts neighbours) (was counts) (reverse (segment n m (was work)))) }
+    ensures forward_value { result.forward ≡ profile (order_unknowns (graph_was starts neighbours) counts.now (segment n m work.now)) }
+    ensures backward_value { result.backward ≡ profile (order_unknowns (graph_was starts neighbours) counts.now (reverse (segment n m work.now))) }
 {
     let mut forward: u32 = 0;
     let mut backward: u32 = 0;
@@ -149,9 +148,9 @@ fn profiles(
     requires part { Part starts.now neighbours.now (segment n m work.old) }
     requires counts_value { bad_counts (size_now starts) counts.now ≡ false }
     requires clean { Clean n (segment n m work.old) work.old }
-    ensures forward_value { result.forward ≡ profile (order_unknowns (graph_was starts neighbours) (was counts) (segment n m (was work))) }
-    ensures backward_value { result.backward ≡ profile (order_unknowns (graph_was starts neighbours) (was counts) (reverse (segment n m (was work)))) }
-    ensures work_value { left work ≡ replicate n 0 ++ drop n (was work) }
+    ensures forward_value { result.forward ≡ profile (order_unknowns (graph_was starts neighbours) counts.now (segment n m work.old)) }
+    ensures backward_value { result.backward ≡ profile (order_unknowns (graph_was starts neighbours) counts.now (reverse (segment n m work.old))) }
+    ensures work_value { work.new ≡ replicate n 0 ++ drop n work.old }
 {
     put_aheads(counts, work, n, m);
     let sums = spans(starts, neighbours, counts, work, n, m);
@@ -161,7 +160,7 @@ fn profiles(
 
 // The words in the reverse order.
 pub fn reverse(words: &mut [u16])
-    ensures { left words ≡ reverse (was words) }
+    ensures { words.new ≡ reverse words.old }
 {
     let mut i = 0;
     let mut e = words.len();
@@ -187,8 +186,8 @@ pub fn turn(
     requires part { Part starts.now neighbours.now (segment n m work.old) }
     requires counts_value { bad_counts (size_now starts) counts.now ≡ false }
     requires clean { Clean n (segment n m work.old) work.old }
-    ensures value { result ≡ turns (graph_was starts neighbours) (was counts) (segment n m (was work)) }
-    ensures work_value { left work ≡ replicate n 0 ++ (cond result (reverse (segment n m (was work))) (segment n m (was work)) ++ drop (n + m) (was work)) }
+    ensures value { result ≡ turns (graph_was starts neighbours) counts.now (segment n m work.old) }
+    ensures work_value { work.new ≡ replicate n 0 ++ (cond result (reverse (segment n m work.old)) (segment n m work.old) ++ drop (n + m) work.old) }
 {
     let both = profiles(starts, neighbours, counts, work, n, m);
     if both.backward < both.forward {

@@ -3,7 +3,6 @@
 ghost use Rattle.std.specs.Prelude.{◌≡◌, false, List, map, ℕ, ◌+◌, ◌≤◌, ltb};
 ghost use Rattle.std.proofs.lemmas.List.Edits.{sets};
 ghost use Rattle.std.proofs.Math.Seq.{slice};
-ghost use Rattle.basis.specs.Moments.{was, left};
 ghost use Rattle.spec.specs.Graph.{graph_of, graph_refusal, degree};
 ghost use Rattle.spec.specs.Combined.{mirrored};
 ghost use Rattle.spec.specs.Numbering.{turns};
@@ -20,7 +19,7 @@ use graph_words::wide;
 fn renames(starts: &[u16], v: u16, u: u16) -> bool
     requires by_index { (neighbours : List ℕ) × Starts starts.now neighbours }
     requires le_v { (1 ≤ v) × (v ≤ size_now starts) × (1 ≤ u) × (u ≤ size_now starts) }
-    ensures { (neighbours : List ℕ) → Starts (was starts) neighbours → result ≡ ltb (degree (graph_of (was starts) neighbours) u) (degree (graph_of (was starts) neighbours) v) }
+    ensures { (neighbours : List ℕ) → Starts starts.now neighbours → result ≡ ltb (degree (graph_of starts.now neighbours) u) (degree (graph_of starts.now neighbours) v) }
 {
     let a = degree(starts, wide(u));
     let b = degree(starts, wide(v));
@@ -30,7 +29,7 @@ fn renames(starts: &[u16], v: u16, u: u16) -> bool
 // "level i becomes k + 1 − i", for the part's nodes; all other nodes have no level.
 fn mirror(work: &mut [u16], n: usize, at: usize, from: usize, m: usize, k: u16)
     requires { Mirrorable n at from m k work.old }
-    ensures { left work ≡ sets (was work) at (map (mirrored k) (slice at (at + n) (was work))) }
+    ensures { work.new ≡ sets work.old at (map (mirrored k) (slice at (at + n) work.old)) }
 {
     let mut j = 0;
     while j < m {
@@ -56,8 +55,8 @@ fn arrange(
     requires neighbours_value { graph_refusal starts.now neighbours.now ≡ 0 }
     requires counts_value { bad_counts (size_now starts) counts.now ≡ false }
     requires named { Named (graph_now starts neighbours) at from m k v work.old }
-    ensures value { result ≡ turns (graph_was starts neighbours) (was counts) (forward_by (graph_was starts neighbours) (ends_in (graph_was starts neighbours) from (was work))) }
-    ensures work_value { left work ≡ sets (was work) (size_was starts) (result_in (graph_was starts neighbours) (was counts) from (was work)).order }
+    ensures value { result ≡ turns (graph_was starts neighbours) counts.now (forward_by (graph_was starts neighbours) (ends_in (graph_was starts neighbours) from work.old)) }
+    ensures work_value { work.new ≡ sets work.old (size_was starts) (result_in (graph_was starts neighbours) counts.now from work.old).order }
 {
     let n = starts.len() - 1;
     numbering_order::legal::forward(starts, neighbours, work, at, from, m, k, v);
@@ -82,8 +81,8 @@ pub fn sequence(
     requires neighbours_value { graph_refusal starts.now neighbours.now ≡ 0 }
     requires counts_value { bad_counts (size_now starts) counts.now ≡ false }
     requires sequenceable { Sequenceable (graph_now starts neighbours) at from m k v u work.old }
-    ensures value { result ≡ sequence_of (graph_was starts neighbours) (was counts) (ends_in (graph_was starts neighbours) from (was work)) }
-    ensures work_value { left work ≡ with_result (size_was starts) at (result_in (graph_was starts neighbours) (was counts) from (was work)) (was work) }
+    ensures value { result ≡ sequence_of (graph_was starts neighbours) counts.now (ends_in (graph_was starts neighbours) from work.old) }
+    ensures work_value { work.new ≡ with_result (size_was starts) at (result_in (graph_was starts neighbours) counts.now from work.old) work.old }
 {
     if renames(starts, v, u) {
         let n = starts.len() - 1;

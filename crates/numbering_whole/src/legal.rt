@@ -1,7 +1,6 @@
 // A whole legal graph in either order: the parts in order of lowest old number, each with the next free numbers.
 ghost use Rattle.std.specs.Prelude.{◌≡◌, true, false, List, ℕ, ◌*◌, ◌≤◌, length, drop};
 ghost use Rattle.basis.specs.Lists.{sum};
-ghost use Rattle.basis.specs.Moments.{was, left};
 ghost use Rattle.spec.specs.CallsNumbering.{measure_figures};
 ghost use Rattle.spec.specs.Graph.{graph_refusal};
 ghost use Rattle.spec.specs.Lent.{zeroed, words_per_node};
@@ -40,11 +39,11 @@ fn number_parts(
 ) -> Tally
     requires count_value { count ≡ length (parts (graph_now starts neighbours)) }
     requires ran { Ran order starts.now neighbours.now counts.now 0 0 0 0 numbers.old levels.old passes.old scratch.old }
-    ensures summed { Summed (whole_in order (graph_was starts neighbours) (was counts)).figures result.parts result.nodes result.levels result.width }
-    ensures numbers_value { left numbers ≡ (whole_in order (graph_was starts neighbours) (was counts)).numbers }
-    ensures levels_value { left levels ≡ (whole_in order (graph_was starts neighbours) (was counts)).levels }
-    ensures passes_value { left passes ≡ (whole_in order (graph_was starts neighbours) (was counts)).passes }
-    ensures scratch_value { left scratch ≡ was scratch }
+    ensures summed { Summed (whole_in order (graph_was starts neighbours) counts.now).figures result.parts result.nodes result.levels result.width }
+    ensures numbers_value { numbers.new ≡ (whole_in order (graph_was starts neighbours) counts.now).numbers }
+    ensures levels_value { levels.new ≡ (whole_in order (graph_was starts neighbours) counts.now).levels }
+    ensures passes_value { passes.new ≡ (whole_in order (graph_was starts neighbours) counts.now).passes }
+    ensures scratch_value { scratch.new ≡ scratch.old }
 {
     let mut t = Tally {
         parts: 0,
@@ -74,8 +73,8 @@ fn begin(
     requires numbers_len { (length numbers.old ≡ size_now starts) × (length levels.old ≡ size_now starts) × (length passes.old ≡ size_now starts) }
     requires starts_in_bounds { words_per_node * size_now starts ≤ length scratch.old }
     ensures value { result ≡ length (parts (graph_was starts neighbours)) }
-    ensures ran { (order : Order) (counts : List ℕ) → bad_counts (size_was starts) counts ≡ false → Ran order (was starts) (was neighbours) counts 0 0 0 0 (left numbers) (left levels) (left passes) (left scratch) }
-    ensures scratch_value { drop (words_per_node * size_was starts) (left scratch) ≡ drop (words_per_node * size_was starts) (was scratch) }
+    ensures ran { (order : Order) (counts : List ℕ) → bad_counts (size_was starts) counts ≡ false → Ran order starts.now neighbours.now counts 0 0 0 0 numbers.new levels.new passes.new scratch.new }
+    ensures scratch_value { drop (words_per_node * size_was starts) scratch.new ≡ drop (words_per_node * size_was starts) scratch.old }
 {
     let n = starts.len() - 1;
     clear(scratch, WORDS_PER_NODE * n);
@@ -97,8 +96,8 @@ fn finish(
     requires counts_value { (bad_counts (size_now starts) counts.now ≡ false) × (total ≡ sum counts.now) }
     requires numbers_value { is_numbering (size_now starts) numbers.now ≡ true }
     requires starts_in_bounds { words_per_node * size_now starts ≤ length scratch.old }
-    ensures result_value { three result ≡ measure_figures (renumbered_unknowns (graph_was starts neighbours) (was counts) (was numbers)) }
-    ensures scratch_value { left scratch ≡ zeroed (words_per_node * size_was starts) (was scratch) }
+    ensures result_value { three result ≡ measure_figures (renumbered_unknowns (graph_was starts neighbours) counts.now numbers.now) }
+    ensures scratch_value { scratch.new ≡ zeroed (words_per_node * size_was starts) scratch.old }
 {
     let n = starts.len() - 1;
     let m = figures(
@@ -129,11 +128,11 @@ pub fn number_all(
     requires counts_value { (bad_counts (size_now starts) counts.now ≡ false) × (total ≡ sum counts.now) }
     requires numbers_len { (length numbers.old ≡ size_now starts) × (length levels.old ≡ size_now starts) × (length passes.old ≡ size_now starts) }
     requires starts_in_bounds { words_per_node * size_now starts ≤ length scratch.old }
-    ensures result_value { seven result ≡ (whole_in order (graph_was starts neighbours) (was counts)).figures }
-    ensures numbers_value { left numbers ≡ (whole_in order (graph_was starts neighbours) (was counts)).numbers }
-    ensures levels_value { left levels ≡ (whole_in order (graph_was starts neighbours) (was counts)).levels }
-    ensures passes_value { left passes ≡ (whole_in order (graph_was starts neighbours) (was counts)).passes }
-    ensures scratch_value { left scratch ≡ zeroed (words_per_node * size_was starts) (was scratch) }
+    ensures result_value { seven result ≡ (whole_in order (graph_was starts neighbours) counts.now).figures }
+    ensures numbers_value { numbers.new ≡ (whole_in order (graph_was starts neighbours) counts.now).numbers }
+    ensures levels_value { levels.new ≡ (whole_in order (graph_was starts neighbours) counts.now).levels }
+    ensures passes_value { passes.new ≡ (whole_in order (graph_was starts neighbours) counts.now).passes }
+    ensures scratch_value { scratch.new ≡ zeroed (words_per_node * size_was starts) scratch.old }
 {
     let count = begin(starts, neighbours, numbers, levels, passes, scratch);
     let t = number_parts(

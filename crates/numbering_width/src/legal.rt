@@ -2,7 +2,6 @@
 // for all other nodes. Word i - 1 of FIRST, which is 0 before and after, adds up the unknowns of level i. Linear in the part's members and
 // levels: nothing here is n.
 ghost use Rattle.std.specs.Prelude.{◌≡◌, max, set};
-ghost use Rattle.basis.specs.Moments.{was, left};
 ghost use Rattle.spec.specs.Graph.{Graph};
 ghost use Rattle.spec.specs.Unknowns.{unknown_width};
 ghost use Rattle.levels_laws.specs.Areas.{tally_of};
@@ -15,8 +14,8 @@ use graph_words::wide;
 // Adds the count of node z to the unknowns of its level, and returns the sum.
 fn add_count(counts: &[u16], scratch: &mut [u16], n: usize, z: usize) -> u16
     requires { Addable n z counts.now scratch.old }
-    ensures value { result ≡ with_count n z (was counts) (was scratch) }
-    ensures scratch_value { left scratch ≡ set (was scratch) (word_of n z (was scratch)) (with_count n z (was counts) (was scratch)) }
+    ensures value { result ≡ with_count n z counts.now scratch.old }
+    ensures scratch_value { scratch.new ≡ set scratch.old (word_of n z scratch.old) (with_count n z counts.now scratch.old) }
 {
     let at = wide(scratch[TALLY * n + z - 1]) - 1;
     let size = scratch[at] + counts[z - 1];
@@ -42,8 +41,8 @@ pub fn width_of(
     k: u16,
 ) -> u16
     requires { Weighable n from to k counts.now scratch.old }
-    ensures value { (g : Graph) → g.size ≡ n → result ≡ unknown_width g (was counts) k (tally_of n (was scratch)) }
-    ensures scratch_value { left scratch ≡ was scratch }
+    ensures value { (g : Graph) → g.size ≡ n → result ≡ unknown_width g counts.now k (tally_of n scratch.old) }
+    ensures scratch_value { scratch.new ≡ scratch.old }
 {
     let mut top = 0;
     let mut i = from;

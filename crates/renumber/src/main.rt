@@ -2,7 +2,6 @@
 #![tactic(auto)]
 
 ghost use Rattle.std.specs.Prelude.{◌≡◌, take};
-ghost use Rattle.basis.specs.Moments.{was, left};
 ghost use Rattle.spec.specs.File.{program_output};
 ghost use Rattle.io.specs.Counts.{IsPrefixLen};
 
@@ -21,8 +20,8 @@ fn text(
     counts: &mut [u16; 4096],
     output: &mut [u8; 61544],
 ) -> usize
-    ensures prefix_len { IsPrefixLen result (left output) }
-    ensures output_value { take result (left output) ≡ program_output (was file) }
+    ensures prefix_len { IsPrefixLen result output.new }
+    ensures output_value { take result output.new ≡ program_output file.now }
 {
     let bytes = file_listing::legal::list_file(
         file, words, starts, neighbours, scratch, numbers, levels, passes, counts, output,

@@ -2,7 +2,6 @@
 #![tactic(auto)]
 
 ghost use Rattle.std.specs.Prelude.{◌≡◌};
-ghost use Rattle.basis.specs.Moments.{was, left};
 ghost use Rattle.spec.specs.CallsCuthill.{cuthill_numbers, cuthill_levels, cuthill_passes, cuthill_scratch, cuthill_eliminate_answer, cuthill_eliminate_bytes};
 ghost use Rattle.spec.specs.CallsNumbering.{run_numbers, run_levels, run_passes, run_scratch};
 ghost use Rattle.spec.specs.CallsStore.{RunElimination as RunEliminated, elimination_answer, elimination_scratch, elimination_bytes, handed_on};
@@ -33,9 +32,9 @@ fn eliminate_after(
     scratch: &mut [u16],
     bytes: &mut [u8],
 ) -> RunElimination
-    ensures result_value { run_meaning result ≡ accepted (record { figures = seven figures; elimination = elimination_answer (was starts) (was neighbours) (was counts) (was numbers) (was scratch) (was bytes) }) }
-    ensures scratch_value { left scratch ≡ elimination_scratch (was starts) (was neighbours) (was counts) (was numbers) (was scratch) (was bytes) }
-    ensures bytes_value { left bytes ≡ elimination_bytes (was starts) (was neighbours) (was counts) (was numbers) (was scratch) (was bytes) }
+    ensures result_value { run_meaning result ≡ accepted (record { figures = seven figures; elimination = elimination_answer starts.now neighbours.now counts.now numbers.now scratch.old bytes.old }) }
+    ensures scratch_value { scratch.new ≡ elimination_scratch starts.now neighbours.now counts.now numbers.now scratch.old bytes.old }
+    ensures bytes_value { bytes.new ≡ elimination_bytes starts.now neighbours.now counts.now numbers.now scratch.old bytes.old }
 {
     match eliminate(starts, neighbours, counts, numbers, scratch, bytes) {
         Elimination::Refused(c) => RunElimination::RunOnly {
@@ -60,9 +59,9 @@ fn then_eliminate(
     bytes: &mut [u8],
 ) -> RunElimination
     requires { (F : Figures) → numbered answer ≡ accepted F → Room starts.now numbers.now scratch.old }
-    ensures result_value { run_meaning result ≡ then_eliminate_answer (was starts) (was neighbours) (was counts) (was numbers) (was scratch) (was bytes) (numbered answer) }
-    ensures scratch_value { left scratch ≡ then_scratch (was starts) (was neighbours) (was counts) (was numbers) (was scratch) (was bytes) (numbered answer) }
-    ensures bytes_value { left bytes ≡ then_eliminate_bytes (was starts) (was neighbours) (was counts) (was numbers) (was scratch) (was bytes) (numbered answer) }
+    ensures result_value { run_meaning result ≡ then_eliminate_answer starts.now neighbours.now counts.now numbers.now scratch.old bytes.old (numbered answer) }
+    ensures scratch_value { scratch.new ≡ then_scratch starts.now neighbours.now counts.now numbers.now scratch.old bytes.old (numbered answer) }
+    ensures bytes_value { bytes.new ≡ then_eliminate_bytes starts.now neighbours.now counts.now numbers.now scratch.old bytes.old (numbered answer) }
 {
     match answer {
         RunAnswer::Refused(c) => RunElimination::Refused(c),
@@ -92,15 +91,15 @@ pub fn run_eliminate(
     scratch: &mut [u16],
     bytes: &mut [u8],
 ) -> RunElimination
-    ensures result_value { run_meaning result ≡ run_eliminate_answer (was starts) (was neighbours) (was counts) (was numbers) (was levels) (was passes) (was scratch) (was bytes) }
-    ensures numbers_value { left numbers ≡ run_numbers (was starts) (was neighbours) (was counts) (was numbers) (was levels) (was passes) (was scratch) }
-    ensures levels_value { left levels ≡ run_levels (was starts) (was neighbours) (was counts) (was numbers) (was levels) (was passes) (was scratch) }
-    ensures passes_value { left passes ≡ run_passes (was starts) (was neighbours) (was counts) (was numbers) (was levels) (was passes) (was scratch) }
-    ensures scratch_value { left scratch ≡ run_scratch (was starts) (was neighbours) (was counts) (was numbers) (was levels) (was passes) (was scratch) }
-    ensures bytes_value { left bytes ≡ run_eliminate_bytes (was starts) (was neighbours) (was counts) (was numbers) (was levels) (was passes) (was scratch) (was bytes) }
+    ensures result_value { run_meaning result ≡ run_eliminate_answer starts.now neighbours.now counts.now numbers.old levels.old passes.old scratch.old bytes.old }
+    ensures numbers_value { numbers.new ≡ run_numbers starts.now neighbours.now counts.now numbers.old levels.old passes.old scratch.old }
+    ensures levels_value { levels.new ≡ run_levels starts.now neighbours.now counts.now numbers.old levels.old passes.old scratch.old }
+    ensures passes_value { passes.new ≡ run_passes starts.now neighbours.now counts.now numbers.old levels.old passes.old scratch.old }
+    ensures scratch_value { scratch.new ≡ run_scratch starts.now neighbours.now counts.now numbers.old levels.old passes.old scratch.old }
+    ensures bytes_value { bytes.new ≡ run_eliminate_bytes starts.now neighbours.now counts.now numbers.old levels.old passes.old scratch.old bytes.old }
     ensures claimed { (e : RunEliminated) → run_meaning result ≡ accepted e
-        → Claimed (was starts) (was neighbours) (was counts) e.figures (left numbers) (left levels)
-        (handed_on (was starts) (run_scratch (was starts) (was neighbours) (was counts) (was numbers) (was levels) (was passes) (was scratch))) (was bytes) e.elimination (left bytes) }
+        → Claimed starts.now neighbours.now counts.now e.figures numbers.new levels.new
+        (handed_on starts.now (run_scratch starts.now neighbours.now counts.now numbers.old levels.old passes.old scratch.old)) bytes.old e.elimination bytes.new }
 {
     let ran = numbering::run(starts, neighbours, counts, numbers, levels, passes, scratch);
     then_eliminate(ran, starts, neighbours, counts, numbers, scratch, bytes)
@@ -117,15 +116,15 @@ pub fn cuthill_eliminate(
     scratch: &mut [u16],
     bytes: &mut [u8],
 ) -> RunElimination
-    ensures result_value { run_meaning result ≡ cuthill_eliminate_answer (was starts) (was neighbours) (was counts) (was numbers) (was levels) (was passes) (was scratch) (was bytes) }
-    ensures numbers_value { left numbers ≡ cuthill_numbers (was starts) (was neighbours) (was counts) (was numbers) (was levels) (was passes) (was scratch) }
-    ensures levels_value { left levels ≡ cuthill_levels (was starts) (was neighbours) (was counts) (was numbers) (was levels) (was passes) (was scratch) }
-    ensures passes_value { left passes ≡ cuthill_passes (was starts) (was neighbours) (was counts) (was numbers) (was levels) (was passes) (was scratch) }
-    ensures scratch_value { left scratch ≡ cuthill_scratch (was starts) (was neighbours) (was counts) (was numbers) (was levels) (was passes) (was scratch) }
-    ensures bytes_value { left bytes ≡ cuthill_eliminate_bytes (was starts) (was neighbours) (was counts) (was numbers) (was levels) (was passes) (was scratch) (was bytes) }
+    ensures result_value { run_meaning result ≡ cuthill_eliminate_answer starts.now neighbours.now counts.now numbers.old levels.old passes.old scratch.old bytes.old }
+    ensures numbers_value { numbers.new ≡ cuthill_numbers starts.now neighbours.now counts.now numbers.old levels.old passes.old scratch.old }
+    ensures levels_value { levels.new ≡ cuthill_levels starts.now neighbours.now counts.now numbers.old levels.old passes.old scratch.old }
+    ensures passes_value { passes.new ≡ cuthill_passes starts.now neighbours.now counts.now numbers.old levels.old passes.old scratch.old }
+    ensures scratch_value { scratch.new ≡ cuthill_scratch starts.now neighbours.now counts.now numbers.old levels.old passes.old scratch.old }
+    ensures bytes_value { bytes.new ≡ cuthill_eliminate_bytes starts.now neighbours.now counts.now numbers.old levels.old passes.old scratch.old bytes.old }
     ensures cuthill_claimed { (e : RunEliminated) → run_meaning result ≡ accepted e
-        → CuthillClaimed (was starts) (was neighbours) (was counts) e.figures (left numbers) (left levels)
-        (handed_on (was starts) (cuthill_scratch (was starts) (was neighbours) (was counts) (was numbers) (was levels) (was passes) (was scratch))) (was bytes) e.elimination (left bytes) }
+        → CuthillClaimed starts.now neighbours.now counts.now e.figures numbers.new levels.new
+        (handed_on starts.now (cuthill_scratch starts.now neighbours.now counts.now numbers.old levels.old passes.old scratch.old)) bytes.old e.elimination bytes.new }
 {
     let ordered = numbering::reverse_cuthill_mckee(
         starts, neighbours, counts, numbers, levels, passes, scratch,

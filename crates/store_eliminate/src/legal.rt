@@ -1,6 +1,5 @@
 // Functions on a legal adjacency and numbering: their callers have tested them, and the room.
 ghost use Rattle.std.specs.Prelude.{◌≡◌, List, ◌∷◌, map, ℕ, suc, ◌≤◌, ◌<◌, length, replicate};
-ghost use Rattle.basis.specs.Moments.{was, left};
 ghost use Rattle.spec.specs.Graph.{Graph, of_node};
 ghost use Rattle.spec.specs.Measures.{order_of};
 ghost use Rattle.spec.specs.Store.{start_of, mark_byte_count, mark_bytes};
@@ -31,7 +30,7 @@ fn place(row: Row, p: usize) -> u32
 // Whether the pair p < q is marked.
 fn joined(bytes: &[u8], row: Row, p: usize) -> bool
     requires { Room row (length bytes.now) p }
-    ensures { result ≡ marked (was bytes) (place_in row p) }
+    ensures { result ≡ marked bytes.now (place_in row p) }
 {
     store_marks::legal::test(bytes, place(row, p))
 }
@@ -39,7 +38,7 @@ fn joined(bytes: &[u8], row: Row, p: usize) -> bool
 // Marks the pair p < q.
 fn join(bytes: &mut [u8], row: Row, p: usize)
     requires { Room row (length bytes.old) p }
-    ensures { left bytes ≡ with_mark (was bytes) (place_in row p) }
+    ensures { bytes.new ≡ with_mark bytes.old (place_in row p) }
 {
     store_marks::legal::set(bytes, place(row, p));
 }
@@ -48,7 +47,7 @@ fn join(bytes: &mut [u8], row: Row, p: usize)
 // or q, for nothing, where p had no parent.
 fn rise(scratch: &mut [u16], bytes: &mut [u8], row: Row, p: usize) -> usize
     requires { ((h : Graph) × (o : List ℕ) × (due : List ℕ) × IsRow h row × Walk h o scratch.old bytes.old row.q row.q (p ∷ due)) × (p < row.q) }
-    ensures { (p < result) × (result ≤ row.q) × Risen row p result (was scratch) (was bytes) (left scratch) (left bytes) }
+    ensures { (p < result) × (result ≤ row.q) × Risen row p result scratch.old bytes.old scratch.new bytes.new }
 {
     join(bytes, row, p);
     let at = p - 1;
@@ -63,7 +62,7 @@ fn rise(scratch: &mut [u16], bytes: &mut [u8], row: Row, p: usize) -> usize
 // Joins to q, where it is lower, the number `from`, its parent, the parent of that, and so on up to what is joined already.
 fn climb(scratch: &mut [u16], bytes: &mut [u8], row: Row, from: usize)
     requires { (h : Graph) × (o : List ℕ) × (due : List ℕ) × IsRow h row × Walk h o scratch.old bytes.old row.q row.q (from ∷ due) }
-    ensures { Climbed row from (was scratch) (was bytes) (left scratch) (left bytes) }
+    ensures { Climbed row from scratch.old bytes.old scratch.new bytes.new }
 {
     let mut p = from;
     while p < row.q {
@@ -78,7 +77,7 @@ fn climb(scratch: &mut [u16], bytes: &mut [u8], row: Row, from: usize)
 fn join_edges(adjacent: &[u16], numbering: &[u16], scratch: &mut [u16], bytes: &mut [u8], row: Row)
     requires { Reach numbering.now adjacent.now
         × ((h : Graph) × (o : List ℕ) × IsRow h row × Walk h o scratch.old bytes.old row.q row.q (map (of_node numbering.now) adjacent.now)) }
-    ensures { Joined row (map (of_node (was numbering)) (was adjacent)) (was scratch) (was bytes) (left scratch) (left bytes) }
+    ensures { Joined row (map (of_node numbering.now) adjacent.now) scratch.old bytes.old scratch.new bytes.new }
 {
     let mut i = 0;
     while i < adjacent.len() {
@@ -91,7 +90,7 @@ fn join_edges(adjacent: &[u16], numbering: &[u16], scratch: &mut [u16], bytes: &
 // The row of a node's number.
 fn row_of(starts: &[u16], neighbours: &[u16], numbering: &[u16], node: usize, start: u32) -> Row
     requires { Given starts.now neighbours.now numbering.now × Node (graph_now starts neighbours) node }
-    ensures { result ≡ row_at (new_graph (was starts) (was neighbours) (was numbering)) (of_node (was numbering) node) start }
+    ensures { result ≡ row_at (new_graph starts.now neighbours.now numbering.now) (of_node numbering.now node) start }
 {
     Row {
         q: number(numbering, node),
@@ -114,8 +113,8 @@ fn eliminate_row(
         × Done starts.now neighbours.now numbering.now scratch.old bytes.old done
         × (done < size_now starts)
         × (start ≡ start_of (new_graph starts.now neighbours.now numbering.now) (suc done)) }
-    ensures value { result ≡ start_of (new_graph (was starts) (was neighbours) (was numbering)) (suc (suc done)) }
-    ensures done { Done (was starts) (was neighbours) (was numbering) (left scratch) (left bytes) (suc done) }
+    ensures value { result ≡ start_of (new_graph starts.now neighbours.now numbering.now) (suc (suc done)) }
+    ensures done { Done starts.now neighbours.now numbering.now scratch.new bytes.new (suc done) }
 {
     let node = wide(scratch[done]);
     let row = row_of(starts, neighbours, numbering, node, start);
@@ -135,7 +134,7 @@ fn pass(
 )
     requires { Given starts.now neighbours.now numbering.now
         × Done starts.now neighbours.now numbering.now scratch.old bytes.old 0 }
-    ensures { Done (was starts) (was neighbours) (was numbering) (left scratch) (left bytes) (size_was starts) }
+    ensures { Done starts.now neighbours.now numbering.now scratch.new bytes.new (size_was starts) }
 {
     let n = numbering.len();
     let mut start: u32 = 0;
@@ -157,8 +156,8 @@ fn pass_and_count(
     requires given { Given starts.now neighbours.now numbering.now
         × Done starts.now neighbours.now numbering.now scratch.old bytes.old 0 }
     requires countable { Countable bytes.old }
-    ensures value { result ≡ ones (left bytes) }
-    ensures done { Done (was starts) (was neighbours) (was numbering) (left scratch) (left bytes) (size_was starts) }
+    ensures value { result ≡ ones bytes.new }
+    ensures done { Done starts.now neighbours.now numbering.now scratch.new bytes.new (size_was starts) }
 {
     pass(starts, neighbours, numbering, scratch, bytes);
     store_marks::legal::counting::count(bytes)
@@ -175,9 +174,9 @@ pub fn mark(
     requires { Given starts.now neighbours.now numbering.now
         × (scratch.old ≡ order_of numbering.now)
         × (length bytes.old ≡ mark_byte_count (new_graph starts.now neighbours.now numbering.now)) }
-    ensures value { result ≡ ones (left bytes) }
-    ensures bytes_value { left bytes ≡ mark_bytes (new_graph (was starts) (was neighbours) (was numbering)) }
-    ensures scratch_value { left scratch ≡ replicate (size_was starts) 0 }
+    ensures value { result ≡ ones bytes.new }
+    ensures bytes_value { bytes.new ≡ mark_bytes (new_graph starts.now neighbours.now numbering.now) }
+    ensures scratch_value { scratch.new ≡ replicate (size_was starts) 0 }
 {
     store_marks::legal::clear(bytes, bytes.len());
     let count = pass_and_count(starts, neighbours, numbering, scratch, bytes);

@@ -2,7 +2,6 @@
 // and the marks of the nodes are those of the unknowns.
 ghost use Rattle.std.specs.Prelude.{◌≡◌, length, replicate};
 ghost use Rattle.basis.specs.Lists.{sum};
-ghost use Rattle.basis.specs.Moments.{was, left};
 ghost use Rattle.spec.specs.CallsStore.{elimination_figures};
 ghost use Rattle.spec.specs.Measures.{order_of};
 ghost use Rattle.spec.specs.Store.{mark_byte_count, mark_bytes};
@@ -27,8 +26,8 @@ fn byte_count(
 ) -> usize
     requires given { Given starts.now neighbours.now numbering.now counts.now scratch.old }
     requires total_value { total ≡ sum counts.now }
-    ensures value { result ≡ mark_byte_count (renumbered_unknowns (graph_was starts neighbours) (was counts) (was numbering)) }
-    ensures scratch_value { left scratch ≡ order_of (was numbering) }
+    ensures value { result ≡ mark_byte_count (renumbered_unknowns (graph_was starts neighbours) counts.now numbering.now) }
+    ensures scratch_value { scratch.new ≡ order_of numbering.now }
 {
     if total == numbering.len() {
         return ones::byte_count(starts, neighbours, numbering);
@@ -49,9 +48,9 @@ fn mark(
     requires given { Given starts.now neighbours.now numbering.now counts.now scratch.old }
     requires bytes_len { length bytes.old ≡ mark_byte_count (renumbered_unknowns (graph_now starts neighbours) counts.now numbering.now) }
     requires total_value { total ≡ sum counts.now }
-    ensures result_value { figures_of result ≡ elimination_figures (renumbered_unknowns (graph_was starts neighbours) (was counts) (was numbering)) }
-    ensures scratch_value { left scratch ≡ replicate (size_was starts) 0 }
-    ensures bytes_value { left bytes ≡ mark_bytes (renumbered_unknowns (graph_was starts neighbours) (was counts) (was numbering)) }
+    ensures result_value { figures_of result ≡ elimination_figures (renumbered_unknowns (graph_was starts neighbours) counts.now numbering.now) }
+    ensures scratch_value { scratch.new ≡ replicate (size_was starts) 0 }
+    ensures bytes_value { bytes.new ≡ mark_bytes (renumbered_unknowns (graph_was starts neighbours) counts.now numbering.now) }
 {
     if total == numbering.len() {
         return ones::mark(starts, neighbours, numbering, scratch, bytes);
@@ -71,9 +70,9 @@ pub fn eliminate(
 ) -> Elimination
     requires given { Given starts.now neighbours.now numbering.now counts.now scratch.old }
     requires total_value { total ≡ sum counts.now }
-    ensures result_value { meaning result ≡ eliminated (renumbered_unknowns (graph_was starts neighbours) (was counts) (was numbering)) (was bytes) }
-    ensures scratch_value { left scratch ≡ replicate (size_was starts) 0 }
-    ensures bytes_value { left bytes ≡ bytes_after (renumbered_unknowns (graph_was starts neighbours) (was counts) (was numbering)) (was bytes) }
+    ensures result_value { meaning result ≡ eliminated (renumbered_unknowns (graph_was starts neighbours) counts.now numbering.now) bytes.old }
+    ensures scratch_value { scratch.new ≡ replicate (size_was starts) 0 }
+    ensures bytes_value { bytes.new ≡ bytes_after (renumbered_unknowns (graph_was starts neighbours) counts.now numbering.now) bytes.old }
 {
     let n = numbering.len();
     let m = byte_count(starts, neighbours, counts, numbering, scratch, total);

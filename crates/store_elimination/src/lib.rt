@@ -2,7 +2,6 @@
 #![tactic(auto)]
 
 ghost use Rattle.std.specs.Prelude.{◌≡◌};
-ghost use Rattle.basis.specs.Moments.{was, left};
 ghost use Rattle.spec.specs.CallsStore.{elimination_answer, elimination_scratch, elimination_bytes};
 ghost use Rattle.store_elimination.specs.Answer.{meaning};
 
@@ -23,9 +22,9 @@ pub fn eliminate(
     scratch: &mut [u16],
     bytes: &mut [u8],
 ) -> Elimination
-    ensures result_value { meaning result ≡ elimination_answer (was starts) (was neighbours) (was counts) (was numbering) (was scratch) (was bytes) }
-    ensures scratch_value { left scratch ≡ elimination_scratch (was starts) (was neighbours) (was counts) (was numbering) (was scratch) (was bytes) }
-    ensures bytes_value { left bytes ≡ elimination_bytes (was starts) (was neighbours) (was counts) (was numbering) (was scratch) (was bytes) }
+    ensures result_value { meaning result ≡ elimination_answer starts.now neighbours.now counts.now numbering.now scratch.old bytes.old }
+    ensures scratch_value { scratch.new ≡ elimination_scratch starts.now neighbours.now counts.now numbering.now scratch.old bytes.old }
+    ensures bytes_value { bytes.new ≡ elimination_bytes starts.now neighbours.now counts.now numbering.now scratch.old bytes.old }
 {
     let tested = graph::test_adjacency(starts, neighbours);
     if let Adjacency::Refused(c) = tested {

@@ -2,7 +2,6 @@
 #![tactic(auto)]
 
 ghost use Rattle.std.specs.Prelude.{◌≡◌, ◌||◌, suc, ◌*◌, ◌≤◌, ltb};
-ghost use Rattle.basis.specs.Moments.{was, left};
 ghost use Rattle.spec.specs.CallsMap.{store_map_answer, store_map_scratch, store_map_first, store_map_place};
 ghost use Rattle.store_map.specs.Answer.{meaning};
 
@@ -35,10 +34,10 @@ pub fn store_map(
     first: &mut [u16],
     place: &mut [u32],
 ) -> StoreMap
-    ensures result_value { meaning result ≡ store_map_answer (was starts) (was neighbours) (was counts) (was numbering) (was scratch) (was first) (was place) }
-    ensures scratch_value { left scratch ≡ store_map_scratch (was starts) (was neighbours) (was counts) (was numbering) (was scratch) (was first) (was place) }
-    ensures first_value { left first ≡ store_map_first (was starts) (was neighbours) (was counts) (was numbering) (was scratch) (was first) (was place) }
-    ensures place_value { left place ≡ store_map_place (was starts) (was neighbours) (was counts) (was numbering) (was scratch) (was first) (was place) }
+    ensures result_value { meaning result ≡ store_map_answer starts.now neighbours.now counts.now numbering.now scratch.old first.old place.old }
+    ensures scratch_value { scratch.new ≡ store_map_scratch starts.now neighbours.now counts.now numbering.now scratch.old first.old place.old }
+    ensures first_value { first.new ≡ store_map_first starts.now neighbours.now counts.now numbering.now scratch.old first.old place.old }
+    ensures place_value { place.new ≡ store_map_place starts.now neighbours.now counts.now numbering.now scratch.old first.old place.old }
 {
     let tested = graph::test_adjacency(starts, neighbours);
     if let Adjacency::Refused(c) = tested {

@@ -1,13 +1,12 @@
 // Functions that ask for room: their callers have tested the lengths.
 ghost use Rattle.std.specs.Prelude.{◌≡◌, ◌/◌, ◌≤◌, ◌<◌, length};
-ghost use Rattle.basis.specs.Moments.{was, left};
 ghost use Rattle.spec.specs.Lent.{zeroed};
 ghost use Rattle.store_marks.specs.Marks.{marked, with_mark};
 
 // Sets the first n bytes to 0.
 pub fn clear(bytes: &mut [u8], n: usize)
     requires { n ≤ length bytes.old }
-    ensures { left bytes ≡ zeroed n (was bytes) }
+    ensures { bytes.new ≡ zeroed n bytes.old }
 {
     let mut i = 0;
     while i < n {
@@ -19,7 +18,7 @@ pub fn clear(bytes: &mut [u8], n: usize)
 // Whether place t is marked.
 pub fn test(bytes: &[u8], t: u32) -> bool
     requires { t / 8 < length bytes.now }
-    ensures { result ≡ marked (was bytes) t }
+    ensures { result ≡ marked bytes.now t }
 {
     let at = (t / 8) as usize;
     (bytes[at] >> (t % 8)) & 1 == 1
@@ -28,7 +27,7 @@ pub fn test(bytes: &[u8], t: u32) -> bool
 // Marks place t.
 pub fn set(bytes: &mut [u8], t: u32)
     requires { t / 8 < length bytes.old }
-    ensures { left bytes ≡ with_mark (was bytes) t }
+    ensures { bytes.new ≡ with_mark bytes.old t }
 {
     let at = (t / 8) as usize;
     bytes[at] = bytes[at] | (1u8 << (t % 8));

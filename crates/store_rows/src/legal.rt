@@ -2,7 +2,6 @@
 ghost use Rattle.std.specs.Prelude.{◌≡◌, true, false, map, ◌+◌, ◌≤◌, length, replicate};
 ghost use Rattle.std.proofs.lemmas.List.Edits.{sets};
 ghost use Rattle.basis.specs.Lists.{sum, up_from};
-ghost use Rattle.basis.specs.Moments.{was, left};
 ghost use Rattle.spec.specs.Measures.{is_numbering, order_of, profile};
 ghost use Rattle.spec.specs.StoreMap.{first_columns, row_starts};
 ghost use Rattle.spec.specs.Unknowns.{bad_counts, renumbered_unknowns};
@@ -19,7 +18,7 @@ use graph_words::wide;
 // The words from `at` on, `count` of them, get the value.
 fn fill(words: &mut [u16], at: usize, count: usize, value: u16)
     requires { at + count ≤ length words.old }
-    ensures { left words ≡ sets (was words) at (replicate count value) }
+    ensures { words.new ≡ sets words.old at (replicate count value) }
 {
     let mut i = 0;
     while i < count {
@@ -42,7 +41,7 @@ fn columns(
     requires numbering_value { is_numbering (size_now starts) numbering.now ≡ true }
     requires ahead_value { ahead.now ≡ aheads counts.now (order_of numbering.now) }
     requires first_len { length first.old ≡ sum counts.now }
-    ensures { left first ≡ first_columns (renumbered_unknowns (graph_was starts neighbours) (was counts) (was numbering)) }
+    ensures { first.new ≡ first_columns (renumbered_unknowns (graph_was starts neighbours) counts.now numbering.now) }
 {
     let n = numbering.len();
     let mut p = 0;
@@ -59,8 +58,8 @@ fn columns(
 fn row_starts(first: &[u16], place: &mut [u32]) -> u32
     requires columns { Columns first.now }
     requires place_len { length place.old ≡ length first.now + 1 }
-    ensures value { result ≡ start_by (was first) (length (was first)) }
-    ensures place_value { left place ≡ map (start_by (was first)) (up_from 0 (length (was first) + 1)) }
+    ensures value { result ≡ start_by first.now (length first.now) }
+    ensures place_value { place.new ≡ map (start_by first.now) (up_from 0 (length first.now + 1)) }
 {
     let n = first.len();
     let mut sum: u32 = 0;
@@ -91,10 +90,10 @@ pub fn rows(
     requires scratch_value { scratch.old ≡ order_of numbering.now }
     requires first_len { length first.old ≡ sum counts.now }
     requires place_len { length place.old ≡ sum counts.now + 1 }
-    ensures value { result ≡ profile (renumbered_unknowns (graph_was starts neighbours) (was counts) (was numbering)) }
-    ensures scratch_value_2 { left scratch ≡ replicate (size_was starts) 0 }
-    ensures first_value { left first ≡ first_columns (renumbered_unknowns (graph_was starts neighbours) (was counts) (was numbering)) }
-    ensures place_value { left place ≡ row_starts (renumbered_unknowns (graph_was starts neighbours) (was counts) (was numbering)) }
+    ensures value { result ≡ profile (renumbered_unknowns (graph_was starts neighbours) counts.now numbering.now) }
+    ensures scratch_value_2 { scratch.new ≡ replicate (size_was starts) 0 }
+    ensures first_value { first.new ≡ first_columns (renumbered_unknowns (graph_was starts neighbours) counts.now numbering.now) }
+    ensures place_value { place.new ≡ row_starts (renumbered_unknowns (graph_was starts neighbours) counts.now numbering.now) }
 {
     add_up(counts, scratch);
     columns(starts, neighbours, counts, numbering, scratch, first);

@@ -1,6 +1,5 @@
 // The spread of a legal graph's marks, from the last row to the first: its callers have tested the lists, the numbering, the counts and the room.
 ghost use Rattle.std.specs.Prelude.{◌≡◌, ◌++◌, ℕ, ◌+◌, ◌-◌, ◌≤◌, length, replicate};
-ghost use Rattle.basis.specs.Moments.{was, left};
 ghost use Rattle.spec.specs.Graph.{of_node};
 ghost use Rattle.spec.specs.Measures.{profile};
 ghost use Rattle.spec.specs.Store.{mark_at, mark_bytes, mark_byte_count};
@@ -46,7 +45,7 @@ fn amount(x: u16) -> u32
 // How many unknowns the node of number p has; `order` has the nodes in the order of their numbers.
 fn count_of(counts: &[u16], order: &[u16], p: usize) -> u32
     requires { Listed counts.now order.now × (1 ≤ p) × (p ≤ length order.now) }
-    ensures { result ≡ of_node (counts_in (was counts) (was order)) p }
+    ensures { result ≡ of_node (counts_in counts.now order.now) p }
 {
     let node = wide(order[p - 1]);
     amount(counts[node - 1])
@@ -55,7 +54,7 @@ fn count_of(counts: &[u16], order: &[u16], p: usize) -> u32
 // How many unknowns the nodes of the numbers from .. q − 1 have.
 fn width(counts: &[u16], order: &[u16], from: usize, q: usize) -> u32
     requires { Listed counts.now order.now × (1 ≤ from) × (from ≤ q) × (q ≤ length order.now) }
-    ensures { (result ≡ unknowns_before (counts_in (was counts) (was order)) q - unknowns_before (counts_in (was counts) (was order)) from)
+    ensures { (result ≡ unknowns_before (counts_in counts.now order.now) q - unknowns_before (counts_in counts.now order.now) from)
         × (result ≤ 24576) }
 {
     let mut sum = 0;
@@ -71,7 +70,7 @@ fn width(counts: &[u16], order: &[u16], from: usize, q: usize) -> u32
 fn expand(counts: &[u16], order: &[u16], bytes: &mut [u8], row: Row)
     requires listed { Listed counts.now order.now × Ahead (counts_in counts.now order.now) row.first row.q row.width row.source row.start }
     requires room { Room (length bytes.old) (row.start + row.width) × Clear bytes.old (row.source + (row.q - row.first)) (row.start + row.width) }
-    ensures { Expanded (counts_in (was counts) (was order)) row.first row.q row.source row.start row.first (was bytes) (left bytes) }
+    ensures { Expanded (counts_in counts.now order.now) row.first row.q row.source row.start row.first bytes.old bytes.new }
 {
     let first = row.first;
     let source = row.source;
@@ -98,7 +97,7 @@ fn row_of(
 ) -> Row
     requires given { Given starts.now neighbours.now numbering.now counts.now order.now × (1 ≤ q) × (q ≤ size_now starts) }
     requires ends_at { EndsAt (new_graph starts.now neighbours.now numbering.now) (new_counts counts.now numbering.now) q ends }
-    ensures { result ≡ row_at (new_graph (was starts) (was neighbours) (was numbering)) (new_counts (was counts) (was numbering)) q }
+    ensures { result ≡ row_at (new_graph starts.now neighbours.now numbering.now) (new_counts counts.now numbering.now) q }
 {
     let nodes = ends.nodes;
     let unknowns = ends.unknowns;
@@ -130,9 +129,9 @@ fn spread_row(
     requires given { Given starts.now neighbours.now numbering.now counts.now order.now × (1 ≤ q) × (q ≤ size_now starts) }
     requires ends_at { EndsAt (new_graph starts.now neighbours.now numbering.now) (new_counts counts.now numbering.now) q ends × Room (length bytes.old) ends.unknowns }
     requires spread { Spread (new_graph starts.now neighbours.now numbering.now) (new_counts counts.now numbering.now) q (mark_at bytes.old) }
-    ensures ends_at_2 { EndsAt (new_graph (was starts) (was neighbours) (was numbering)) (new_counts (was counts) (was numbering)) (q - 1) result
+    ensures ends_at_2 { EndsAt (new_graph starts.now neighbours.now numbering.now) (new_counts counts.now numbering.now) (q - 1) result
         × (result.unknowns ≤ ends.unknowns) }
-    ensures spread_2 { Spread (new_graph (was starts) (was neighbours) (was numbering)) (new_counts (was counts) (was numbering)) (q - 1) (mark_at (left bytes)) }
+    ensures spread_2 { Spread (new_graph starts.now neighbours.now numbering.now) (new_counts counts.now numbering.now) (q - 1) (mark_at bytes.new) }
 {
     let row = row_of(starts, neighbours, numbering, counts, order, q, ends);
     expand(counts, order, bytes, row);
@@ -160,7 +159,7 @@ pub fn spread(
         × (unknowns ≡ profile (renumbered_unknowns (graph_now starts neighbours) counts.now numbering.now)) }
     requires bytes_len { (length bytes.old ≡ mark_byte_count (renumbered_unknowns (graph_now starts neighbours) counts.now numbering.now))
         × ((k : ℕ) × (bytes.old ≡ mark_bytes (new_graph starts.now neighbours.now numbering.now) ++ replicate k 0)) }
-    ensures { left bytes ≡ mark_bytes (renumbered_unknowns (graph_was starts neighbours) (was counts) (was numbering)) }
+    ensures { bytes.new ≡ mark_bytes (renumbered_unknowns (graph_was starts neighbours) counts.now numbering.now) }
 {
     let mut ends = Ends { nodes, unknowns };
     let mut q = order.len();

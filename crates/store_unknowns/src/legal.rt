@@ -1,6 +1,5 @@
 // The store in unknowns of a legal graph, numbering and counts: its byte count, and its marks. Callers have tested the lists, and the room.
 ghost use Rattle.std.specs.Prelude.{◌≡◌, true, ◌++◌, ◌-◌, ◌≤◌, length, replicate};
-ghost use Rattle.basis.specs.Moments.{was, left};
 ghost use Rattle.spec.specs.CallsStore.{elimination_figures};
 ghost use Rattle.spec.specs.Measures.{is_numbering, order_of, profile};
 ghost use Rattle.spec.specs.Store.{mark_bytes, mark_byte_count};
@@ -18,7 +17,7 @@ pub mod edges;
 // The order of the numbering, in place of what scratch holds.
 fn order_again(numbering: &[u16], scratch: &mut [u16])
     requires { (length numbering.now ≤ 4096) × (is_numbering (length numbering.now) numbering.now ≡ true) × (length scratch.old ≡ length numbering.now) }
-    ensures { left scratch ≡ order_of (was numbering) }
+    ensures { scratch.new ≡ order_of numbering.now }
 {
     graph_envelope::legal::numbered(numbering, numbering.len(), scratch);
 }
@@ -32,8 +31,8 @@ fn places(
     scratch: &mut [u16],
 ) -> u32
     requires { Given starts.now neighbours.now numbering.now counts.now scratch.old }
-    ensures value { result ≡ profile (renumbered_unknowns (graph_was starts neighbours) (was counts) (was numbering)) }
-    ensures scratch_value { left scratch ≡ order_of (was numbering) }
+    ensures value { result ≡ profile (renumbered_unknowns (graph_was starts neighbours) counts.now numbering.now) }
+    ensures scratch_value { scratch.new ≡ order_of numbering.now }
 {
     graph_envelope::legal::unknowns::add_up(counts, scratch);
     let sum = graph_envelope::legal::unknowns::profile(
@@ -52,8 +51,8 @@ pub fn byte_count(
     scratch: &mut [u16],
 ) -> usize
     requires { Given starts.now neighbours.now numbering.now counts.now scratch.old }
-    ensures value { result ≡ mark_byte_count (renumbered_unknowns (graph_was starts neighbours) (was counts) (was numbering)) }
-    ensures scratch_value { left scratch ≡ order_of (was numbering) }
+    ensures value { result ≡ mark_byte_count (renumbered_unknowns (graph_was starts neighbours) counts.now numbering.now) }
+    ensures scratch_value { scratch.new ≡ order_of numbering.now }
 {
     let profile = places(starts, neighbours, counts, numbering, scratch);
     ((profile + 7) / 8) as usize
@@ -72,9 +71,9 @@ fn mark_nodes(
         × (scratch.old ≡ order_of numbering.now)
         × (nodes ≡ profile (new_graph starts.now neighbours.now numbering.now))
         × (mark_byte_count (new_graph starts.now neighbours.now numbering.now) ≤ length bytes.old) }
-    ensures bytes_value { left bytes ≡ mark_bytes (new_graph (was starts) (was neighbours) (was numbering))
-        ++ replicate (length (was bytes) - mark_byte_count (new_graph (was starts) (was neighbours) (was numbering))) 0 }
-    ensures scratch_value { left scratch ≡ replicate (size_was starts) 0 }
+    ensures bytes_value { bytes.new ≡ mark_bytes (new_graph starts.now neighbours.now numbering.now)
+        ++ replicate (length bytes.old - mark_byte_count (new_graph starts.now neighbours.now numbering.now)) 0 }
+    ensures scratch_value { scratch.new ≡ replicate (size_was starts) 0 }
 {
     let m = ((nodes + 7) / 8) as usize;
     store_marks::legal::clear(bytes, bytes.len());
@@ -96,8 +95,8 @@ fn mark_both(
     requires nodes_value { (nodes ≡ profile (new_graph starts.now neighbours.now numbering.now))
         × (unknowns ≡ profile (renumbered_unknowns (graph_now starts neighbours) counts.now numbering.now))
         × (length bytes.old ≡ mark_byte_count (renumbered_unknowns (graph_now starts neighbours) counts.now numbering.now)) }
-    ensures bytes_value { left bytes ≡ mark_bytes (renumbered_unknowns (graph_was starts neighbours) (was counts) (was numbering)) }
-    ensures scratch_value { left scratch ≡ replicate (size_was starts) 0 }
+    ensures bytes_value { bytes.new ≡ mark_bytes (renumbered_unknowns (graph_was starts neighbours) counts.now numbering.now) }
+    ensures scratch_value { scratch.new ≡ replicate (size_was starts) 0 }
 {
     mark_nodes(starts, neighbours, numbering, scratch, bytes, nodes);
     order_again(numbering, scratch);
@@ -118,8 +117,8 @@ fn mark_all(
 )
     requires given { Given starts.now neighbours.now numbering.now counts.now scratch.old }
     requires bytes_len { length bytes.old ≡ mark_byte_count (renumbered_unknowns (graph_now starts neighbours) counts.now numbering.now) }
-    ensures bytes_value { left bytes ≡ mark_bytes (renumbered_unknowns (graph_was starts neighbours) (was counts) (was numbering)) }
-    ensures scratch_value { left scratch ≡ replicate (size_was starts) 0 }
+    ensures bytes_value { bytes.new ≡ mark_bytes (renumbered_unknowns (graph_was starts neighbours) counts.now numbering.now) }
+    ensures scratch_value { scratch.new ≡ replicate (size_was starts) 0 }
 {
     let unknowns = places(starts, neighbours, counts, numbering, scratch);
     let nodes = graph_envelope::legal::profile(starts, neighbours, numbering);
@@ -138,7 +137,7 @@ fn figures(
 ) -> Counts
     requires counted { Counted starts.now neighbours.now counts.now numbering.now }
     requires bytes_value { bytes.now ≡ mark_bytes (renumbered_unknowns (graph_now starts neighbours) counts.now numbering.now) }
-    ensures { figures_of result ≡ elimination_figures (renumbered_unknowns (graph_was starts neighbours) (was counts) (was numbering)) }
+    ensures { figures_of result ≡ elimination_figures (renumbered_unknowns (graph_was starts neighbours) counts.now numbering.now) }
 {
     let marked = store_marks::legal::counting::count(bytes);
     let joined = edges::edges(starts, neighbours, counts, numbering);
@@ -159,9 +158,9 @@ pub fn mark(
 ) -> Counts
     requires given { Given starts.now neighbours.now numbering.now counts.now scratch.old }
     requires bytes_len { length bytes.old ≡ mark_byte_count (renumbered_unknowns (graph_now starts neighbours) counts.now numbering.now) }
-    ensures result_value { figures_of result ≡ elimination_figures (renumbered_unknowns (graph_was starts neighbours) (was counts) (was numbering)) }
-    ensures scratch_value { left scratch ≡ replicate (size_was starts) 0 }
-    ensures bytes_value { left bytes ≡ mark_bytes (renumbered_unknowns (graph_was starts neighbours) (was counts) (was numbering)) }
+    ensures result_value { figures_of result ≡ elimination_figures (renumbered_unknowns (graph_was starts neighbours) counts.now numbering.now) }
+    ensures scratch_value { scratch.new ≡ replicate (size_was starts) 0 }
+    ensures bytes_value { bytes.new ≡ mark_bytes (renumbered_unknowns (graph_was starts neighbours) counts.now numbering.now) }
 {
     mark_all(starts, neighbours, counts, numbering, scratch, bytes);
     figures(starts, neighbours, counts, numbering, bytes)

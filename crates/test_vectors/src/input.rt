@@ -1,6 +1,5 @@
 // Numbers and lists of standard input. Low byte first.
 ghost use Rattle.std.specs.Prelude.{◌≤◌};
-ghost use Rattle.basis.specs.Moments.{left};
 ghost use Rattle.io.specs.Counts.{IsPrefixLen};
 
 use libc::STDIN_FILENO;
@@ -39,7 +38,7 @@ fn word() -> u16 {
 
 // The next list, its length and its words, to the front of `words`. How many there are, or 0 where there is no room.
 pub fn read(words: &mut [u16]) -> usize
-    ensures { IsPrefixLen result (left words) }
+    ensures { IsPrefixLen result words.new }
 {
     let count = number();
     if words.len() < count {

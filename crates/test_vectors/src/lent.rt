@@ -1,6 +1,5 @@
 // What lent buffers hold before a call.
 ghost use Rattle.io.specs.Counts.{IsPrefixLen};
-ghost use Rattle.basis.specs.Moments.{left};
 
 use crate::input::number;
 
@@ -31,7 +30,7 @@ fn fill_bytes(bytes: &mut [u8]) {
 
 // The length of the next buffer, which is filled, or 0 where there is no room.
 pub fn lend(words: &mut [u16]) -> usize
-    ensures { IsPrefixLen result (left words) }
+    ensures { IsPrefixLen result words.new }
 {
     let count = number();
     if words.len() < count {
@@ -42,7 +41,7 @@ pub fn lend(words: &mut [u16]) -> usize
 }
 
 pub fn lend_bytes(bytes: &mut [u8]) -> usize
-    ensures { IsPrefixLen result (left bytes) }
+    ensures { IsPrefixLen result bytes.new }
 {
     let count = number();
     if bytes.len() < count {

@@ -1,6 +1,5 @@
 // Answers and end contents of lent buffers as text.
 ghost use Rattle.std.specs.Prelude.{◌<◌};
-ghost use Rattle.basis.specs.Moments.{was};
 ghost use Rattle.io.specs.Counts.{IsPrefixLen};
 
 use crate::lent::pattern;
@@ -40,7 +39,7 @@ pub fn end_line() {
 
 // How many words there are up to the last one that isn't as it was lent.
 fn changed(words: &[u16]) -> usize
-    ensures { IsPrefixLen result (was words) }
+    ensures { IsPrefixLen result words.now }
 {
     let mut size = words.len();
     while 0 < size {

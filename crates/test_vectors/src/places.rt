@@ -1,6 +1,5 @@
 // Lent lists of 32 bits, as the store map has: what they hold before a call, and their end contents as text, like those of words.
 ghost use Rattle.io.specs.Counts.{IsPrefixLen};
-ghost use Rattle.basis.specs.Moments.{left, was};
 
 use crate::input::number;
 use crate::output::{wide_step, write_count, write_number};
@@ -20,7 +19,7 @@ fn fill(places: &mut [u32]) {
 
 // The length of the next list, which is filled, or 0 where there is no room.
 pub fn lend_places(places: &mut [u32]) -> usize
-    ensures { IsPrefixLen result (left places) }
+    ensures { IsPrefixLen result places.new }
 {
     let count = number();
     if places.len() < count {
@@ -32,7 +31,7 @@ pub fn lend_places(places: &mut [u32]) -> usize
 
 // How many entries there are up to the last one that isn't as it was lent.
 fn changed(places: &[u32]) -> usize
-    ensures { IsPrefixLen result (was places) }
+    ensures { IsPrefixLen result places.now }
 {
     let mut size = places.len();
     while 0 < size {

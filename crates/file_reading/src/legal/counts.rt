@@ -1,7 +1,6 @@
 // The counts of unknowns, by old number: those of a version 2 file, after its header; "Version 1 means one unknown each".
 ghost use Rattle.std.specs.Prelude.{◌≡◌, ◌≤◌, length, take};
 ghost use Rattle.basis.specs.Lists.{anyb, overwrite};
-ghost use Rattle.basis.specs.Moments.{was, left};
 ghost use Rattle.spec.specs.Graph.{outside};
 ghost use Rattle.spec.specs.Lent.{filled};
 ghost use Rattle.spec.specs.Unknowns.{max_count, ones};
@@ -13,7 +12,7 @@ use crate::legal::nodes;
 // Whether the file carries counts: version 2 does.
 fn has_counts(file: &[u8]) -> bool
     requires { 9 ≤ length file.now }
-    ensures { result ≡ has_counts (was file) }
+    ensures { result ≡ has_counts file.now }
 {
     word_at(file, 3) == 2
 }
@@ -21,7 +20,7 @@ fn has_counts(file: &[u8]) -> bool
 // How many words they take.
 pub(crate) fn count_words(file: &[u8]) -> usize
     requires { header_refusal file.now ≡ 0 }
-    ensures { result ≡ count_words (was file) }
+    ensures { result ≡ count_words file.now }
 {
     if has_counts(file) {
         return nodes(file);
@@ -32,7 +31,7 @@ pub(crate) fn count_words(file: &[u8]) -> usize
 // Whether one of the first words after the header is "outside 1 to 6".
 fn any_outside(file: &[u8], count: usize) -> bool
     requires { count ≤ length (body_words file.now) }
-    ensures { result ≡ anyb (outside max_count) (take count (body_words (was file))) }
+    ensures { result ≡ anyb (outside max_count) (take count (body_words file.now)) }
 {
     let mut i = 0;
     while i < count {
@@ -51,7 +50,7 @@ fn any_outside(file: &[u8], count: usize) -> bool
 // What the counts are refused by, 12 or 15, or 0: "where a file ending within the counts is 12 first".
 fn counts_refusal(file: &[u8]) -> u16
     requires { header_refusal file.now ≡ 0 }
-    ensures { result ≡ counts_refusal (was file) }
+    ensures { result ≡ counts_refusal file.now }
 {
     let count = count_words(file);
     if file.len() < 9 + 2 * count {
@@ -66,7 +65,7 @@ fn counts_refusal(file: &[u8]) -> u16
 // Sets the first n words to 1.
 fn put_ones(list: &mut [u16], n: usize)
     requires { n ≤ length list.old }
-    ensures { left list ≡ overwrite (ones n) (was list) }
+    ensures { list.new ≡ overwrite (ones n) list.old }
 {
     let mut i = 0;
     while i < n {
@@ -79,7 +78,7 @@ fn put_ones(list: &mut [u16], n: usize)
 fn put_counts(file: &[u8], counts: &mut [u16])
     requires file_value { (header_refusal file.now ≡ 0) × (counts_refusal file.now ≡ 0) }
     requires file_in_bounds { file_nodes file.now ≤ length counts.old }
-    ensures { left counts ≡ overwrite (file_counts (was file)) (was counts) }
+    ensures { counts.new ≡ overwrite (file_counts file.now) counts.old }
 {
     let n = nodes(file);
     if has_counts(file) {
@@ -93,8 +92,8 @@ fn put_counts(file: &[u8], counts: &mut [u16])
 pub fn read_counts(file: &[u8], counts: &mut [u16]) -> u16
     requires file_value { header_refusal file.now ≡ 0 }
     requires file_in_bounds { file_nodes file.now ≤ length counts.old }
-    ensures value { result ≡ counts_refusal (was file) }
-    ensures counts_value { left counts ≡ filled (counts_refusal (was file)) (file_counts (was file)) (was counts) }
+    ensures value { result ≡ counts_refusal file.now }
+    ensures counts_value { counts.new ≡ filled (counts_refusal file.now) (file_counts file.now) counts.old }
 {
     let refusal = counts_refusal(file);
     if refusal != 0 {

@@ -1,7 +1,6 @@
 // The envelope in unknowns, from the envelope of the nodes: U of a node is the number of its first unknown, and its words hold U − 1, the
 // unknowns ahead of it.
 ghost use Rattle.std.specs.Prelude.{◌≡◌, true, false, ◌+◌, ◌-◌, ◌*◌, ◌≤◌, length};
-ghost use Rattle.basis.specs.Moments.{was, left};
 ghost use Rattle.spec.specs.Graph.{of_node};
 ghost use Rattle.spec.specs.Measures.{is_numbering, order_of, renumbered, first_in, profile};
 ghost use Rattle.spec.specs.Unknowns.{bad_counts, counts_in, renumbered_unknowns};
@@ -19,7 +18,7 @@ pub fn add_up(counts: &[u16], order: &mut [u16])
     requires counts_value { bad_counts (length counts.now) counts.now ≡ false }
     requires words { Words (length counts.now) order.old }
     requires order_len_bound { length order.old ≤ 4096 }
-    ensures { left order ≡ aheads (was counts) (was order) }
+    ensures { order.new ≡ aheads counts.now order.old }
 {
     let n = order.len();
     let mut sum = 0;
@@ -46,7 +45,7 @@ pub fn width(
     requires node { Node (graph_now starts neighbours) p }
     requires rises { Rises ahead.now }
     requires ahead_len { length ahead.now ≡ size_now starts }
-    ensures { result ≡ of_node (was ahead) (of_node (was numbering) p) - of_node (was ahead) (first_in (renumbered (graph_was starts neighbours) (was numbering)) (of_node (was numbering) p)) }
+    ensures { result ≡ of_node ahead.now (of_node numbering.now p) - of_node ahead.now (first_in (renumbered (graph_was starts neighbours) numbering.now) (of_node numbering.now p)) }
 {
     let q = number(numbering, p);
     let f = first(starts, neighbours, numbering, p);
@@ -78,7 +77,7 @@ fn share_of(
     requires counts_value { bad_counts (size_now starts) counts.now ≡ false }
     requires ahead_value { ahead.now ≡ aheads counts.now (order_of numbering.now) }
     requires node { Node (graph_now starts neighbours) p }
-    ensures { result ≡ node_span (renumbered (graph_was starts neighbours) (was numbering)) (counts_in (was counts) (order_of (was numbering))) (of_node (was numbering) p) }
+    ensures { result ≡ node_span (renumbered (graph_was starts neighbours) numbering.now) (counts_in counts.now (order_of numbering.now)) (of_node numbering.now p) }
 {
     let c = number(counts, p);
     share(c, width(starts, neighbours, numbering, ahead, p))
@@ -97,7 +96,7 @@ pub fn profile(
     requires numbering_value { is_numbering (size_now starts) numbering.now ≡ true }
     requires counts_value { bad_counts (size_now starts) counts.now ≡ false }
     requires ahead_value { ahead.now ≡ aheads counts.now (order_of numbering.now) }
-    ensures { result ≡ profile (renumbered_unknowns (graph_was starts neighbours) (was counts) (was numbering)) }
+    ensures { result ≡ profile (renumbered_unknowns (graph_was starts neighbours) counts.now numbering.now) }
 {
     let n = numbering.len();
     let mut sum: u32 = 0;

@@ -2,7 +2,6 @@
 // on, is two words behind those of the rows: a position and the next cell, which is lower.
 ghost use Rattle.std.specs.Prelude.{◌≡◌, ℕ, suc, ◌+◌, ◌*◌, ◌<◌, ◌≤◌, true, length, ◌==◌, ◌≢◌, nat_eq};
 ghost use Rattle.basis.specs.Lists.{memb};
-ghost use Rattle.basis.specs.Moments.{was, left};
 ghost use Rattle.spec.specs.Mesh.{elements_refusal};
 ghost use Rattle.mesh_incidence.specs.Cells.{Cells, pushed, Entered, Listed};
 
@@ -17,7 +16,7 @@ pub fn row_of(p: u16, base: usize) -> usize
 // Puts a position in front of the list of a row, as this cell.
 fn push(lists: &mut [u16], row: usize, rows: usize, cell: usize, at: u16)
     requires { (row < rows) × (rows + 2 * cell + 1 < length lists.old) × (length lists.old ≤ 4096) }
-    ensures { left lists ≡ pushed rows (was lists) row cell at }
+    ensures { lists.new ≡ pushed rows lists.old row cell at }
 {
     let first = lists[row];
     let to = rows + 2 * cell;
@@ -29,7 +28,7 @@ fn push(lists: &mut [u16], row: usize, rows: usize, cell: usize, at: u16)
 // Enters a position in the list of a row; returns the cell that is free then, 0 where the words are full.
 fn enter_row(lists: &mut [u16], row: usize, rows: usize, cell: usize, at: u16) -> usize
     requires { (length lists.old ≤ 4096) × Cells rows lists.old cell × (row < rows) }
-    ensures { (result ≢ 0) → Entered at rows (λ k. nat_eq k row) (was lists) cell (left lists) result }
+    ensures { (result ≢ 0) → Entered at rows (λ k. nat_eq k row) lists.old cell lists.new result }
 {
     let next = cell + 1;
     if lists.len() < rows + 2 * next {
@@ -43,7 +42,7 @@ fn enter_row(lists: &mut [u16], row: usize, rows: usize, cell: usize, at: u16) -
 // order that could be foreseen: one test passes them by.
 fn enter(lists: &mut [u16], nodes: &[u16], at: u16, base: usize, rows: usize, cell: usize) -> usize
     requires { (length lists.old ≤ 4096) × Cells rows lists.old cell }
-    ensures { (result ≢ 0) → Entered at rows (λ k. memb (base + suc k) (was nodes)) (was lists) cell (left lists) result }
+    ensures { (result ≢ 0) → Entered at rows (λ k. memb (base + suc k) nodes.now) lists.old cell lists.new result }
 {
     let mut free = cell;
     let mut j = 0;
@@ -64,7 +63,7 @@ fn enter(lists: &mut [u16], nodes: &[u16], at: u16, base: usize, rows: usize, ce
 fn list(lists: &mut [u16], elements: &[u16], base: usize, rows: usize) -> bool
     requires lists_len_bound { (length lists.old ≤ 4096) × (rows + 2 ≤ length lists.old) × (length elements.now ≤ 65536) }
     requires elements_value { elements_refusal (length elements.now) (length lists.old) elements.now ≡ 0 }
-    ensures { result ≡ true → Listed (was elements) base rows (left lists) }
+    ensures { result ≡ true → Listed elements.now base rows lists.new }
 {
     graph_words::legal::clear(lists, rows);
     let mut cell = 1;
@@ -86,7 +85,7 @@ fn list(lists: &mut [u16], elements: &[u16], base: usize, rows: usize) -> bool
 pub fn list_rows(lists: &mut [u16], elements: &[u16], base: usize, most: usize) -> usize
     requires lists_len_bound { (length lists.old ≤ 4096) × (most + 2 ≤ length lists.old) × (length elements.now ≤ 65536) }
     requires elements_value { elements_refusal (length elements.now) (length lists.old) elements.now ≡ 0 }
-    ensures { (result ≤ most) × (1 ≤ result → Listed (was elements) base result (left lists)) }
+    ensures { (result ≤ most) × (1 ≤ result → Listed elements.now base result lists.new) }
 {
     let mut rows = most;
     while 64 < rows {

@@ -1,6 +1,5 @@
 // All rows, as many at a time as the lists of their elements have room for, or 64 without lists.
 ghost use Rattle.std.specs.Prelude.{◌≡◌, ◌+◌, ◌≤◌, ◌<◌, length, replicate};
-ghost use Rattle.basis.specs.Moments.{was, left};
 ghost use Rattle.spec.specs.Mesh.{elements_refusal};
 ghost use Rattle.spec.specs.CallsMesh.{graph_of_elements};
 ghost use Rattle.mesh_rowset.specs.Set.{Empty};
@@ -24,7 +23,7 @@ fn to_try(guess: usize, last: usize) -> usize
 fn list_some(lists: &mut [u16], elements: &[u16], base: usize, last: usize) -> usize
     requires lists_len_bound { (length lists.old ≤ 4096) × (base < length lists.old) × (last ≤ 4096) }
     requires elements_value { elements_refusal (length elements.now) (length lists.old) elements.now ≡ 0 }
-    ensures { (base + result ≤ length (was lists)) × (1 ≤ result → Listed (was elements) base result (left lists)) }
+    ensures { (base + result ≤ length lists.old) × (1 ≤ result → Listed elements.now base result lists.new) }
 {
     let n = lists.len();
     if 65536 < elements.len() {
@@ -43,7 +42,7 @@ fn list_some(lists: &mut [u16], elements: &[u16], base: usize, last: usize) -> u
 fn next_rows(lists: &mut [u16], elements: &[u16], base: usize, last: usize) -> usize
     requires lists_len_bound { (length lists.old ≤ 4096) × (base < length lists.old) × (last ≤ 4096) }
     requires elements_value { elements_refusal (length elements.now) (length lists.old) elements.now ≡ 0 }
-    ensures { (1 ≤ result) × (base + result ≤ length (was lists)) × (64 < result → Listed (was elements) base result (left lists)) }
+    ensures { (1 ≤ result) × (base + result ≤ length lists.old) × (64 < result → Listed elements.now base result lists.new) }
 {
     let group = graph_words::smaller(lists.len() - base, 64);
     graph_words::larger(list_some(lists, elements, base, last), group)
@@ -63,8 +62,8 @@ fn listed_rows(
     requires ready { Ready (length lists.now) elements.now starts.old × Clean bits.old }
     requires listed { Listed elements.now base rows lists.now × (base + rows ≤ length lists.now) }
     requires at_value { at ≡ entries_to (graph_of_elements (length lists.now) elements.now) base }
-    ensures empty { Empty (left bits) }
-    ensures goes { Goes (graph_of_elements (length (was lists)) (was elements)) base (was starts) (was neighbours) (base + rows) (left starts) (left neighbours) result }
+    ensures empty { Empty bits.new }
+    ensures goes { Goes (graph_of_elements (length lists.now) elements.now) base starts.old neighbours.old (base + rows) starts.new neighbours.new result }
 {
     let mut to = at;
     let mut row = 0;
@@ -91,7 +90,7 @@ fn gathered_rows(
     requires ready { Ready n elements.now starts.old × (rows ≤ 64) × (base + rows ≤ n) }
     requires group_value { group.old ≡ replicate 4096 0 }
     requires at_value { at ≡ entries_to (graph_of_elements n elements.now) base }
-    ensures { Goes (graph_of_elements n (was elements)) base (was starts) (was neighbours) (base + rows) (left starts) (left neighbours) result }
+    ensures { Goes (graph_of_elements n elements.now) base starts.old neighbours.old (base + rows) starts.new neighbours.new result }
 {
     mesh_gather::legal::gather(group, elements, base);
     let mut to = at;
@@ -115,7 +114,7 @@ fn group_rows(
 ) -> usize
     requires ready { Ready n elements.now starts.old × (rows ≤ 64) × (base + rows ≤ n) }
     requires at_value { at ≡ entries_to (graph_of_elements n elements.now) base }
-    ensures { Goes (graph_of_elements n (was elements)) base (was starts) (was neighbours) (base + rows) (left starts) (left neighbours) result }
+    ensures { Goes (graph_of_elements n elements.now) base starts.old neighbours.old (base + rows) starts.new neighbours.new result }
 {
     let mut group = [0u64; 4096];
     gathered_rows(&mut group, n, elements, base, rows, at, starts, neighbours)
@@ -135,8 +134,8 @@ fn some_rows(
     requires ready { Ready (length lists.now) elements.now starts.old × Clean bits.old }
     requires listed { (64 < rows → Listed elements.now base rows lists.now) × (base + rows ≤ length lists.now) }
     requires at_value { at ≡ entries_to (graph_of_elements (length lists.now) elements.now) base }
-    ensures empty { Empty (left bits) }
-    ensures goes { Goes (graph_of_elements (length (was lists)) (was elements)) base (was starts) (was neighbours) (base + rows) (left starts) (left neighbours) result }
+    ensures empty { Empty bits.new }
+    ensures goes { Goes (graph_of_elements (length lists.now) elements.now) base starts.old neighbours.old (base + rows) starts.new neighbours.new result }
 {
     if rows <= 64 {
         let n = lists.len();
@@ -154,8 +153,8 @@ pub(crate) fn all_rows(
     neighbours: &mut [u16],
 ) -> usize
     requires { Ready (length lists.old) elements.now starts.old × Clean bits.old }
-    ensures value { result ≡ entries_to (graph_of_elements (length (was lists)) (was elements)) (length (was lists)) }
-    ensures laid { Laid (graph_of_elements (length (was lists)) (was elements)) (was starts) (was neighbours) (length (was lists)) (left starts) (left neighbours) }
+    ensures value { result ≡ entries_to (graph_of_elements (length lists.old) elements.now) (length lists.old) }
+    ensures laid { Laid (graph_of_elements (length lists.old) elements.now) starts.old neighbours.old (length lists.old) starts.new neighbours.new }
 {
     let n = lists.len();
     if n <= 64 {

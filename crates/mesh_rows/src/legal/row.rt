@@ -1,7 +1,6 @@
 // One row: its set is filled out of its elements, and emptied into the lists. Past the end of a list, what would be written is only counted.
 ghost use Rattle.std.specs.Prelude.{◌≡◌, ℕ, ◌+◌, ◌≤◌, ◌<◌, length, set};
 ghost use Rattle.std.proofs.lemmas.List.Edits.{sets};
-ghost use Rattle.basis.specs.Moments.{was, left};
 ghost use Rattle.spec.specs.CallsMesh.{graph_of_elements};
 ghost use Rattle.mesh_rowset.specs.Set.{Covered, Empty, members};
 ghost use Rattle.mesh_incidence.specs.Cells.{Listed};
@@ -11,7 +10,7 @@ ghost use Rattle.mesh_rows.specs.Rows.{entries_to, Ready, Clean, Goes};
 // Writes where row p ends.
 fn mark_end(starts: &mut [u16], p: usize, to: usize)
     requires { p < length starts.old → to ≤ 32768 }
-    ensures { left starts ≡ set (was starts) p to }
+    ensures { starts.new ≡ set starts.old p to }
 {
     if p < starts.len() {
         starts[p] = to as u16;
@@ -29,10 +28,10 @@ fn close_row(
 ) -> usize
     requires bits_len { (length bits.old ≡ 64) × Covered mask bits.old × (at ≤ 2147483648) }
     requires bits_bound { p < length starts.old → at + length (members p bits.old) ≤ 32768 }
-    ensures value { result ≡ at + length (members p (was bits)) }
-    ensures empty { Empty (left bits) }
-    ensures starts_value { left starts ≡ set (was starts) p result }
-    ensures neighbours_value { left neighbours ≡ sets (was neighbours) at (members p (was bits)) }
+    ensures value { result ≡ at + length (members p bits.old) }
+    ensures empty { Empty bits.new }
+    ensures starts_value { starts.new ≡ set starts.old p result }
+    ensures neighbours_value { neighbours.new ≡ sets neighbours.old at (members p bits.old) }
 {
     let to = mesh_rowset::legal::empty(bits, mask, p, at, neighbours);
     mark_end(starts, p, to);
@@ -54,8 +53,8 @@ pub(crate) fn listed_row(
     requires ready { Ready (length lists.now) elements.now starts.old × Clean bits.old }
     requires listed { Listed elements.now base rows lists.now × (row < rows) × (base + rows ≤ length lists.now) }
     requires at_value { at ≡ entries_to (graph_of_elements (length lists.now) elements.now) (base + row) }
-    ensures empty { Empty (left bits) }
-    ensures goes { Goes (graph_of_elements (length (was lists)) (was elements)) (base + row) (was starts) (was neighbours) (base + row + 1) (left starts) (left neighbours) result }
+    ensures empty { Empty bits.new }
+    ensures goes { Goes (graph_of_elements (length lists.now) elements.now) (base + row) starts.old neighbours.old (base + row + 1) starts.new neighbours.new result }
 {
     let mask = mesh_incidence::legal::adding::add_listed(bits, lists, elements, rows, row);
     close_row(bits, mask, base + row + 1, at, starts, neighbours)
@@ -72,10 +71,10 @@ pub(crate) fn gathered_row(
 ) -> usize
     requires group_len { (length group.old ≡ 4096) × (row < 64) × (base + row < 4096) × (at ≤ 2147483648) }
     requires row_bound { base + row + 1 < length starts.old → at + length (members (base + row + 1) (set_at group.old row)) ≤ 32768 }
-    ensures value { result ≡ at + length (members (base + row + 1) (set_at (was group) row)) }
-    ensures by_index { (k : ℕ) → row < k → set_at (left group) k ≡ set_at (was group) k }
-    ensures starts_value { left starts ≡ set (was starts) (base + row + 1) result }
-    ensures neighbours_value { left neighbours ≡ sets (was neighbours) at (members (base + row + 1) (set_at (was group) row)) }
+    ensures value { result ≡ at + length (members (base + row + 1) (set_at group.old row)) }
+    ensures by_index { (k : ℕ) → row < k → set_at group.new k ≡ set_at group.old k }
+    ensures starts_value { starts.new ≡ set starts.old (base + row + 1) result }
+    ensures neighbours_value { neighbours.new ≡ sets neighbours.old at (members (base + row + 1) (set_at group.old row)) }
 {
     let first = 64 * row;
     let next = first + 64;

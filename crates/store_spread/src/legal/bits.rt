@@ -1,12 +1,11 @@
 // Marks moved and repeated within lent bytes. All functions ask for room: their callers have tested the lengths.
 ghost use Rattle.std.specs.Prelude.{◌≡◌, ◌+◌, ◌/◌, ◌≤◌, ◌<◌, length};
-ghost use Rattle.basis.specs.Moments.{was, left};
 ghost use Rattle.store_spread.specs.Places.{turned_mark, Room, Clear, Filled, Moved, Copied, row_start, Repeated};
 
 // Unsets the mark of place t, which is set.
 fn unset(bytes: &mut [u8], t: u32)
     requires { t / 8 < length bytes.old }
-    ensures { left bytes ≡ turned_mark (was bytes) t }
+    ensures { bytes.new ≡ turned_mark bytes.old t }
 {
     let at = (t / 8) as usize;
     bytes[at] = bytes[at] ^ (1u8 << (t % 8));
@@ -15,7 +14,7 @@ fn unset(bytes: &mut [u8], t: u32)
 // Marks c places from t on.
 fn fill(bytes: &mut [u8], t: u32, c: u32)
     requires { Room (length bytes.old) (t + c) }
-    ensures { Filled (was bytes) (left bytes) t c }
+    ensures { Filled bytes.old bytes.new t c }
 {
     let mut i = 0;
     while i < c {
@@ -28,7 +27,7 @@ fn fill(bytes: &mut [u8], t: u32, c: u32)
 pub fn shift(bytes: &mut [u8], s: u32, t: u32, c: u32)
     requires room { Room (length bytes.old) (t + c) }
     requires s_le_t { (s ≤ t) × (1 ≤ c) × Clear bytes.old (s + 1) (t + c) }
-    ensures { Moved (was bytes) (left bytes) s t c }
+    ensures { Moved bytes.old bytes.new s t c }
 {
     if store_marks::legal::test(bytes, s) {
         unset(bytes, s);
@@ -40,7 +39,7 @@ pub fn shift(bytes: &mut [u8], s: u32, t: u32, c: u32)
 fn copy_mark(bytes: &mut [u8], s: u32, t: u32)
     requires room { Room (length bytes.old) (t + 1) }
     requires s_lt_t { (s < t) × Clear bytes.old t (t + 1) }
-    ensures { Copied (was bytes) (left bytes) s t 1 }
+    ensures { Copied bytes.old bytes.new s t 1 }
 {
     if store_marks::legal::test(bytes, s) {
         store_marks::legal::set(bytes, t);
@@ -51,7 +50,7 @@ fn copy_mark(bytes: &mut [u8], s: u32, t: u32)
 fn copy(bytes: &mut [u8], s: u32, t: u32, w: u32)
     requires room { Room (length bytes.old) (t + w) }
     requires w_bound { (s + w ≤ t) × Clear bytes.old t (t + w) }
-    ensures { Copied (was bytes) (left bytes) s t w }
+    ensures { Copied bytes.old bytes.new s t w }
 {
     let mut i = 0;
     while i < w {
@@ -64,7 +63,7 @@ fn copy(bytes: &mut [u8], s: u32, t: u32, w: u32)
 pub fn repeat(bytes: &mut [u8], s: u32, w: u32, c: u32)
     requires room { Room (length bytes.old) (row_start s w c) }
     requires le_c { (1 ≤ c) × Clear bytes.old (s + w) (row_start s w c) }
-    ensures { Repeated (was bytes) (left bytes) s w c }
+    ensures { Repeated bytes.old bytes.new s w c }
 {
     let mut t = s + w;
     let mut j = 1;

@@ -1,7 +1,6 @@
 // The pairs of unknowns that are joined at first: those of one node, and those of two nodes that adjoin.
 ghost use Rattle.std.specs.Prelude.{◌≡◌, ◌+◌, ◌≤◌, length};
 ghost use Rattle.basis.specs.Lists.{sum};
-ghost use Rattle.basis.specs.Moments.{was};
 ghost use Rattle.spec.specs.Graph.{of_node};
 ghost use Rattle.laws.specs.Handed.{graph_now};
 ghost use Rattle.laws.specs.Legal.{Node};
@@ -18,7 +17,7 @@ use graph_words::wide;
 // The unknowns of node q where its number is below `own`, and else none.
 fn if_lower(counts: &[u16], numbering: &[u16], q: usize, own: usize) -> usize
     requires { (1 ≤ q) × (q ≤ length counts.now) × (q ≤ length numbering.now) }
-    ensures { result ≡ lower (was counts) (was numbering) own q }
+    ensures { result ≡ lower counts.now numbering.now own q }
 {
     if number(numbering, q) < own {
         return number(counts, q);
@@ -30,7 +29,7 @@ fn if_lower(counts: &[u16], numbering: &[u16], q: usize, own: usize) -> usize
 fn lower_row(row: &[u16], counts: &[u16], numbering: &[u16], own: usize) -> usize
     requires words { Words (length counts.now) row.now × (length numbering.now ≡ length counts.now) }
     requires row_bound { lowers counts.now numbering.now own row.now ≤ 24576 }
-    ensures { result ≡ lowers (was counts) (was numbering) own (was row) }
+    ensures { result ≡ lowers counts.now numbering.now own row.now }
 {
     let mut sum = 0;
     let mut j = 0;
@@ -51,7 +50,7 @@ fn node_edges(
     p: usize,
 ) -> u32
     requires { Counted starts.now neighbours.now counts.now numbering.now × Node (graph_now starts neighbours) p }
-    ensures { result ≡ edges_at (new_graph (was starts) (was neighbours) (was numbering)) (new_counts (was counts) (was numbering)) (of_node (was numbering) p) }
+    ensures { result ≡ edges_at (new_graph starts.now neighbours.now numbering.now) (new_counts counts.now numbering.now) (of_node numbering.now p) }
 {
     let own = number(numbering, p);
     let c = number(counts, p);
@@ -62,7 +61,7 @@ fn node_edges(
 // All of them, each at its upper number.
 pub fn edges(starts: &[u16], neighbours: &[u16], counts: &[u16], numbering: &[u16]) -> u32
     requires { Counted starts.now neighbours.now counts.now numbering.now }
-    ensures { result ≡ unknown_edges (new_graph (was starts) (was neighbours) (was numbering)) (new_counts (was counts) (was numbering)) }
+    ensures { result ≡ unknown_edges (new_graph starts.now neighbours.now numbering.now) (new_counts counts.now numbering.now) }
 {
     let n = numbering.len();
     let mut sum: u32 = 0;
