@@ -1,0 +1,15 @@
+-- `store_marks::legal::counting::count_bytes` meets its contract: the places of the bytes passed are counted. Assumes nothing.
+use Prim.Native.Nat.{ℕ, ◌+◌, ◌-◌, ◌≤◌}
+use mathlib.Core.Path.{◌≡◌, sym, ap, ap₂, ◌∙◌}
+use native.Mathlib.Omega.{arith}
+use lib.Count as Count
+use lib.ListN.{length, get_or}
+use Rattle.store_marks.specs.Marks.{ones_in}
+use Rattle.store_marks.proofs.Words.{in_next, in_most, in_none, one_byte}
+use Rattle.store_marks.proofs.legal.counting.count_bytes.Given as goal
+
+abbrev pub invariant-loop-i : goal.invariant-loop-i
+invariant-loop-i l = (l.from ≤ l.i) × (l.i ≤ length l.bytes) × (l.total ≡ ones_in l.bytes l.from (l.i - l.from))
+
+abbrev pub decreases-loop-i : goal.decreases-loop-i
+decreases-loop-i l = length l.bytes - l.i
