@@ -1,5 +1,5 @@
 -- A piece as it is found from its first node: what is found is what a closed set must hold, and nothing else. Assumes nothing.
-use mathlib.Core.Path.{◌≡◌, refl, sym, ap, ◌∙◌}
+use mathlib.Core.Path.{◌≡◌, refl, sym, ap, ◌∙◌, subst}
 use mathlib.Core.Logic.{◌⊎◌, ⊎_elim}
 use mathlib.Core.Bool.{Bool, true, false, ◌&&◌, ◌||◌, cond}
 use mathlib.Core.List.{List, [], ◌∷◌, ◌++◌}
@@ -163,7 +163,7 @@ module _ {g : Graph} (G : LegalGraph g) {t : ℕ → Bool} {w : ℕ} {L₀ : Lis
           where
             go : (F : List ℕ) → head_or 0 F ≡ w → ((q : ℕ) → memb q F ≡ true → Node g q) → memb w F ≡ true
             go [] e f = absurd (omega (arith, N.low))
-            go (x ∷ F) e f = rw (sym e) (memb_here x F)
+            go (x ∷ F) e f = subst (λ (y : ℕ). memb y (x ∷ F) ≡ true) e (memb_here x F)
 
         on : (x y : ℕ) → memb x F ≡ true → adjoins (restrict g t) x y ≡ true → memb y F ≡ true
         on x y m a =

@@ -1,5 +1,5 @@
 -- The loop that finds the piece of a node in the words: what it asks, its invariant, and the same in one slice. Assumes nothing.
-use mathlib.Core.Path.{◌≡◌, refl, sym, ap, ◌∙◌}
+use mathlib.Core.Path.{◌≡◌, refl, sym, ap, ◌∙◌, subst}
 use mathlib.Core.Logic.{⊎_elim}
 use mathlib.Core.Bool.{Bool, true, false, not, ◌&&◌}
 use mathlib.Core.List.{List, [], ◌∷◌, ◌++◌}
@@ -154,7 +154,7 @@ module _ {g : Graph} {n : ℕ} {W₀ L₀ : List ℕ} {s z : ℕ} {W L : List �
         where
           go : (F : List ℕ) → head_or 0 F ≡ z → memb z F ≡ true
           go [] e = absurd (omega (arith, Z.low))
-          go (x ∷ F) e = rw (sym e) (memb_here x F)
+          go (x ∷ F) e = subst (λ (y : ℕ). memb y (x ∷ F) ≡ true) e (memb_here x F)
 
       same_mark : (q : ℕ) → 1 ≤ q → q ≤ n → eqb (at (set L (z - 1) (t - s)) q) 0 ≡ eqb (at L q) 0
       same_mark q l h = by_test (eqb q z)

@@ -1,0 +1,24 @@
+-- `graph_envelope::legal::settle` meets its contract: the nodes passed stand at their numbers. Assumes nothing.
+use Prim.Native.Nat.{ℕ, ◌-◌, ◌≤◌}
+use mathlib.Core.Path.{◌≡◌, refl, sym, ap, ◌∙◌, subst}
+use mathlib.Core.Bool.{false≢true}
+use mathlib.Core.List.{List}
+use native.Mathlib.Omega.{arith}
+use borrow.Author.Rules.{rules}
+use lib.ListN.{length, length-set, length-replicate}
+use Rattle.graph_envelope.specs.Numbers.{Settled}
+use Rattle.graph_envelope.proofs.Settle.{settle_none, settle_more, settle_zero, settle_high, settle_taken, settle_passes, settle_order}
+use Rattle.graph_envelope.proofs.legal.settle.Given as goal
+
+-- the first i nodes stand at their numbers
+pub record Settling (x order₀ order : List ℕ) (i : ℕ) : Type 0 where
+  pub inside : i ≤ length x
+  pub same_length : length order ≡ length order₀
+  pub words : length order₀ ≡ length x
+  pub settled : Settled x order i
+
+abbrev pub invariant-loop-i : goal.invariant-loop-i
+invariant-loop-i l = Settling l.numbering l.initial.order l.order l.i
+
+abbrev pub decreases-loop-i : goal.decreases-loop-i
+decreases-loop-i l = length l.numbering - l.i

@@ -1,0 +1,17 @@
+-- `graph_envelope::legal::unknowns::add_up` meets its contract: the words passed are sums, the others still nodes. Assumes nothing.
+use Prim.Native.Nat.{ℕ, ◌-◌, ◌*◌, ◌≤◌}
+use mathlib.Core.Path.{◌≡◌, refl, sym, ap, ◌∙◌}
+use native.Mathlib.Omega.{arith}
+use borrow.Author.Rules.{rules}
+use lib.ListN.{length, get_or}
+use Rattle.spec.specs.Graph.{of_node}
+use Rattle.laws.specs.Unknowns.{ahead}
+use Rattle.graph_envelope.specs.Aheads.{Made}
+use Rattle.graph_envelope.proofs.Ahead.{made_none, made_more, listed_most, ahead_most, ahead_none, ahead_more, aheads_made}
+use Rattle.graph_envelope.proofs.legal.unknowns.add_up.Given as goal
+
+abbrev pub invariant-loop-i : goal.invariant-loop-i
+invariant-loop-i l = (l.i ≤ length l.initial.order) × (length l.order ≡ length l.initial.order) × (l.sum ≡ ahead l.counts l.initial.order l.i) × Made (ahead l.counts l.initial.order) l.initial.order l.i l.order
+
+abbrev pub decreases-loop-i : goal.decreases-loop-i
+decreases-loop-i l = length l.initial.order - l.i
