@@ -1,0 +1,12 @@
+-- `levels_place::legal::lower` meets its contract. Assumes nothing.
+use Prim.Native.Nat.{◌-◌, ◌<◌}
+use native.Mathlib.Omega.{arith}
+use lib.ListN.{length}
+use Rattle.levels_laws.proofs.RaiseLower.{LoweringIn, pass_size, pass_room, pass_read, pass_in, lower_begin_in, lower_pass, lower-some, lower-step_in, lower_done_in}
+use Rattle.levels_place.proofs.legal.lower.Given as goal
+
+abbrev pub invariant-loop-p : goal.invariant-loop-p
+invariant-loop-p l = LoweringIn l.n l.base l.s l.t l.initial.scratch l.scratch l.p
+
+abbrev pub decreases-loop-p : goal.decreases-loop-p
+decreases-loop-p l = l.t - l.p

@@ -1,0 +1,14 @@
+-- `levels_place::legal::put` meets its contract. Assumes nothing.
+use Prim.Native.Nat.{◌-◌}
+use native.Mathlib.Omega.{arith}
+use borrow.Author.Rules.{rules}
+use Rattle.levels_laws.specs.Areas.{work_of}
+use Rattle.levels_laws.proofs.Slots.{Located}
+use Rattle.levels_laws.proofs.PutLevels.{Putting, put_begin, put_at, put_step, put_done}
+use Rattle.levels_place.proofs.legal.put.Given as goal
+
+abbrev pub invariant-loop-p : goal.invariant-loop-p
+invariant-loop-p l = Putting l.n l.base l.s l.t l.initial.scratch l.scratch l.p
+
+abbrev pub decreases-loop-p : goal.decreases-loop-p
+decreases-loop-p l = l.t - l.p

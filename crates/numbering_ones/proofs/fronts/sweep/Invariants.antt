@@ -1,0 +1,26 @@
+-- `numbering_ones::fronts::sweep` meets its contract: the words passed are summed, and are 0. Assumes nothing.
+use Prim.Native.Nat.{ℕ, ◌+◌, ◌-◌, ◌≤◌, max}
+use mathlib.Core.Path.{◌≡◌, refl, sym, ap, ap₂, ◌∙◌}
+use mathlib.Core.List.{List, ◌++◌, map}
+use native.Mathlib.Omega.{arith}
+use borrow.Author.Rules.{rules}
+use borrow.Author.Fill.{fill_more}
+use lib.ListN.{length, set, take, drop, replicate, length-set}
+use Rattle.basis.specs.Lists.{greatest, sum, up_from}
+use Rattle.numbering_ones.proofs.Passed.{take_more, word-ahead, words-passed}
+use Rattle.numbering_ones.proofs.Swept.{sweep_more}
+use Rattle.numbering_ones.proofs.fronts.sweep.Given as goal
+
+-- after i words of C: they are 0, their sum, and the greatest front so far
+pub record Swept (C counts : List ℕ) (live most i : ℕ) : Type 0 where
+  pub inside : i ≤ length C
+  pub same_length : length counts ≡ length C
+  pub cleared : counts ≡ replicate i 0 ++ drop i C
+  pub live-is : live ≡ sum (take i C)
+  pub most-is : most ≡ greatest (map (λ i. sum (take i C) - (i - 1)) (up_from 1 i))
+
+abbrev pub invariant-loop-i : goal.invariant-loop-i
+invariant-loop-i l = Swept l.initial.counts l.counts l.live l.most l.i
+
+abbrev pub decreases-loop-i : goal.decreases-loop-i
+decreases-loop-i l = length l.initial.counts - l.i

@@ -1,0 +1,34 @@
+-- `numbering_ones::legal::walk` meets its contract: the spans of the nodes passed are taken in, and their f counted. Assumes nothing.
+use Prim.Native.Nat.{ℕ, ◌+◌, ◌-◌, ◌*◌, ◌≤◌, ◌<◌}
+use mathlib.Core.Path.{◌≡◌, refl, sym, ap, ap₂, ◌∙◌}
+use mathlib.Core.List.{List}
+use native.Mathlib.Omega.{arith}
+use borrow.Author.Rules.{rules}
+use lib.ListN.{length, get_or, set, length-set}
+use Rattle.spec.specs.Graph.{Graph, size_of, graph_of}
+use Rattle.spec.specs.Measures.{row_span}
+use Rattle.laws.specs.Legal.{Node}
+use Rattle.laws.proofs.Numberings.{numbering_length}
+use Rattle.graph_envelope.proofs.Folds.{greatest_more}
+use Rattle.graph_envelope.proofs.Envelope.{spans, spans_more, spans_all, first_low, first_most, number_most}
+use Rattle.numbering_ones.specs.Fronts.{opened}
+use Rattle.numbering_ones.proofs.Opened.{length-opened, opened_none, opened_most, opened_more}
+use Rattle.numbering_ones.proofs.Widths.{span_of, widest, widest-all}
+use Rattle.numbering_ones.proofs.legal.walk.Given as goal
+
+-- after p nodes of the n: the widest span, the sum of the spans, and how many rows begin at each number
+pub record Walked (g : Graph) (x counts₀ : List ℕ) (n : ℕ) (counts : List ℕ) (most sum p : ℕ) : Type 0 where
+  pub inside : p ≤ length x
+  pub nodes : length x ≡ n
+  pub room : length counts ≡ length counts₀
+  pub most-small : most ≤ 4096
+  pub sum_small : sum ≤ 4096 * p
+  pub most-is : most ≡ widest g x p
+  pub sum_is : sum ≡ spans g x p
+  pub counts_are : counts ≡ opened g x p
+
+abbrev pub invariant-loop-p : goal.invariant-loop-p
+invariant-loop-p l = Walked (graph_of l.starts l.neighbours) l.numbering l.initial.counts (size_of l.starts) l.counts l.widest l.sum l.p
+
+abbrev pub decreases-loop-p : goal.decreases-loop-p
+decreases-loop-p l = length l.numbering - l.p
