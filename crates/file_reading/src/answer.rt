@@ -1,5 +1,5 @@
 // What the elements of a file take, in words, or the refusal by its number.
-#[derive(Drop)]
+#[derive(Clone, Copy)]
 pub enum Tested {
     Taken(usize),
     Refused(u16),

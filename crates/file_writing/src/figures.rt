@@ -1,5 +1,5 @@
 // "seven figures": those of the program's first line but for the passes
-#[derive(Drop)]
+#[derive(Clone, Copy)]
 pub struct Figures {
     pub nodes: u32,
     pub parts: u32,

@@ -1,5 +1,5 @@
 // What the calls of this library answer: their figures, or the number of a refusal.
-#[derive(Drop)]
+#[derive(Clone, Copy)]
 pub enum RootedAnswer {
     Refused(u16),
     Levels {
@@ -9,7 +9,7 @@ pub enum RootedAnswer {
     },
 }
 
-#[derive(Drop)]
+#[derive(Clone, Copy)]
 pub enum EndsAnswer {
     Refused(u16),
     Ends {
@@ -22,7 +22,7 @@ pub enum EndsAnswer {
     },
 }
 
-#[derive(Drop)]
+#[derive(Clone, Copy)]
 pub enum CombinedAnswer {
     Refused(u16),
     Levels { k: u16, width: u16 },

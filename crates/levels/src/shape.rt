@@ -1,7 +1,7 @@
 // What is returned of one part. In a module of its own: a type and a function may not share a name in one.
 
 // "The call returns v, u, k, both widths and the passes".
-#[derive(Drop)]
+#[derive(Clone, Copy)]
 pub struct PartEnds {
     pub v: u16,
     pub u: u16,
@@ -11,7 +11,7 @@ pub struct PartEnds {
     pub passes: u16,
 }
 
-#[derive(Drop)]
+#[derive(Clone, Copy)]
 pub struct PartLevels {
     pub v: u16,
     pub u: u16,

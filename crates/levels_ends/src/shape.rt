@@ -2,7 +2,7 @@
 use levels_search::shape::Rooted;
 
 // The ends v and u, k, the number of nodes of the part and the passes. The widths at v and u are counted in the levels that are left.
-#[derive(Drop)]
+#[derive(Clone, Copy)]
 pub struct Found {
     pub v: u16,
     pub u: u16,
@@ -12,7 +12,7 @@ pub struct Found {
 }
 
 // What going through S gives: the first s deeper than v, or the s of least width, and its search.
-#[derive(Drop)]
+#[derive(Clone, Copy)]
 pub struct Tried {
     pub deeper: bool,
     pub node: u16,

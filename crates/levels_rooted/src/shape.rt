@@ -1,5 +1,5 @@
 // "Depth, width and the count reached are returned".
-#[derive(Drop)]
+#[derive(Clone, Copy)]
 pub struct Figures {
     pub depth: u16,
     pub width: u16,

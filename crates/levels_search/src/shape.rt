@@ -1,5 +1,5 @@
 // What a search returns. In a module of its own: a type and a function may not share a name in one.
-#[derive(Drop)]
+#[derive(Clone, Copy)]
 pub struct Rooted {
     pub depth: u16,
     pub width: u16,

@@ -1,5 +1,5 @@
 // What is known of a part once the levels rooted at its end v are found.
-#[derive(Drop)]
+#[derive(Clone, Copy)]
 pub struct PartRoot {
     pub v: u16,
     // how many levels are rooted at it

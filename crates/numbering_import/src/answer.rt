@@ -1,7 +1,7 @@
 // What the call is handed beside its lists, and what it answers.
 
 // "They also send bandwidth, profile and front": as wide as a caller can hand them, so that a wrong figure is not cut down to a right one.
-#[derive(Drop)]
+#[derive(Clone, Copy)]
 pub struct SuppliedFigures {
     pub bandwidth: u64,
     pub profile: u64,
@@ -9,7 +9,7 @@ pub struct SuppliedFigures {
 }
 
 // The numbering is accepted, or refused by the number of the first test that fails.
-#[derive(Drop)]
+#[derive(Clone, Copy)]
 pub enum ImportAnswer {
     Accepted,
     Refused(u16),

@@ -18,7 +18,7 @@ use graph_words::larger;
 use numbering_ones::Measures;
 
 // What the nodes' envelopes give: the greatest reach and the sum of the shares.
-#[derive(Drop)]
+#[derive(Clone, Copy)]
 struct Spans {
     bandwidth: u32,
     profile: u32,

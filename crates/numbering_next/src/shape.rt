@@ -1,5 +1,5 @@
 // What is summed up over the parts that have their numbers.
-#[derive(Drop)]
+#[derive(Clone, Copy)]
 pub struct Tally {
     pub parts: u16,
     pub nodes: u16,

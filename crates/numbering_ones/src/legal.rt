@@ -16,7 +16,7 @@ use graph_words::larger;
 use graph_words::legal::clear;
 
 // What the spans q − f_q give: the greatest and the sum.
-#[derive(Drop)]
+#[derive(Clone, Copy)]
 struct Spans {
     bandwidth: u32,
     profile: u32,

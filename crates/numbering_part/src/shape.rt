@@ -1,5 +1,5 @@
 // What is found of a part: v and u as now named, its levels, and whether its numbers were turned end for end.
-#[derive(Drop)]
+#[derive(Clone, Copy)]
 pub struct PartFound {
     pub v: u16,
     pub u: u16,
@@ -12,7 +12,7 @@ pub struct PartFound {
 }
 
 // What the run sums up over the parts.
-#[derive(Drop)]
+#[derive(Clone, Copy)]
 pub struct PartFigures {
     pub k: u16,
     pub width: u16,

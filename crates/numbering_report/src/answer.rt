@@ -1,13 +1,13 @@
 // What the part report answers: a report, or the number of a refusal.
 // "a direction, which is Forward or Reversed"
-#[derive(Drop)]
+#[derive(Clone, Copy)]
 pub enum Direction {
     Forward,
     Reversed,
 }
 
 // "The part report gives v and u as now named, k, the combined levels' width, passes and a direction"; the width is in unknowns
-#[derive(Drop)]
+#[derive(Clone, Copy)]
 pub struct PartReport {
     pub v: u16,
     pub u: u16,
@@ -17,7 +17,7 @@ pub struct PartReport {
     pub direction: Direction,
 }
 
-#[derive(Drop)]
+#[derive(Clone, Copy)]
 pub enum ReportAnswer {
     Refused(u16),
     Report(PartReport),

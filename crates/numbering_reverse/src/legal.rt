@@ -17,14 +17,14 @@ use graph_words::legal::erase;
 use graph_words::{larger, smaller, wide};
 
 // From the first unknown of a node and its row up to the last, by the unknowns ahead: of the first, and up to and with the last.
-#[derive(Drop)]
+#[derive(Clone, Copy)]
 struct Range {
     first: usize,
     last: usize,
 }
 
 // How far the unknowns of one node reach below the diagonal, or of all together: in the order, and in the order reversed.
-#[derive(Drop)]
+#[derive(Clone, Copy)]
 struct Both {
     forward: u32,
     backward: u32,

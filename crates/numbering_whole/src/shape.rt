@@ -1,5 +1,5 @@
 // "seven figures", those of the program's first line but for the passes.
-#[derive(Drop)]
+#[derive(Clone, Copy)]
 pub struct RunFigures {
     pub nodes: u16,
     pub parts: u16,

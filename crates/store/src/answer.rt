@@ -3,7 +3,7 @@ use numbering_whole::shape::RunFigures;
 use store_elimination::Counts;
 
 // Refused as the numbering call is; or its figures, beside the refusal of the elimination or its counts.
-#[derive(Drop)]
+#[derive(Clone, Copy)]
 pub enum RunElimination {
     Refused(u16),
     RunOnly { figures: RunFigures, refusal: u16 },

@@ -12,7 +12,7 @@ use graph_envelope::legal::{first, number};
 use graph_words::wide;
 
 // The row of number q in the store: f_q is `first`, s_q is `start`.
-#[derive(Drop)]
+#[derive(Clone, Copy)]
 struct Row {
     q: usize,
     first: usize,

@@ -18,7 +18,7 @@ use graph_words::wide;
 
 // The row of number q: its node has `count` unknowns, f_q is `first`, and the nodes f_q .. q − 1 have `width` unknowns. Its marks of nodes start at place
 // `source`, and the marks of its unknowns are to start at place `start`.
-#[derive(Drop)]
+#[derive(Clone, Copy)]
 struct Row {
     q: usize,
     first: usize,
@@ -29,7 +29,7 @@ struct Row {
 }
 
 // Where the places of the rows that are still to be spread end: in the store of the nodes, and in that of the unknowns.
-#[derive(Drop)]
+#[derive(Clone, Copy)]
 struct Ends {
     nodes: u32,
     unknowns: u32,
