@@ -12,8 +12,7 @@ use Rattle.graph_words.specs.Erasable.{Erasable}
 use Rattle.levels_laws.specs.Members.{Members}
 use Rattle.levels_laws.specs.Starts.{members_of}
 use Rattle.levels_laws.proofs.Members.{members-listed, member_range}
-use Rattle.levels_combine.proofs.legal.erase.Statement.{statement}
-use Rattle.levels_combine.proofs.legal.erase.Tie as tie
+use Rattle.levels_combine.proofs.legal.erase.Goals as goal
 
 module _ {n from to : ℕ} {W : List ℕ} (A : Members n from to W) where
   is-list : take (to - from) (drop (4 * n + from) W) ≡ members_of n from to W
@@ -27,25 +26,20 @@ module _ {n from to : ℕ} {W : List ℕ} (A : Members n from to W) where
         (r.0, omega (arith, r.1));
   }
 
-mul-erase : tie.Need-overflow-mul-erase
-mul-erase c = omega (arith, c.before.before.requires.0.few)
+pub overflow_mul-n : goal.overflow_mul-n
+overflow_mul-n c = omega (arith, c.requires.members.few)
 
-add-erase : tie.Need-overflow-add-erase
-add-erase c = let A = c.before.before.requires.0 in omega (arith, A.few, A.order, A.most)
+pub overflow_add-n : goal.overflow_add-n
+overflow_add-n c = omega (arith, c.requires.members.few, c.requires.members.order, c.requires.members.most)
 
-sub-erase : tie.Need-overflow-sub-erase
-sub-erase c = c.before.before.requires.0.order
+pub overflow_sub-to : goal.overflow_sub-to
+overflow_sub-to c = c.requires.members.order
 
-erase-requires : tie.Need-erase-requires
-erase-requires c κs = let s = c.before.before in ask s.requires.0 s.args.base s.requires.1
+pub erase-requires : goal.erase-requires
+erase-requires c = ask c.requires.members c.args.base c.requires.n_bound
 
-same_length : tie.Need-same-length
-same_length c = search rules
+pub shape_of-scratch : goal.shape_of-scratch
+shape_of-scratch c = search rules
 
-returns : tie.Need-returns
-returns c =
-    let s = c.before.before.before.before.before in
-    c.before.before.erase.ensures ∙ ap (stored s.args.base nought s.args.scratch.now) (is-list s.requires.0)
-
-pub erase-spec : {M : Type 1} → statement M
-erase-spec = tie.close (tie.spec mul-erase add-erase sub-erase erase-requires same_length returns)
+pub returns : goal.returns
+returns c = c.erase.ensures ∙ ap (stored c.args.base nought c.args.scratch.now) (is-list c.requires.members)
