@@ -1,0 +1,26 @@
+-- `numbering_measures::fronts::steps` meets its contract: the words passed are steps, the others as they were. Assumes nothing.
+use Prim.Native.Nat.{ℕ, ◌+◌, ◌-◌, ◌≤◌}
+use mathlib.Core.Path.{◌≡◌, refl, ap₂, ◌∙◌}
+use mathlib.Core.List.{List}
+use native.Mathlib.Omega.{arith}
+use borrow.Author.Rules.{rules}
+use lib.ListN.{length, get_or}
+use Rattle.spec.specs.Graph.{of_node}
+use Rattle.graph_envelope.specs.Aheads.{Made}
+use Rattle.graph_envelope.proofs.Ahead.{made_none, made_more}
+use Rattle.numbering_measures.proofs.Steps.{step, steps_made, last_more, last_none}
+use Rattle.numbering_measures.proofs.fronts.steps.Given as goal
+
+-- after i words of W: they are steps, the others as they were, and last is the one before
+pub record Stepped (W words : List ℕ) (last i : ℕ) : Type 0 where
+  pub inside : i ≤ length W
+  pub same_length : length words ≡ length W
+  pub last_small : last ≤ 24576
+  pub last_is : last ≡ of_node W i
+  pub made : Made (step W) W i words
+
+abbrev pub invariant-loop-i : goal.invariant-loop-i
+invariant-loop-i l = Stepped l.initial.words l.words l.last l.i
+
+abbrev pub decreases-loop-i : goal.decreases-loop-i
+decreases-loop-i l = length l.initial.words - l.i

@@ -1,0 +1,13 @@
+-- `numbering_reverse::legal::reverse` meets its contract: the words passed at both ends have changed places. Assumes nothing.
+use Prim.Native.Nat.{◌-◌, ◌≤◌}
+use mathlib.Core.Path.{◌≡◌}
+use native.Mathlib.Omega.{arith}
+use lib.ListN.{length, length-set}
+use Rattle.numbering_reverse.proofs.Reversing.{Reversing, reversing_none, reversing_more, reversing_all}
+use Rattle.numbering_reverse.proofs.legal.reverse.Given as goal
+
+abbrev pub invariant-loop-i : goal.invariant-loop-i
+invariant-loop-i l = (length l.words ≡ length l.initial.words) × Reversing l.initial.words l.words l.i l.e
+
+abbrev pub decreases-loop-i : goal.decreases-loop-i
+decreases-loop-i l = l.e - l.i
