@@ -18,7 +18,7 @@ FIXED = {'pre': 'requires', 'inv': 'invariant', 'taken': 'true', 'left': 'false'
 
 
 def norm(s):
-    s = s.replace('-', '_')
+    s = s.replace('-', '_').lower()
     return s[:-4] if s.endswith('_lem') else s
 
 
@@ -77,26 +77,38 @@ def clauses_of(crates):
 
 
 def record_of(names, body):
-    """A nested pair (a, (b, c)) as a record of the clauses' names; None where it is no literal."""
+    """A nested pair (a, (b, c)) as a record of the clauses' names; what is no literal is read by its parts."""
     body = body.strip()
-    parts = []
-    for k in range(len(names) - 1):
-        if not (body.startswith('(') and matched(body, 0) == len(body) - 1):
-            return None
-        two = [p for p in split_top(body[1:-1])]
-        if two and not two[-1].strip():
-            two = two[:-1]
-        if len(two) < 2:
-            return None
-        if len(two) > 2:
-            if len(two) == len(names) - k:
+    parts, let = [], ''
+    k = 0
+    while k < len(names) - 1:
+        if body.startswith('(') and matched(body, 0) == len(body) - 1:
+            two = [p for p in split_top(body[1:-1])]
+            if two and not two[-1].strip():
+                two = two[:-1]
+            if len(two) == len(names) - k and len(two) > 1:
                 parts += [p.strip() for p in two]
-                return 'record { ' + '; '.join(f'{n} = {p}' for n, p in zip(names, parts)) + ' }'
+                k = len(names)
+                break
+            if len(two) == 2:
+                parts.append(two[0].strip())
+                body = two[1].strip()
+                k += 1
+                continue
+            if len(two) == 1:
+                body = two[0].strip()
+                continue
             return None
-        parts.append(two[0].strip())
-        body = two[1].strip()
-    parts.append(body)
-    return 'record { ' + '; '.join(f'{n} = {p}' for n, p in zip(names, parts)) + ' }'
+        if re.match(r'(search|omega|simp|rw|cc|grind|elim|let|λ|record)\b', body):
+            return None
+        let = f'let done = {body} in '
+        for i in range(k, len(names)):
+            parts.append('done' + '.1' * (i - k) + ('.0' if i < len(names) - 1 else ''))
+        k = len(names)
+        break
+    if k == len(names) - 1:
+        parts.append(body)
+    return let + 'record { ' + '; '.join(f'{n} = {p}' for n, p in zip(names, parts)) + ' }'
 
 
 def with_tail(body, turn):
@@ -131,6 +143,8 @@ def with_tail(body, turn):
 class Decl:
     def __init__(self, name, type_, unfolding, clauses, comment, abbrev):
         self.name, self.type, self.unfolding, self.clauses, self.comment, self.abbrev = name, type_, unfolding, clauses, comment, abbrev
+        self.block = None
+        self.more = []
 
 
 def parse(text):
@@ -155,7 +169,7 @@ def parse(text):
         if l.startswith('--'):
             comment.append(l)
             continue
-        if l[0].isspace():
+        if l[0].isspace() or l[0] in '})]' and cur is not None:
             if cur is None:
                 comment.append('-- ?? ' + l)
                 continue
@@ -166,6 +180,18 @@ def parse(text):
             continue
         if l.startswith('unfolding '):
             cur.unfolding += l[10:].split()
+            continue
+        if re.match(r'(pub )?(record|data|module) ', l):
+            name = re.match(r'(?:pub )?(?:record|data|module) (' + WORD + r')', l).group(1)
+            cur = Decl(name, '', [], [], comment, False)
+            cur.block = [l]
+            comment = []
+            decls.append(cur)
+            while i < len(lines) and (not lines[i].strip() or lines[i][0].isspace()):
+                cur.block.append(lines[i])
+                i += 1
+            while cur.block and not cur.block[-1].strip():
+                cur.block.pop()
             continue
         m = re.match(r'((?:(?:abbrev|pub|unfoldable)\s+)*)(' + WORD + r')\s*:\s(.*)$', l) or re.match(r'((?:(?:abbrev|pub|unfoldable)\s+)*)(' + WORD + r')((?:\s+[{(][^=]*[})])*)\s*:\s*(.*)$', l)
         if m and not (cur is not None and l.startswith(cur.name + ' ') and '=' in l and ' : ' not in l.split('=')[0]):
@@ -211,6 +237,23 @@ class Turner:
                     out[norm(self.step_at[p][0])] = (self.step_at[p][1], self.callee_at[p])
         return out
 
+    def arms(self, place):
+        """What an arm of a match names: (arm, field, old step, old fields), from the places on the way, the nearest first"""
+        index = {p[0]: k for k, p in enumerate(self.entry['places'])}
+        chain = []
+        while place:
+            chain.append(place)
+            place = self.parent.get(place)
+        if not chain:
+            chain = [p[0] for p in reversed(self.entry['places'])]
+        out = []
+        for p in chain:
+            a = self.entry['arms'][index[p]] if p in index else None
+            if a:
+                for field, step, way in a[2]:
+                    out.append((a[0], field, step, way))
+        return out
+
     def named(self, names, segs):
         """segs after requires or ensures, a nested pair: the clause's name in place of .0, .1.0, .."""
         if len(names) < 2:
@@ -253,65 +296,112 @@ class Turner:
                     break
                 m = re.compile(r'(?<![^\s(])let (' + WORD + r') = (' + WORD + r')((?:\.before)*) in(?=\s)').search(text, m.end())
 
-        # lets that name requires or ensures of several clauses
+        # lets that name a value on the way: a path from there is written out
+        alias = {}
+
+        def fixed(segs):
+            out = list(segs)
+            if out and out[0] == 'pre':
+                out[0] = 'requires'
+            if len(out) > 1:
+                st = out[0]
+                if re.fullmatch(r'if\d*', st) or re.fullmatch(r'loop\d*[-_]test', st):
+                    out[1] = {'taken': 'true', 'left': 'false'}.get(out[1], out[1])
+                if not re.match(r'(loop|if)\d*([-_]test)?$', st):
+                    out[1] = {'kept': 'auto', 'last': 'new'}.get(out[1], out[1])
+                if re.fullmatch(r'loop\d*', st) and out[1] == 'inv':
+                    out[1] = 'invariant'
+            return out
+
+        def told(base, names, segs):
+            """base.segs of a nested pair of clauses, by name; what is left of the pair where segs end within it"""
+            if len(names) < 2:
+                return base + ''.join('.' + s for s in segs)
+            k = 0
+            for i, s_ in enumerate(segs):
+                if s_ == '1' and k < len(names) - 1:
+                    k += 1
+                    if k == len(names) - 1:
+                        return base + '.' + names[k] + ''.join('.' + s for s in segs[i + 1:])
+                    continue
+                if s_ == '0' and k < len(names) - 1:
+                    return base + '.' + names[k] + ''.join('.' + s for s in segs[i + 1:])
+                if s_ in names and k == 0:
+                    return base + ''.join('.' + s for s in segs)
+                self.look(base + '.' + '.'.join(segs))
+                return base + ''.join('.' + s for s in segs)
+            rest = [base + '.' + n for n in names[k:]]
+            out = rest[-1]
+            for r in reversed(rest[:-1]):
+                out = f'({r}, {out})'
+            return out
+
         def let_of(m):
             head, segs = m.group(2), m.group(3).split('.')[1:]
-            if head in places:
-                segs = [FIXED.get(s, s) for s in strip(segs)]
-                if segs == ['requires'] and len(self.own['requires']) > 1:
-                    alias_req[m.group(1)] = ('c.requires', self.own['requires'])
-                    return ''
-                if len(segs) == 2 and segs[1] == 'ensures':
-                    st = steps.get(norm(segs[0]))
-                    if st and st[1] and len(self.clauses.get(st[1], {}).get('ensures', [])) > 1:
-                        alias_req[m.group(1)] = (f'c.{st[0]}.ensures', self.clauses[st[1]]['ensures'])
-                        return ''
+            if head in alias:
+                segs = alias[head] + segs
+                head = 'c'
+            elif head not in places:
+                return m.group()
+            alias[m.group(1)] = strip(segs)
             return m.group()
 
-        text = re.sub(r'(?<![^\s(])let (' + WORD + r') = (' + WORD + r')((?:\.' + WORD + r')+) in(?=\s)', let_of, text)
+        for m in re.finditer(r'(?<![^\s(])let (' + WORD + r') = (' + WORD + r')((?:\.' + WORD + r')+) in(?=\s)', text):
+            let_of(m)
 
         def path(m):
             head, segs = m.group(1), m.group(2).split('.')[1:]
-            if head in alias_req:
-                base, names = alias_req[head]
-                got = self.named(names, segs)
-                if got is None:
-                    self.look(f'{head}{m.group(2)}')
-                    return m.group()
-                return base + ''.join('.' + s for s in got)
-            if head not in places:
+            if head in alias:
+                if head in places:
+                    self.look(f'{head} is a place and a value')
+                segs = alias[head] + segs
+            elif head not in places:
                 return m.group()
-            segs = [FIXED.get(s, s) for s in strip(segs)]
+            segs = fixed(strip(segs))
             if not segs:
                 return 'c'
             first = segs[0]
             rest = segs[1:]
+            for arm, field, step, way in self.arms(place):
+                if norm(step) == norm(first) and way and rest[:len(way)] == way:
+                    return f'c⟡.{arm}.{field}' + ''.join('.' + s for s in rest[len(way):])
             if first == 'requires':
-                got = self.named(self.own['requires'], rest)
-                if got is None:
-                    self.look('.'.join(['c'] + segs))
-                    got = rest
-                return 'c.requires' + ''.join('.' + s for s in got)
+                return told('c⟡.requires', self.own['requires'], rest)
             st = steps.get(norm(first))
             if st:
                 new, callee = st
+                if len(rest) >= 2 and rest[0] in ('new', 'auto') and callee and rest[1] in ('0', '1'):
+                    ps = self.entry['params'].get(callee, [])
+                    k, i = 0, 1
+                    while i < len(rest) and rest[i] == '1':
+                        k, i = k + 1, i + 1
+                    if i < len(rest) and rest[i] == '0' and k < len(ps):
+                        rest = [rest[0], ps[k]] + rest[i + 1:]
+                    else:
+                        self.look('.'.join(segs))
                 if rest and rest[0] == 'ensures' and callee:
-                    names = self.clauses.get(callee, {}).get('ensures', [])
-                    got = self.named(names, rest[1:])
-                    if got is None:
-                        self.look(f'{first}: ' + '.'.join(rest))
-                        got = rest[1:]
-                    rest = ['ensures'] + got
-                return 'c.' + new + ''.join('.' + s for s in rest)
-            return 'c.' + '.'.join(segs)
+                    return told('c⟡.' + new + '.ensures', self.clauses.get(callee, {}).get('ensures', []), rest[1:])
+                return 'c⟡.' + new + ''.join('.' + s for s in rest)
+            return 'c⟡.' + '.'.join(segs)
 
         text = PATH.sub(path, text)
         # a place as a value
-        text = TOKEN.sub(lambda m: 'c' if m.group() in places else m.group(), text)
-        for a, (b, names) in alias_req.items():
-            if re.search(r'(?<![^\s(){};,])' + re.escape(a) + r'(?![^\s(){};,])', text):
-                self.look(f'{a} as a whole is {b}')
-                text = re.sub(r'(?<![^\s(){};,])' + re.escape(a) + r'(?![^\s(){};,])', b, text)
+        text = re.sub(r'(?<![^\s(){};,])' + WORD + r'(?![^\s(){};,])', lambda m: 'c' if m.group() in places else m.group(), text)
+        for m in list(re.finditer(r'(?<![^\s(])let (' + WORD + r') = (?=\()', text)):
+            if m.group(1) in alias:
+                i = text.index(m.group())
+                j = matched(text, i + len(m.group()), '(', ')')
+                if j > 0 and re.match(r' in(?=\s)', text[j + 1:]):
+                    value = text[i + len(m.group()):j + 1]
+                    a = m.group(1)
+                    text = text[:i] + text[j + 4:].lstrip(' ')
+                    text = re.sub(r'(?<![^\s(){};,])' + re.escape(a) + r'(?![^\s(){};,])', lambda _: value, text)
+        for a in alias:
+            lone = r'(?<![^\s(){};,])' + re.escape(a) + r'(?![^\s(){};,])'
+            if len(re.findall(lone, text)) == 1:
+                text = re.sub(r'(?<![^\s(])let ' + re.escape(a) + r' = [^\s]+ in\s', '', text)
+        # a test is the fact itself
+        text = re.sub(r'(?:ltb|leb|eqb)-(?:true|false) (?:\([^()]*\)|[^\s()]+) (?:\([^()]*\)|[^\s()]+) (c⟡\.(?:if|loop)-\S+?\.(?:true|false))(?![^\s(){};,])', r'\1', text)
         return text[1:]
 
 
@@ -325,11 +415,8 @@ def invariant(t, d, old, kind):
     un = [v for v, c in zip(vars_, changed) if not c]
     ch = [v for v, c in zip(vars_, changed) if c]
     if len(args) == len(un) + 2 * len(ch):
-        # in the order of the source: what is unchanged has one name, what changes two, first those at the start
-        fields = ['l.' + v for v in un] + ['l.initial.' + v for v in ch] + ['l.' + v for v in ch]
-        mine = {}
-        for v, c in zip(vars_, changed):
-            pass
+        # in the order of the source, what changes as it was at the start; then what changes as it is
+        fields = [('l.initial.' if c else 'l.') + v for v, c in zip(vars_, changed)] + ['l.' + v for v in ch]
         # names settle it where they can
         base = [a.rstrip('₀') for a in args]
         if any(a != f.split('.')[-1].replace('_', '-') and a.replace('-', '_') != f.split('.')[-1] for a, f in zip(base, fields)):
@@ -367,6 +454,11 @@ def convert(path, entry, function, clauses, goal_module, said):
     local = []  # lemmas with no place
     for d in decls:
         ty = d.type.strip()
+        if d.block:
+            if any('tie.' in l for l in d.block):
+                t.look(f'block {d.name} names places')
+            local.append(d)
+            continue
         m = re.match(r'tie\.(invariant|decreases)-(\S+)', ty)
         if m:
             got = invariant(t, d, norm(m.group(2)), m.group(1))
@@ -384,7 +476,7 @@ def convert(path, entry, function, clauses, goal_module, said):
                 if old.startswith(p):
                     old = old[len(p):]
             key = norm(old)
-            new = t.needs.get(key) or t.needs.get('shared_' + key)
+            new = t.needs.get(key) or t.needs.get('shared_' + key) or {norm(n): n for _, n in entry['needs']}.get(norm(m.group(1)))
             if new is None:
                 for o, n in entry['needs']:
                     if n == m.group(1).replace('overflow-', 'overflow_'):
@@ -400,6 +492,7 @@ def convert(path, entry, function, clauses, goal_module, said):
                 t.look(f'{d.name}: not read')
                 continue
             args = mm.group(1).split()
+            d.more = [a for a in args[1:] if a != 'κs']
             answers[new] = (args[0], mm.group(2), d)
             order.append(new)
             continue
@@ -407,6 +500,12 @@ def convert(path, entry, function, clauses, goal_module, said):
             helpers[d.name] = d
         else:
             local.append(d)
+    unfolded = {u for d in decls for u in d.unfolding}
+    for h, d in helpers.items():
+        if h in unfolded:
+            d.abbrev = True
+    for d in decls:
+        d.unfolding = [u for u in d.unfolding if u not in helpers]
     # inline answers of the spec, by position
     if spec is not None:
         body = spec.clauses[-1]
@@ -447,6 +546,14 @@ def convert(path, entry, function, clauses, goal_module, said):
                     answers[t.need_list[k][1]] = (mm.group(1).split()[0], b, Decl('inline', '', [], [], [], False))
                     order.append(t.need_list[k][1])
 
+            if exact:
+                for k, a in enumerate(args):
+                    if a in helpers:
+                        answers[t.need_list[k][1]] = ('c', f'{a} c', Decl('inline', '', [], [], [], False))
+                        order.append(t.need_list[k][1])
+            elif any(a in helpers for a in args):
+                t.look('a lemma is an answer')
+
     # helpers
     def helper_parts(h):
         d = helpers[h]
@@ -476,7 +583,7 @@ def convert(path, entry, function, clauses, goal_module, said):
 
     def replace_call(text, h, repl):
         """h PLACE -> repl, for a place variable or a parenthesised path that is all before"""
-        return re.sub(r'(?<![^\s(){};,])' + re.escape(h) + r'\s+c(?![^\s(){};,.])', lambda m: repl, text)
+        return re.sub(r'(?<![^\s(){};,])' + re.escape(h) + r'\s+c(?![^\s(){};,])', lambda m: repl, text)
 
     place_helpers = [h for h in helpers if re.search(r'→\s*tie\.', helpers[h].type)]
 
@@ -485,7 +592,7 @@ def convert(path, entry, function, clauses, goal_module, said):
             before = text
             for h in place_helpers:
                 text = re.sub(r'\(\s*' + re.escape(h) + r'\s+c\s*\)', 'c', text)
-                text = re.sub(r'(?<![^\s(){};,])' + re.escape(h) + r'\s+c(?![^\s(){};,.])', 'c', text)
+                text = re.sub(r'(?<![^\s(){};,])' + re.escape(h) + r'\s+c(?![^\s(){};,])', 'c', text)
             text = t.turn(text, {'c'}, place)
             if text == before:
                 break
@@ -497,7 +604,7 @@ def convert(path, entry, function, clauses, goal_module, said):
             before = text
             text = settle(text, place)
             for h in helpers:
-                if h in place_helpers or not re.search(r'(?<![^\s(){};,])' + re.escape(h) + r'(?![^\s(){};,])', text):
+                if h in place_helpers or not re.search(r'(?<![^\s(){};,])' + re.escape(h) + r'\s+c(?![^\s(){};,])', text):
                     continue
                 parts = helper_parts(h)
                 if parts is None:
@@ -539,13 +646,13 @@ def convert(path, entry, function, clauses, goal_module, said):
         used = {}
         body = t.turn(body, {var}, place)
         body = expand(body, place, used)
-        body = settle(body, place)
+        body = settle(body, place).replace('c⟡', 'c')
         unf = list(d.unfolding)
         lets = []
         for h in order_used:
             if used.get(h):
                 ty, b, u = used[h]
-                ty, b = settle(ty, place), settle(b, place)
+                ty, b = settle(ty, place).replace('c⟡', 'c'), settle(b, place).replace('c⟡', 'c')
                 lets.append(f'    let {h} : {ty.strip()} = {b.strip()} in\n')
                 unf += [x for x in u if x not in unf]
         # cases of a join
@@ -591,29 +698,61 @@ def convert(path, entry, function, clauses, goal_module, said):
             text += 'unfolding ' + ' '.join(dict.fromkeys(unf)) + '\n'
         b = body.strip()
         if lets or '\n' in b:
-            text += f'{new} c =\n' + ''.join(lets) + '    ' + b + '\n'
+            text += ' '.join([new, 'c'] + d.more) + ' =\n' + ''.join(lets) + '    ' + b + '\n'
         else:
-            text += f'{new} c = {b}\n'
+            text += ' '.join([new, 'c'] + d.more) + f' = {b}\n'
         out.append(text)
     folder = os.path.dirname(path)
+
+    def written(d, public):
+        text = '\n'.join(d.comment) + '\n' if d.comment else ''
+        if d.block:
+            lines = list(d.block)
+            if public and not lines[0].startswith(('pub ', 'module')):
+                lines[0] = 'pub ' + lines[0]
+            if public and re.match(r'pub record', lines[0]):
+                lines = lines[:1] + [re.sub(r'^  (?=[^\s-])(?!pub )', '  pub ', l) if re.match(r'  \S', l) else l for l in lines[1:]]
+            if public and lines[0].startswith('module'):
+                lines = [re.sub(r'^(\s+)(abbrev )?(?!pub )(' + WORD + r'(?: \{[^}]*\})? :)', r'\1\2pub \3', l) for l in lines]
+            return text + '\n'.join(lines) + '\n\n'
+        return text + ('abbrev ' if d.abbrev else '') + ('pub ' if public else '') + f'{d.name} : {d.type}\n' + (('unfolding ' + ' '.join(d.unfolding) + '\n') if d.unfolding else '') + '\n'.join(d.clauses) + '\n\n'
+
+    def words_of(d):
+        if d.block:
+            return set(TOKEN.findall('\n'.join(d.block).replace('.', ' ')))
+        return set(TOKEN.findall((d.type + ' ' + ' '.join(d.clauses)).replace('.', ' ')))
+
+    def names_of(d):
+        if d.block and d.block[0].startswith(('module', 'pub module')):
+            return [m.group(1) for l in d.block for m in [re.match(r'\s+(?:abbrev |pub )*(' + WORD + r')(?: \{[^}]*\})? :', l)] if m]
+        return [d.name]
+    in_invs = []
     if invs:
-        used_words = set(TOKEN.findall(' '.join(re.sub(r'\.', ' ', b) for _, _, b, _ in invs)))
-        inv_helpers = [d for d in local if d.name in used_words]
+        used_words = set(TOKEN.findall(' '.join(b for _, _, b, _ in invs).replace('.', ' ')))
+        for _ in range(5):
+            for d in local:
+                if d not in in_invs and used_words & set(names_of(d)):
+                    in_invs.append(d)
+                    used_words |= words_of(d)
+        in_invs = [d for d in local if d in in_invs]
         text = '\n'.join(header) + '\n' + '\n'.join(uses) + f'\nuse {goal_module}.Given as goal\n\n'
-        for d in inv_helpers:
-            text += ('\n'.join(d.comment) + '\n' if d.comment else '') + ('abbrev pub ' if d.abbrev else 'pub ') + f'{d.name} : {d.type}\n' + (('unfolding ' + ' '.join(d.unfolding) + '\n') if d.unfolding else '') + '\n'.join(d.clauses) + '\n\n'
+        for d in in_invs:
+            text += written(d, True)
         for kind, new, body, comment in invs:
             text += ('\n'.join(comment) + '\n' if comment else '') + f'abbrev pub {kind}-{new} : goal.{kind}-{new}\n{kind}-{new} l = {body.strip()}\n\n'
         open(os.path.join(folder, 'Invariants.antt'), 'w', encoding='utf-8').write(text.rstrip('\n') + '\n')
     if out:
         alltext = '\n'.join(out)
-        used_words = set(TOKEN.findall(re.sub(r'\.', ' ', alltext)))
         text = '\n'.join(header) + '\n' + '\n'.join(uses) + f'\nuse {goal_module}.Goals as goal\n'
         if goals_imports:
             text += f'use {goal_module}.Goals.{{' + ', '.join(sorted(goals_imports)) + '}\n'
+        shared = [n for d in in_invs for n in names_of(d)]
+        if shared:
+            text += f'use {goal_module}.Invariants.{{' + ', '.join(shared) + '}\n'
         text += '\n'
         for d in local:
-            text += ('\n'.join(d.comment) + '\n' if d.comment else '') + ('abbrev ' if d.abbrev else '') + f'{d.name} : {d.type}\n' + (('unfolding ' + ' '.join(d.unfolding) + '\n') if d.unfolding else '') + '\n'.join(d.clauses) + '\n\n'
+            if d not in in_invs:
+                text += written(d, False)
         text += alltext
         open(os.path.join(folder, 'Answers.antt'), 'w', encoding='utf-8').write(text.rstrip('\n') + '\n')
     os.remove(path)

@@ -1,0 +1,12 @@
+-- `file_writing::total::total` meets its contract: the first i words are summed. Assumes nothing.
+use Prim.Native.Nat.{◌-◌, ◌<◌}
+use native.Mathlib.Omega.{arith}
+use lib.ListN.{length, get_or}
+use Rattle.file_writing.proofs.Totals.{Totalled, totalled_begin, totalled_step, totalled_done}
+use Rattle.file_writing.proofs.total.total.Given as goal
+
+abbrev pub invariant-loop-i : goal.invariant-loop-i
+invariant-loop-i l = Totalled l.passes l.i l.sum
+
+abbrev pub decreases-loop-i : goal.decreases-loop-i
+decreases-loop-i l = length l.passes - l.i

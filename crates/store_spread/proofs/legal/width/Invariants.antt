@@ -1,0 +1,15 @@
+-- `store_spread::legal::width` meets its contract: the unknowns of the nodes passed are summed. Assumes nothing.
+use mathlib.Core.Path.{◌≡◌, sym}
+use Prim.Native.Nat.{◌-◌, ◌≤◌}
+use native.Mathlib.Numerals.{add-one}
+use native.Mathlib.Omega.{arith}
+use Rattle.spec.specs.Unknowns.{counts_in}
+use Rattle.store_spread.specs.Rows.{offset}
+use Rattle.store_spread.proofs.Rows.{offset_none, offset_next, offset_most}
+use Rattle.store_spread.proofs.legal.width.Given as goal
+
+abbrev pub invariant-loop-p : goal.invariant-loop-p
+invariant-loop-p l = (l.from ≤ l.p) × (l.p ≤ l.q) × (l.sum ≡ offset (counts_in l.counts l.order) l.from l.p)
+
+abbrev pub decreases-loop-p : goal.decreases-loop-p
+decreases-loop-p l = l.q - l.p
