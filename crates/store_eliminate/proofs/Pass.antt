@@ -1,7 +1,7 @@
 -- The pass over the rows: for q rising, the lower neighbours of q are due. A number p that is due and below q is joined to q: (p, q) is marked, and
 -- q becomes the parent of p where it has none, else that parent is due; where (p, q) was marked before, p is no longer due. A lemma for each step;
 -- at the end the marks are the joined pairs. Assumes nothing.
-use mathlib.Core.Path.{◌≡◌, refl, ap}
+use mathlib.Core.Path.{◌≡◌, refl, sym, ap, ◌∙◌, subst}
 use mathlib.Core.Logic.{◌⊎◌, inl, inr, ⊎_elim}
 use mathlib.Core.Bool.{Bool, true, false}
 use mathlib.Core.List.{List, [], ◌∷◌}
@@ -177,7 +177,7 @@ module _ {h : Graph} (H : LegalGraph h) where
 
           shut' : (i k : ℕ) → 1 ≤ i → i < k → par i < k → (M i k ≡ true) ⊎ ((i ≡ p) × (k ≡ q)) → Held M' q (r ∷ due) (par i) k
           shut' i k a b l (inl o) = more (par i) k (v.shut i k a b o l)
-          shut' i k a b l (inr s) = inr (s.1, rw (s.0, pr) (memb_here r due))
+          shut' i k a b l (inr s) = inr (s.1, let e : par i ≡ r = ap par s.0 ∙ pr in subst (λ (x : ℕ). memb x (r ∷ due) ≡ true) (sym e) (memb_here r due))
 
   -- the next row: its edges are due
   pub met_next : {M : ℕ → ℕ → Bool} {par : ℕ → ℕ} {q : ℕ} → Met h M par q [] → (due : List ℕ) → ((i : ℕ) → adjoins h i (suc q) ≡ true → memb i due ≡ true)

@@ -7,7 +7,7 @@ use native.Mathlib.Omega.{arith}
 use lib.ListN.{length}
 use lib.Seq.{length-take-le}
 use borrow.Author.Rules.{rules}
-use borrow.Author.Tests.{ltb-false}
+use borrow.Author.Tests.{lt-ltb, le-ltb}
 use Rattle.basis.proofs.Logic.{or_right}
 use Rattle.spec.specs.Graph.{size_of, outside}
 use Rattle.spec.specs.Lent.{words_per_node, short}
@@ -16,21 +16,21 @@ use Rattle.graph.proofs.Answers.{legal_lists, refused_lists}
 use Rattle.graph.proofs.Ways.{by_lists, by_short, by_last}
 use Rattle.levels.proofs.Refusals.{node_inside, first_short, both_long, combined_refused, combined_accepted}
 use Rattle.levels.proofs.combined_levels.Goals as goal
-use Rattle.levels.proofs.combined_levels.Goals.{else-n-levels-n, then-n-levels-n}
+use Rattle.levels.proofs.combined_levels.Goals.{then-levels-n-via-then-levels-n, then-levels-n-via-else-levels-n+then-scratch-n}
 
 pub returns-then-levels-n : goal.returns-then-levels-n
 returns-then-levels-n c =
     let legal : LegalLists c.args.starts.now c.args.neighbours.now = legal_lists c.args.starts.now c.args.neighbours.now c.test_adjacency.ensures c.in-Legal.is in
     let n = size_of c.args.starts.now in
     let done = combined_refused c.args.starts.now c.args.neighbours.now c.args.node c.args.levels.now c.args.scratch.now
-    (λ T. by_short T legal (elim c.then-levels-n.branch [ then-n-levels-n w ↦ first_short c.args.levels.now n c.args.scratch.now (words_per_node * n) w.taken | else-n-levels-n w ↦ or_right (short c.args.levels.now n) w.1.taken ])) in record { result_value = done.0; levels_value = done.1.0; scratch_value = done.1.1 }
+    (λ T. by_short T legal (elim c.then-levels-n.branch [ then-levels-n-via-then-levels-n w ↦ first_short c.args.levels.now n c.args.scratch.now (words_per_node * n) w.if-levels-n.true | then-levels-n-via-else-levels-n+then-scratch-n w ↦ or_right (short c.args.levels.now n) (lt-ltb (length c.args.scratch.now) (words_per_node * n) w.if-scratch-n.true) ])) in record { result_value = done.0; levels_value = done.1.0; scratch_value = done.1.1 }
 
 pub returns-then-no_node : goal.returns-then-no_node
 returns-then-no_node c =
     let legal : LegalLists c.args.starts.now c.args.neighbours.now = legal_lists c.args.starts.now c.args.neighbours.now c.test_adjacency.ensures c.in-Legal.is in
     let n = size_of c.args.starts.now in
     let done = combined_refused c.args.starts.now c.args.neighbours.now c.args.node c.args.levels.now c.args.scratch.now
-    (λ T. by_last T legal (both_long c.args.levels.now n c.args.scratch.now (words_per_node * n) c.if-levels-n.false c.if-scratch-n.false) (sym c.no_Node.ensures ∙ c.if-no_node.true) (omega arith)) in record { result_value = done.0; levels_value = done.1.0; scratch_value = done.1.1 }
+    (λ T. by_last T legal (both_long c.args.levels.now n c.args.scratch.now (words_per_node * n) c.if-levels-n.false (le-ltb (length c.args.scratch.now) (words_per_node * n) c.if-scratch-n.false)) (sym c.no_node.ensures ∙ c.if-no_node.true) (omega arith)) in record { result_value = done.0; levels_value = done.1.0; scratch_value = done.1.1 }
 
 pub returns-in-Refused : goal.returns-in-Refused
 returns-in-Refused c =
@@ -47,19 +47,19 @@ slice_bounds-find_levels-end-in-Legal c =
 pub find_levels-f-requires : goal.find_levels-f-requires
 find_levels-f-requires c =
     let legal : LegalLists c.args.starts.now c.args.neighbours.now = legal_lists c.args.starts.now c.args.neighbours.now c.test_adjacency.ensures c.in-Legal.is in
-    let inside : outside (size_of c.args.starts.now) c.args.node ≡ false = sym c.no_Node.ensures ∙ c.if-no_node.false in
+    let inside : outside (size_of c.args.starts.now) c.args.node ≡ false = sym c.no_node.ensures ∙ c.if-no_node.false in
     let room : size_of c.args.starts.now ≤ length c.args.levels.now = c.if-levels-n.false in
     record { neighbours_value = legal.refusal; le_node = node_inside (size_of c.args.starts.now) c.args.node inside; levels_len = length-take-le _ c.args.levels.now room; starts_in_bounds = c.if-scratch-n.false }
 
 pub returns-else-no_node : goal.returns-else-no_node
 returns-else-no_node c =
     let legal : LegalLists c.args.starts.now c.args.neighbours.now = legal_lists c.args.starts.now c.args.neighbours.now c.test_adjacency.ensures c.in-Legal.is in
-    let inside : outside (size_of c.args.starts.now) c.args.node ≡ false = sym c.no_Node.ensures ∙ c.if-no_node.false in
+    let inside : outside (size_of c.args.starts.now) c.args.node ≡ false = sym c.no_node.ensures ∙ c.if-no_node.false in
     let room : size_of c.args.starts.now ≤ length c.args.levels.now = c.if-levels-n.false in
     let n = size_of c.args.starts.now in
     
     let done = combined_accepted c.args.starts.now c.args.neighbours.now c.args.node c.args.levels.now c.args.scratch.now legal
-    (both_long c.args.levels.now n c.args.scratch.now (words_per_node * n) room c.if-scratch-n.false) inside c.find_levels-f.ensures.value c.find_levels-f.ensures.levels_value c.find_levels-f.ensures.scratch_value in record { result_value = done.0; levels_value = done.1.0; scratch_value = done.1.1 }
+    (both_long c.args.levels.now n c.args.scratch.now (words_per_node * n) room (le-ltb (length c.args.scratch.now) (words_per_node * n) c.if-scratch-n.false)) inside c.find_levels-f.ensures.value c.find_levels-f.ensures.levels_value c.find_levels-f.ensures.scratch_value in record { result_value = done.0; levels_value = done.1.0; scratch_value = done.1.1 }
 
 pub overflow_sub-n : goal.overflow_sub-n
 overflow_sub-n c =

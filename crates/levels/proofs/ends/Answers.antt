@@ -23,7 +23,7 @@ unfolding ends_answer ends_scratch
 returns-then-no_node c =
     let legal : LegalLists c.args.starts.now c.args.neighbours.now = legal_lists c.args.starts.now c.args.neighbours.now c.test_adjacency.ensures c.in-Legal.is in
     let done = part_refused c.args.starts.now c.args.neighbours.now c.args.node c.args.scratch.now _
-    (λ T. by_last T legal (le-ltb _ _ c.if-scratch-n.false) (sym c.no_Node.ensures ∙ c.if-no_node.true) (omega arith)) in record { result_value = done.0; scratch_value = done.1 }
+    (λ T. by_last T legal (le-ltb _ _ c.if-scratch-n.false) (sym c.no_node.ensures ∙ c.if-no_node.true) (omega arith)) in record { result_value = done.0; scratch_value = done.1 }
 
 pub returns-in-Refused : goal.returns-in-Refused
 unfolding ends_answer ends_scratch
@@ -35,14 +35,14 @@ returns-in-Refused c =
 pub find_ends-f-requires : goal.find_ends-f-requires
 find_ends-f-requires c =
     let legal : LegalLists c.args.starts.now c.args.neighbours.now = legal_lists c.args.starts.now c.args.neighbours.now c.test_adjacency.ensures c.in-Legal.is in
-    let inside : outside (size_of c.args.starts.now) c.args.node ≡ false = sym c.no_Node.ensures ∙ c.if-no_node.false in
+    let inside : outside (size_of c.args.starts.now) c.args.node ≡ false = sym c.no_node.ensures ∙ c.if-no_node.false in
     record { neighbours_value = legal.refusal; le_node = node_inside (size_of c.args.starts.now) c.args.node inside; starts_in_bounds = c.if-scratch-n.false }
 
 pub returns-else-no_node : goal.returns-else-no_node
 unfolding ends_answer ends_scratch
 returns-else-no_node c =
     let legal : LegalLists c.args.starts.now c.args.neighbours.now = legal_lists c.args.starts.now c.args.neighbours.now c.test_adjacency.ensures c.in-Legal.is in
-    let inside : outside (size_of c.args.starts.now) c.args.node ≡ false = sym c.no_Node.ensures ∙ c.if-no_node.false in
+    let inside : outside (size_of c.args.starts.now) c.args.node ≡ false = sym c.no_node.ensures ∙ c.if-no_node.false in
     let done = part_accepted c.args.starts.now c.args.neighbours.now c.args.node c.args.scratch.now legal c.if-scratch-n.false inside
     (ap (λ r. record { v = r.v; u = r.u; k = r.k; v_width = r.widthv; u_width = r.widthu; passes = r.passes }) c.find_ends-f.ensures.value) c.find_ends-f.ensures.scratch_value in record { result_value = done.0; scratch_value = done.1 }
 

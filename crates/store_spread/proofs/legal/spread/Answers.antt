@@ -17,7 +17,7 @@ loop-q-init c =
       omega arith,
       refl,
       λ j. omega (arith, c.slice_known-1.given j),
-      record { fits = given_room c.requires.given c.requires.nodes_value.0 c.requires.nodes_value.1 _ c.requires.bytes_len.0; small = omega (arith, c.fits) },
+      record { fits = given_room c.requires.given c.requires.nodes_value.0 c.requires.nodes_value.1 _ c.requires.bytes_len.0; small = omega arith },
       given-ends c.requires.given c.requires.nodes_value.0 c.requires.nodes_value.1,
       given_none c.requires.given _ c.requires.bytes_len.1.0 c.requires.bytes_len.1.1,
     )
@@ -33,13 +33,13 @@ loop-q-smaller c = omega (arith, c.loop-q-test.true)
 
 pub loop-q-preserved : goal.loop-q-preserved
 loop-q-preserved c =
-    let s : length c.Spread-row.new.1.1.1.1.1.0 ≡ length c.args.bytes.now = search rules in (
+    let s : length c.spread_row-ends.new.bytes ≡ length c.args.bytes.now = search rules in (
       omega (arith, c.loop-q.invariant.0),
       s,
       λ j. omega (arith, c.slice_known-in-loop-q-1.given j),
-      record { fits = omega (arith, c.loop-q.invariant.3.fits, c.loop-q.invariant.1, s, c.Spread-row.ensures.0.1); small = omega (arith, c.loop-q.invariant.3.small, c.Spread-row.ensures.0.1) },
-      c.Spread-row.ensures.0.0,
-      c.Spread-row.ensures.1,
+      record { fits = omega (arith, c.loop-q.invariant.3.fits, c.loop-q.invariant.1, s, c.spread_row-ends.ensures.ends_at_2.1); small = omega (arith, c.loop-q.invariant.3.small, c.spread_row-ends.ensures.ends_at_2.1) },
+      c.spread_row-ends.ensures.ends_at_2.0,
+      c.spread_row-ends.ensures.spread_2,
     )
 
 pub shape_of-bytes : goal.shape_of-bytes
