@@ -1,0 +1,16 @@
+-- `store_rows::legal::fill` meets its contract: a run of stores of one value. Assumes nothing.
+use Prim.Native.Nat.{ℕ, ◌+◌, ◌-◌, ◌≤◌}
+use mathlib.Core.Path.{◌≡◌, refl, sym, ap, ◌∙◌}
+use mathlib.Core.List.{List}
+use native.Mathlib.Omega.{arith}
+use lib.ListN.{length}
+use Rattle.basis.specs.Stored.{puts}
+use Rattle.basis.proofs.Puts.{puts_none, puts-step, length-puts}
+use Rattle.store_rows.proofs.Columns.{filled-run}
+use Rattle.store_rows.proofs.legal.fill.Given as goal
+
+abbrev pub invariant-loop-i : goal.invariant-loop-i
+invariant-loop-i l = (l.i ≤ l.count) × (length l.words ≡ length l.initial.words) × (l.words ≡ puts (λ j. l.at + j) (λ j. l.value) l.initial.words l.i)
+
+abbrev pub decreases-loop-i : goal.decreases-loop-i
+decreases-loop-i l = l.count - l.i

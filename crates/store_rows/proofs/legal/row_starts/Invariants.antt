@@ -1,0 +1,19 @@
+-- `store_rows::legal::row_starts` meets its contract: a running sum. Assumes nothing.
+use Prim.Native.Nat.{ℕ, ◌+◌, ◌-◌, ◌*◌, ◌≤◌}
+use mathlib.Core.Path.{◌≡◌, refl, sym, ap, ◌∙◌}
+use mathlib.Core.List.{map}
+use native.Mathlib.Omega.{arith}
+use borrow.Author.Rules.{rules}
+use lib.ListN.{length, set}
+use Rattle.basis.specs.Lists.{up_from}
+use Rattle.graph_envelope.specs.Aheads.{Made}
+use Rattle.graph_envelope.proofs.Ahead.{made_none, made_more, made_all}
+use Rattle.store_rows.specs.Rows.{start_by}
+use Rattle.store_rows.proofs.Starts.{start_none, start_more, start_most}
+use Rattle.store_rows.proofs.legal.row_starts.Given as goal
+
+abbrev pub invariant-loop-i : goal.invariant-loop-i
+invariant-loop-i l = (l.i ≤ length l.first) × (length l.place ≡ length l.initial.place) × (l.sum ≡ start_by l.first l.i) × Made (start_by l.first) l.initial.place l.i l.place
+
+abbrev pub decreases-loop-i : goal.decreases-loop-i
+decreases-loop-i l = length l.first - l.i
