@@ -9,6 +9,9 @@ use Rattle.mesh_rowset.proofs.Bits.{Lowest, lowest}
 use Rattle.mesh_rowset.proofs.Sets.{Emptying, emptying_begin, emptying_list, emptying_end, emptying_bits, in_words, emptying_step}
 use Rattle.mesh_rowset.proofs.legal.empty.Goals as goal
 
+lt_le : (a b c : ℕ) → a ≤ b → b < c → a < c
+lt_le a b c h l = omega arith
+
 pub loop-rest-init : goal.loop-rest-init
 loop-rest-init c = (refl, emptying_begin c.args.bits.now c.args.mask c.args.p c.args.at c.args.list.now c.requires.covered c.requires.bits_len.0)
 
@@ -16,10 +19,7 @@ pub write_word-to-requires : goal.write_word-to-requires
 write_word-to-requires c =
     let fits : c.args.mask < 18446744073709551616 = omega (arith, c.ranges.mask) in
     let low : Lowest c.loop-rest.rest (count_trailing_zeros 64 c.loop-rest.rest) = lowest 64 c.loop-rest.rest (omega (arith, c.loop-rest-test.true))
-    (lt_le c.loop-rest.rest c.args.mask 18446744073709551616 (subst (λ (x : ℕ). x ≤ c.args.mask) (sym c.loop-rest.invariant.1.left) (shr_le c.args.mask c.loop-rest.g)) fits)
-  where
-    lt_le : (a b c : ℕ) → a ≤ b → b < c → a < c
-    lt_le a b c h c = omega arith in
+    (lt_le c.loop-rest.rest c.args.mask 18446744073709551616 (subst (λ (x : ℕ). x ≤ c.args.mask) (sym c.loop-rest.invariant.1.left) (shr_le c.args.mask c.loop-rest.g)) fits) in
     let word_in : c.loop-rest.g + count_trailing_zeros 64 c.loop-rest.rest < 64 = in_words c.args.bits.now c.args.mask c.args.p c.args.at c.args.list.now c.requires.covered c.loop-rest.g c.loop-rest.rest c.loop-rest.to c.loop-rest.bits c.loop-rest.list
     c.loop-rest.invariant.1 fits _ low in
     (omega (arith, word_in), omega (arith, word_in, c.requires.bits_len.1, c.loop-rest.invariant.1.most))
@@ -28,10 +28,7 @@ pub loop-rest-preserved : goal.loop-rest-preserved
 loop-rest-preserved c =
     let fits : c.args.mask < 18446744073709551616 = omega (arith, c.ranges.mask) in
     let low : Lowest c.loop-rest.rest (count_trailing_zeros 64 c.loop-rest.rest) = lowest 64 c.loop-rest.rest (omega (arith, c.loop-rest-test.true))
-    (lt_le c.loop-rest.rest c.args.mask 18446744073709551616 (subst (λ (x : ℕ). x ≤ c.args.mask) (sym c.loop-rest.invariant.1.left) (shr_le c.args.mask c.loop-rest.g)) fits)
-  where
-    lt_le : (a b c : ℕ) → a ≤ b → b < c → a < c
-    lt_le a b c h c = omega arith in
+    (lt_le c.loop-rest.rest c.args.mask 18446744073709551616 (subst (λ (x : ℕ). x ≤ c.args.mask) (sym c.loop-rest.invariant.1.left) (shr_le c.args.mask c.loop-rest.g)) fits) in
     (
       c.write_word-to.auto.list ∙ c.loop-rest.invariant.0,
       emptying_step c.args.bits.now c.args.mask c.args.p c.args.at c.args.list.now c.requires.covered c.loop-rest.g c.loop-rest.rest c.loop-rest.to c.loop-rest.bits c.loop-rest.list
@@ -49,10 +46,7 @@ pub overflow_cast-z : goal.overflow_cast-z
 overflow_cast-z c =
     let fits : c.args.mask < 18446744073709551616 = omega (arith, c.ranges.mask) in
     let low : Lowest c.loop-rest.rest (count_trailing_zeros 64 c.loop-rest.rest) = lowest 64 c.loop-rest.rest (omega (arith, c.loop-rest-test.true))
-    (lt_le c.loop-rest.rest c.args.mask 18446744073709551616 (subst (λ (x : ℕ). x ≤ c.args.mask) (sym c.loop-rest.invariant.1.left) (shr_le c.args.mask c.loop-rest.g)) fits)
-  where
-    lt_le : (a b c : ℕ) → a ≤ b → b < c → a < c
-    lt_le a b c h c = omega arith in
+    (lt_le c.loop-rest.rest c.args.mask 18446744073709551616 (subst (λ (x : ℕ). x ≤ c.args.mask) (sym c.loop-rest.invariant.1.left) (shr_le c.args.mask c.loop-rest.g)) fits) in
     let word_in : c.loop-rest.g + count_trailing_zeros 64 c.loop-rest.rest < 64 = in_words c.args.bits.now c.args.mask c.args.p c.args.at c.args.list.now c.requires.covered c.loop-rest.g c.loop-rest.rest c.loop-rest.to c.loop-rest.bits c.loop-rest.list
     c.loop-rest.invariant.1 fits _ low in
     omega (arith, word_in)
@@ -61,10 +55,7 @@ pub overflow_add-w : goal.overflow_add-w
 overflow_add-w c =
     let fits : c.args.mask < 18446744073709551616 = omega (arith, c.ranges.mask) in
     let low : Lowest c.loop-rest.rest (count_trailing_zeros 64 c.loop-rest.rest) = lowest 64 c.loop-rest.rest (omega (arith, c.loop-rest-test.true))
-    (lt_le c.loop-rest.rest c.args.mask 18446744073709551616 (subst (λ (x : ℕ). x ≤ c.args.mask) (sym c.loop-rest.invariant.1.left) (shr_le c.args.mask c.loop-rest.g)) fits)
-  where
-    lt_le : (a b c : ℕ) → a ≤ b → b < c → a < c
-    lt_le a b c h c = omega arith in
+    (lt_le c.loop-rest.rest c.args.mask 18446744073709551616 (subst (λ (x : ℕ). x ≤ c.args.mask) (sym c.loop-rest.invariant.1.left) (shr_le c.args.mask c.loop-rest.g)) fits) in
     let word_in : c.loop-rest.g + count_trailing_zeros 64 c.loop-rest.rest < 64 = in_words c.args.bits.now c.args.mask c.args.p c.args.at c.args.list.now c.requires.covered c.loop-rest.g c.loop-rest.rest c.loop-rest.to c.loop-rest.bits c.loop-rest.list
     c.loop-rest.invariant.1 fits _ low in
     omega (arith, word_in)
@@ -73,10 +64,7 @@ pub offset_bounds-bits-w : goal.offset_bounds-bits-w
 offset_bounds-bits-w c =
     let fits : c.args.mask < 18446744073709551616 = omega (arith, c.ranges.mask) in
     let low : Lowest c.loop-rest.rest (count_trailing_zeros 64 c.loop-rest.rest) = lowest 64 c.loop-rest.rest (omega (arith, c.loop-rest-test.true))
-    (lt_le c.loop-rest.rest c.args.mask 18446744073709551616 (subst (λ (x : ℕ). x ≤ c.args.mask) (sym c.loop-rest.invariant.1.left) (shr_le c.args.mask c.loop-rest.g)) fits)
-  where
-    lt_le : (a b c : ℕ) → a ≤ b → b < c → a < c
-    lt_le a b c h c = omega arith in
+    (lt_le c.loop-rest.rest c.args.mask 18446744073709551616 (subst (λ (x : ℕ). x ≤ c.args.mask) (sym c.loop-rest.invariant.1.left) (shr_le c.args.mask c.loop-rest.g)) fits) in
     let word_in : c.loop-rest.g + count_trailing_zeros 64 c.loop-rest.rest < 64 = in_words c.args.bits.now c.args.mask c.args.p c.args.at c.args.list.now c.requires.covered c.loop-rest.g c.loop-rest.rest c.loop-rest.to c.loop-rest.bits c.loop-rest.list
     c.loop-rest.invariant.1 fits _ low in
     omega (arith, word_in)
@@ -85,10 +73,7 @@ pub bounds-bits-w : goal.bounds-bits-w
 bounds-bits-w c =
     let fits : c.args.mask < 18446744073709551616 = omega (arith, c.ranges.mask) in
     let low : Lowest c.loop-rest.rest (count_trailing_zeros 64 c.loop-rest.rest) = lowest 64 c.loop-rest.rest (omega (arith, c.loop-rest-test.true))
-    (lt_le c.loop-rest.rest c.args.mask 18446744073709551616 (subst (λ (x : ℕ). x ≤ c.args.mask) (sym c.loop-rest.invariant.1.left) (shr_le c.args.mask c.loop-rest.g)) fits)
-  where
-    lt_le : (a b c : ℕ) → a ≤ b → b < c → a < c
-    lt_le a b c h c = omega arith in
+    (lt_le c.loop-rest.rest c.args.mask 18446744073709551616 (subst (λ (x : ℕ). x ≤ c.args.mask) (sym c.loop-rest.invariant.1.left) (shr_le c.args.mask c.loop-rest.g)) fits) in
     let word_in : c.loop-rest.g + count_trailing_zeros 64 c.loop-rest.rest < 64 = in_words c.args.bits.now c.args.mask c.args.p c.args.at c.args.list.now c.requires.covered c.loop-rest.g c.loop-rest.rest c.loop-rest.to c.loop-rest.bits c.loop-rest.list
     c.loop-rest.invariant.1 fits _ low in
     omega (arith, word_in, c.loop-rest.invariant.1.size)
@@ -97,10 +82,7 @@ pub overflow_mul-w : goal.overflow_mul-w
 overflow_mul-w c =
     let fits : c.args.mask < 18446744073709551616 = omega (arith, c.ranges.mask) in
     let low : Lowest c.loop-rest.rest (count_trailing_zeros 64 c.loop-rest.rest) = lowest 64 c.loop-rest.rest (omega (arith, c.loop-rest-test.true))
-    (lt_le c.loop-rest.rest c.args.mask 18446744073709551616 (subst (λ (x : ℕ). x ≤ c.args.mask) (sym c.loop-rest.invariant.1.left) (shr_le c.args.mask c.loop-rest.g)) fits)
-  where
-    lt_le : (a b c : ℕ) → a ≤ b → b < c → a < c
-    lt_le a b c h c = omega arith in
+    (lt_le c.loop-rest.rest c.args.mask 18446744073709551616 (subst (λ (x : ℕ). x ≤ c.args.mask) (sym c.loop-rest.invariant.1.left) (shr_le c.args.mask c.loop-rest.g)) fits) in
     let word_in : c.loop-rest.g + count_trailing_zeros 64 c.loop-rest.rest < 64 = in_words c.args.bits.now c.args.mask c.args.p c.args.at c.args.list.now c.requires.covered c.loop-rest.g c.loop-rest.rest c.loop-rest.to c.loop-rest.bits c.loop-rest.list
     c.loop-rest.invariant.1 fits _ low in
     omega (arith, word_in)
@@ -109,10 +91,7 @@ pub offset_bounds-bits-w-in-loop-rest : goal.offset_bounds-bits-w-in-loop-rest
 offset_bounds-bits-w-in-loop-rest c =
     let fits : c.args.mask < 18446744073709551616 = omega (arith, c.ranges.mask) in
     let low : Lowest c.loop-rest.rest (count_trailing_zeros 64 c.loop-rest.rest) = lowest 64 c.loop-rest.rest (omega (arith, c.loop-rest-test.true))
-    (lt_le c.loop-rest.rest c.args.mask 18446744073709551616 (subst (λ (x : ℕ). x ≤ c.args.mask) (sym c.loop-rest.invariant.1.left) (shr_le c.args.mask c.loop-rest.g)) fits)
-  where
-    lt_le : (a b c : ℕ) → a ≤ b → b < c → a < c
-    lt_le a b c h c = omega arith in
+    (lt_le c.loop-rest.rest c.args.mask 18446744073709551616 (subst (λ (x : ℕ). x ≤ c.args.mask) (sym c.loop-rest.invariant.1.left) (shr_le c.args.mask c.loop-rest.g)) fits) in
     let word_in : c.loop-rest.g + count_trailing_zeros 64 c.loop-rest.rest < 64 = in_words c.args.bits.now c.args.mask c.args.p c.args.at c.args.list.now c.requires.covered c.loop-rest.g c.loop-rest.rest c.loop-rest.to c.loop-rest.bits c.loop-rest.list
     c.loop-rest.invariant.1 fits _ low in
     omega (arith, word_in)
@@ -121,10 +100,7 @@ pub bounds-bits-w-in-loop-rest : goal.bounds-bits-w-in-loop-rest
 bounds-bits-w-in-loop-rest c =
     let fits : c.args.mask < 18446744073709551616 = omega (arith, c.ranges.mask) in
     let low : Lowest c.loop-rest.rest (count_trailing_zeros 64 c.loop-rest.rest) = lowest 64 c.loop-rest.rest (omega (arith, c.loop-rest-test.true))
-    (lt_le c.loop-rest.rest c.args.mask 18446744073709551616 (subst (λ (x : ℕ). x ≤ c.args.mask) (sym c.loop-rest.invariant.1.left) (shr_le c.args.mask c.loop-rest.g)) fits)
-  where
-    lt_le : (a b c : ℕ) → a ≤ b → b < c → a < c
-    lt_le a b c h c = omega arith in
+    (lt_le c.loop-rest.rest c.args.mask 18446744073709551616 (subst (λ (x : ℕ). x ≤ c.args.mask) (sym c.loop-rest.invariant.1.left) (shr_le c.args.mask c.loop-rest.g)) fits) in
     let word_in : c.loop-rest.g + count_trailing_zeros 64 c.loop-rest.rest < 64 = in_words c.args.bits.now c.args.mask c.args.p c.args.at c.args.list.now c.requires.covered c.loop-rest.g c.loop-rest.rest c.loop-rest.to c.loop-rest.bits c.loop-rest.list
     c.loop-rest.invariant.1 fits _ low in
     omega (arith, word_in, c.loop-rest.invariant.1.size)
@@ -133,10 +109,7 @@ pub overflow_add-g : goal.overflow_add-g
 overflow_add-g c =
     let fits : c.args.mask < 18446744073709551616 = omega (arith, c.ranges.mask) in
     let low : Lowest c.loop-rest.rest (count_trailing_zeros 64 c.loop-rest.rest) = lowest 64 c.loop-rest.rest (omega (arith, c.loop-rest-test.true))
-    (lt_le c.loop-rest.rest c.args.mask 18446744073709551616 (subst (λ (x : ℕ). x ≤ c.args.mask) (sym c.loop-rest.invariant.1.left) (shr_le c.args.mask c.loop-rest.g)) fits)
-  where
-    lt_le : (a b c : ℕ) → a ≤ b → b < c → a < c
-    lt_le a b c h c = omega arith in
+    (lt_le c.loop-rest.rest c.args.mask 18446744073709551616 (subst (λ (x : ℕ). x ≤ c.args.mask) (sym c.loop-rest.invariant.1.left) (shr_le c.args.mask c.loop-rest.g)) fits) in
     let word_in : c.loop-rest.g + count_trailing_zeros 64 c.loop-rest.rest < 64 = in_words c.args.bits.now c.args.mask c.args.p c.args.at c.args.list.now c.requires.covered c.loop-rest.g c.loop-rest.rest c.loop-rest.to c.loop-rest.bits c.loop-rest.list
     c.loop-rest.invariant.1 fits _ low in
     omega (arith, word_in)
@@ -145,10 +118,7 @@ pub overflow_shr-rest : goal.overflow_shr-rest
 overflow_shr-rest c =
     let fits : c.args.mask < 18446744073709551616 = omega (arith, c.ranges.mask) in
     let low : Lowest c.loop-rest.rest (count_trailing_zeros 64 c.loop-rest.rest) = lowest 64 c.loop-rest.rest (omega (arith, c.loop-rest-test.true))
-    (lt_le c.loop-rest.rest c.args.mask 18446744073709551616 (subst (λ (x : ℕ). x ≤ c.args.mask) (sym c.loop-rest.invariant.1.left) (shr_le c.args.mask c.loop-rest.g)) fits)
-  where
-    lt_le : (a b c : ℕ) → a ≤ b → b < c → a < c
-    lt_le a b c h c = omega arith in
+    (lt_le c.loop-rest.rest c.args.mask 18446744073709551616 (subst (λ (x : ℕ). x ≤ c.args.mask) (sym c.loop-rest.invariant.1.left) (shr_le c.args.mask c.loop-rest.g)) fits) in
     let word_in : c.loop-rest.g + count_trailing_zeros 64 c.loop-rest.rest < 64 = in_words c.args.bits.now c.args.mask c.args.p c.args.at c.args.list.now c.requires.covered c.loop-rest.g c.loop-rest.rest c.loop-rest.to c.loop-rest.bits c.loop-rest.list
     c.loop-rest.invariant.1 fits _ low in
     omega (arith, word_in)
@@ -157,10 +127,7 @@ pub loop-rest-smaller : goal.loop-rest-smaller
 loop-rest-smaller c =
     let fits : c.args.mask < 18446744073709551616 = omega (arith, c.ranges.mask) in
     let low : Lowest c.loop-rest.rest (count_trailing_zeros 64 c.loop-rest.rest) = lowest 64 c.loop-rest.rest (omega (arith, c.loop-rest-test.true))
-    (lt_le c.loop-rest.rest c.args.mask 18446744073709551616 (subst (λ (x : ℕ). x ≤ c.args.mask) (sym c.loop-rest.invariant.1.left) (shr_le c.args.mask c.loop-rest.g)) fits)
-  where
-    lt_le : (a b c : ℕ) → a ≤ b → b < c → a < c
-    lt_le a b c h c = omega arith in
+    (lt_le c.loop-rest.rest c.args.mask 18446744073709551616 (subst (λ (x : ℕ). x ≤ c.args.mask) (sym c.loop-rest.invariant.1.left) (shr_le c.args.mask c.loop-rest.g)) fits) in
     let word_in : c.loop-rest.g + count_trailing_zeros 64 c.loop-rest.rest < 64 = in_words c.args.bits.now c.args.mask c.args.p c.args.at c.args.list.now c.requires.covered c.loop-rest.g c.loop-rest.rest c.loop-rest.to c.loop-rest.bits c.loop-rest.list
     c.loop-rest.invariant.1 fits _ low in
     omega (arith, word_in)

@@ -12,6 +12,9 @@ use Rattle.mesh_rowset.proofs.Bits.{Lowest, lowest}
 use Rattle.mesh_rowset.proofs.Sets.{Writing, writing_begin, writing_done, inside, writing_self, writing_node}
 use Rattle.mesh_rowset.proofs.legal.write_word.Goals as goal
 
+lt_le : (a b c : ℕ) → a ≤ b → b < c → a < c
+lt_le a b c h l = omega arith
+
 pub loop-rest-init : goal.loop-rest-init
 loop-rest-init c = (refl, writing_begin _ _ _ _ _)
 
@@ -19,10 +22,7 @@ pub loop-rest-preserved : goal.loop-rest-preserved
 loop-rest-preserved c =
     let fits : c.args.word < 18446744073709551616 = omega (arith, c.ranges.word) in
     let low : Lowest c.loop-rest.rest (count_trailing_zeros 64 c.loop-rest.rest) = lowest 64 c.loop-rest.rest (omega (arith, c.loop-rest-test.true))
-    (lt_le c.loop-rest.rest c.args.word 18446744073709551616 (subst (λ (x : ℕ). x ≤ c.args.word) (sym c.loop-rest.invariant.1.left) (shr_le c.args.word c.loop-rest.k)) fits)
-  where
-    lt_le : (a b c : ℕ) → a ≤ b → b < c → a < c
-    lt_le a b c h c = omega arith in
+    (lt_le c.loop-rest.rest c.args.word 18446744073709551616 (subst (λ (x : ℕ). x ≤ c.args.word) (sym c.loop-rest.invariant.1.left) (shr_le c.args.word c.loop-rest.k)) fits) in
     let z = count_trailing_zeros 64 c.loop-rest.rest in (
       c.put-to.auto.list ∙ c.loop-rest.invariant.0,
       ⊎_elim
@@ -43,10 +43,7 @@ pub put-to-requires : goal.put-to-requires
 put-to-requires c =
     let fits : c.args.word < 18446744073709551616 = omega (arith, c.ranges.word) in
     let low : Lowest c.loop-rest.rest (count_trailing_zeros 64 c.loop-rest.rest) = lowest 64 c.loop-rest.rest (omega (arith, c.loop-rest-test.true))
-    (lt_le c.loop-rest.rest c.args.word 18446744073709551616 (subst (λ (x : ℕ). x ≤ c.args.word) (sym c.loop-rest.invariant.1.left) (shr_le c.args.word c.loop-rest.k)) fits)
-  where
-    lt_le : (a b c : ℕ) → a ≤ b → b < c → a < c
-    lt_le a b c h c = omega arith in
+    (lt_le c.loop-rest.rest c.args.word 18446744073709551616 (subst (λ (x : ℕ). x ≤ c.args.word) (sym c.loop-rest.invariant.1.left) (shr_le c.args.word c.loop-rest.k)) fits) in
     let inside_at : c.loop-rest.k + count_trailing_zeros 64 c.loop-rest.rest < 64 = inside c.args.word c.args.base c.args.p c.args.at c.args.list.now c.loop-rest.k c.loop-rest.rest c.loop-rest.to c.loop-rest.list c.loop-rest.invariant.1 fits _ low in
     (omega (arith, inside_at, c.requires), omega (arith, inside_at, c.requires, c.loop-rest.invariant.1.most))
 
@@ -54,10 +51,7 @@ pub overflow_cast-z : goal.overflow_cast-z
 overflow_cast-z c =
     let fits : c.args.word < 18446744073709551616 = omega (arith, c.ranges.word) in
     let low : Lowest c.loop-rest.rest (count_trailing_zeros 64 c.loop-rest.rest) = lowest 64 c.loop-rest.rest (omega (arith, c.loop-rest-test.true))
-    (lt_le c.loop-rest.rest c.args.word 18446744073709551616 (subst (λ (x : ℕ). x ≤ c.args.word) (sym c.loop-rest.invariant.1.left) (shr_le c.args.word c.loop-rest.k)) fits)
-  where
-    lt_le : (a b c : ℕ) → a ≤ b → b < c → a < c
-    lt_le a b c h c = omega arith in
+    (lt_le c.loop-rest.rest c.args.word 18446744073709551616 (subst (λ (x : ℕ). x ≤ c.args.word) (sym c.loop-rest.invariant.1.left) (shr_le c.args.word c.loop-rest.k)) fits) in
     let inside_at : c.loop-rest.k + count_trailing_zeros 64 c.loop-rest.rest < 64 = inside c.args.word c.args.base c.args.p c.args.at c.args.list.now c.loop-rest.k c.loop-rest.rest c.loop-rest.to c.loop-rest.list c.loop-rest.invariant.1 fits _ low in
     omega (arith, inside_at)
 
@@ -65,10 +59,7 @@ pub overflow_add-q : goal.overflow_add-q
 overflow_add-q c =
     let fits : c.args.word < 18446744073709551616 = omega (arith, c.ranges.word) in
     let low : Lowest c.loop-rest.rest (count_trailing_zeros 64 c.loop-rest.rest) = lowest 64 c.loop-rest.rest (omega (arith, c.loop-rest-test.true))
-    (lt_le c.loop-rest.rest c.args.word 18446744073709551616 (subst (λ (x : ℕ). x ≤ c.args.word) (sym c.loop-rest.invariant.1.left) (shr_le c.args.word c.loop-rest.k)) fits)
-  where
-    lt_le : (a b c : ℕ) → a ≤ b → b < c → a < c
-    lt_le a b c h c = omega arith in
+    (lt_le c.loop-rest.rest c.args.word 18446744073709551616 (subst (λ (x : ℕ). x ≤ c.args.word) (sym c.loop-rest.invariant.1.left) (shr_le c.args.word c.loop-rest.k)) fits) in
     let inside_at : c.loop-rest.k + count_trailing_zeros 64 c.loop-rest.rest < 64 = inside c.args.word c.args.base c.args.p c.args.at c.args.list.now c.loop-rest.k c.loop-rest.rest c.loop-rest.to c.loop-rest.list c.loop-rest.invariant.1 fits _ low in
     omega (arith, inside_at, c.requires)
 
@@ -76,10 +67,7 @@ pub overflow_add-q-in-loop-rest : goal.overflow_add-q-in-loop-rest
 overflow_add-q-in-loop-rest c =
     let fits : c.args.word < 18446744073709551616 = omega (arith, c.ranges.word) in
     let low : Lowest c.loop-rest.rest (count_trailing_zeros 64 c.loop-rest.rest) = lowest 64 c.loop-rest.rest (omega (arith, c.loop-rest-test.true))
-    (lt_le c.loop-rest.rest c.args.word 18446744073709551616 (subst (λ (x : ℕ). x ≤ c.args.word) (sym c.loop-rest.invariant.1.left) (shr_le c.args.word c.loop-rest.k)) fits)
-  where
-    lt_le : (a b c : ℕ) → a ≤ b → b < c → a < c
-    lt_le a b c h c = omega arith in
+    (lt_le c.loop-rest.rest c.args.word 18446744073709551616 (subst (λ (x : ℕ). x ≤ c.args.word) (sym c.loop-rest.invariant.1.left) (shr_le c.args.word c.loop-rest.k)) fits) in
     let inside_at : c.loop-rest.k + count_trailing_zeros 64 c.loop-rest.rest < 64 = inside c.args.word c.args.base c.args.p c.args.at c.args.list.now c.loop-rest.k c.loop-rest.rest c.loop-rest.to c.loop-rest.list c.loop-rest.invariant.1 fits _ low in
     omega (arith, inside_at, c.requires)
 
@@ -87,10 +75,7 @@ pub overflow_add-q-in-loop-rest-2 : goal.overflow_add-q-in-loop-rest-2
 overflow_add-q-in-loop-rest-2 c =
     let fits : c.args.word < 18446744073709551616 = omega (arith, c.ranges.word) in
     let low : Lowest c.loop-rest.rest (count_trailing_zeros 64 c.loop-rest.rest) = lowest 64 c.loop-rest.rest (omega (arith, c.loop-rest-test.true))
-    (lt_le c.loop-rest.rest c.args.word 18446744073709551616 (subst (λ (x : ℕ). x ≤ c.args.word) (sym c.loop-rest.invariant.1.left) (shr_le c.args.word c.loop-rest.k)) fits)
-  where
-    lt_le : (a b c : ℕ) → a ≤ b → b < c → a < c
-    lt_le a b c h c = omega arith in
+    (lt_le c.loop-rest.rest c.args.word 18446744073709551616 (subst (λ (x : ℕ). x ≤ c.args.word) (sym c.loop-rest.invariant.1.left) (shr_le c.args.word c.loop-rest.k)) fits) in
     let inside_at : c.loop-rest.k + count_trailing_zeros 64 c.loop-rest.rest < 64 = inside c.args.word c.args.base c.args.p c.args.at c.args.list.now c.loop-rest.k c.loop-rest.rest c.loop-rest.to c.loop-rest.list c.loop-rest.invariant.1 fits _ low in
     omega (arith, inside_at, c.requires)
 
@@ -98,10 +83,7 @@ pub overflow_add-k : goal.overflow_add-k
 overflow_add-k c =
     let fits : c.args.word < 18446744073709551616 = omega (arith, c.ranges.word) in
     let low : Lowest c.loop-rest.rest (count_trailing_zeros 64 c.loop-rest.rest) = lowest 64 c.loop-rest.rest (omega (arith, c.loop-rest-test.true))
-    (lt_le c.loop-rest.rest c.args.word 18446744073709551616 (subst (λ (x : ℕ). x ≤ c.args.word) (sym c.loop-rest.invariant.1.left) (shr_le c.args.word c.loop-rest.k)) fits)
-  where
-    lt_le : (a b c : ℕ) → a ≤ b → b < c → a < c
-    lt_le a b c h c = omega arith in
+    (lt_le c.loop-rest.rest c.args.word 18446744073709551616 (subst (λ (x : ℕ). x ≤ c.args.word) (sym c.loop-rest.invariant.1.left) (shr_le c.args.word c.loop-rest.k)) fits) in
     let inside_at : c.loop-rest.k + count_trailing_zeros 64 c.loop-rest.rest < 64 = inside c.args.word c.args.base c.args.p c.args.at c.args.list.now c.loop-rest.k c.loop-rest.rest c.loop-rest.to c.loop-rest.list c.loop-rest.invariant.1 fits _ low in
     omega (arith, inside_at)
 
@@ -109,10 +91,7 @@ pub overflow_add-k-in-loop-rest : goal.overflow_add-k-in-loop-rest
 overflow_add-k-in-loop-rest c =
     let fits : c.args.word < 18446744073709551616 = omega (arith, c.ranges.word) in
     let low : Lowest c.loop-rest.rest (count_trailing_zeros 64 c.loop-rest.rest) = lowest 64 c.loop-rest.rest (omega (arith, c.loop-rest-test.true))
-    (lt_le c.loop-rest.rest c.args.word 18446744073709551616 (subst (λ (x : ℕ). x ≤ c.args.word) (sym c.loop-rest.invariant.1.left) (shr_le c.args.word c.loop-rest.k)) fits)
-  where
-    lt_le : (a b c : ℕ) → a ≤ b → b < c → a < c
-    lt_le a b c h c = omega arith in
+    (lt_le c.loop-rest.rest c.args.word 18446744073709551616 (subst (λ (x : ℕ). x ≤ c.args.word) (sym c.loop-rest.invariant.1.left) (shr_le c.args.word c.loop-rest.k)) fits) in
     let inside_at : c.loop-rest.k + count_trailing_zeros 64 c.loop-rest.rest < 64 = inside c.args.word c.args.base c.args.p c.args.at c.args.list.now c.loop-rest.k c.loop-rest.rest c.loop-rest.to c.loop-rest.list c.loop-rest.invariant.1 fits _ low in
     omega (arith, inside_at)
 
@@ -120,10 +99,7 @@ pub overflow_shr-rest : goal.overflow_shr-rest
 overflow_shr-rest c =
     let fits : c.args.word < 18446744073709551616 = omega (arith, c.ranges.word) in
     let low : Lowest c.loop-rest.rest (count_trailing_zeros 64 c.loop-rest.rest) = lowest 64 c.loop-rest.rest (omega (arith, c.loop-rest-test.true))
-    (lt_le c.loop-rest.rest c.args.word 18446744073709551616 (subst (λ (x : ℕ). x ≤ c.args.word) (sym c.loop-rest.invariant.1.left) (shr_le c.args.word c.loop-rest.k)) fits)
-  where
-    lt_le : (a b c : ℕ) → a ≤ b → b < c → a < c
-    lt_le a b c h c = omega arith in
+    (lt_le c.loop-rest.rest c.args.word 18446744073709551616 (subst (λ (x : ℕ). x ≤ c.args.word) (sym c.loop-rest.invariant.1.left) (shr_le c.args.word c.loop-rest.k)) fits) in
     let inside_at : c.loop-rest.k + count_trailing_zeros 64 c.loop-rest.rest < 64 = inside c.args.word c.args.base c.args.p c.args.at c.args.list.now c.loop-rest.k c.loop-rest.rest c.loop-rest.to c.loop-rest.list c.loop-rest.invariant.1 fits _ low in
     omega (arith, inside_at)
 
@@ -131,10 +107,7 @@ pub loop-rest-smaller : goal.loop-rest-smaller
 loop-rest-smaller c =
     let fits : c.args.word < 18446744073709551616 = omega (arith, c.ranges.word) in
     let low : Lowest c.loop-rest.rest (count_trailing_zeros 64 c.loop-rest.rest) = lowest 64 c.loop-rest.rest (omega (arith, c.loop-rest-test.true))
-    (lt_le c.loop-rest.rest c.args.word 18446744073709551616 (subst (λ (x : ℕ). x ≤ c.args.word) (sym c.loop-rest.invariant.1.left) (shr_le c.args.word c.loop-rest.k)) fits)
-  where
-    lt_le : (a b c : ℕ) → a ≤ b → b < c → a < c
-    lt_le a b c h c = omega arith in
+    (lt_le c.loop-rest.rest c.args.word 18446744073709551616 (subst (λ (x : ℕ). x ≤ c.args.word) (sym c.loop-rest.invariant.1.left) (shr_le c.args.word c.loop-rest.k)) fits) in
     let inside_at : c.loop-rest.k + count_trailing_zeros 64 c.loop-rest.rest < 64 = inside c.args.word c.args.base c.args.p c.args.at c.args.list.now c.loop-rest.k c.loop-rest.rest c.loop-rest.to c.loop-rest.list c.loop-rest.invariant.1 fits _ low in
     omega (arith, inside_at)
 
