@@ -1,0 +1,91 @@
+-- `numbering_import::import_numbering` meets its contract: the tests in turn, the later ones on the first n words of each buffer. Assumes nothing.
+use mathlib.Core.Path.{◌≡◌, sym, ap, ◌∙◌}
+use mathlib.Core.Bool.{Bool, false, cond}
+use Prim.Native.Nat.{◌≤◌}
+use native.Mathlib.Omega.{arith}
+use borrow.Author.Rules.{rules}
+use lib.ListN.{length, take}
+use lib.Seq.{length-take-le}
+use Rattle.basis.specs.Lists.{sum}
+use Rattle.spec.specs.Graph.{size_of}
+use Rattle.spec.specs.Unknowns.{bad_counts}
+use Rattle.graph.specs.Facts.{LegalLists}
+use Rattle.graph.proofs.Answers.{legal_lists, refused_lists}
+use Rattle.graph_words.proofs.Unknowns.{unknowns_kept, unknowns_refused}
+use Rattle.numbering_import.specs.Answer.{sent_three}
+use Rattle.numbering_import.proofs.Answers.{answered_lists, numbers_short, scratch_short, counts_refused, answered_late}
+use Rattle.numbering_import.proofs.import_numbering.Goals as goal
+
+-- ---- the ways out
+pub returns-in-Refused : goal.returns-in-Refused
+returns-in-Refused c =
+    let r =
+    answered_lists c.args.starts.now c.args.neighbours.now c.args.counts.now c.args.pairs.now (sent_three c.args.sent) c.args.numbers.now c.args.scratch.now
+    (refused_lists c.args.starts.now c.args.neighbours.now c.test_adjacency-tested.ensures c.in-Refused.is) in
+    record { result_value = r.answer; numbers_value = r.numbers; scratch_value = r.scratch }
+
+pub returns-then-numbers-n : goal.returns-then-numbers-n
+returns-then-numbers-n c =
+    let legal : LegalLists c.args.starts.now c.args.neighbours.now = legal_lists c.args.starts.now c.args.neighbours.now c.test_adjacency-tested.ensures c.in_default.is in
+    let r =
+    numbers_short c.args.starts.now c.args.neighbours.now c.args.counts.now c.args.pairs.now (sent_three c.args.sent) c.args.numbers.now c.args.scratch.now legal c.if-numbers-n.true in
+    record { result_value = r.answer; numbers_value = r.numbers; scratch_value = r.scratch }
+
+pub returns-then-scratch-n : goal.returns-then-scratch-n
+returns-then-scratch-n c =
+    let legal : LegalLists c.args.starts.now c.args.neighbours.now = legal_lists c.args.starts.now c.args.neighbours.now c.test_adjacency-tested.ensures c.in_default.is in
+    let r =
+    scratch_short c.args.starts.now c.args.neighbours.now c.args.counts.now c.args.pairs.now (sent_three c.args.sent) c.args.numbers.now c.args.scratch.now legal c.if-scratch-n.true in
+    record { result_value = r.answer; numbers_value = r.numbers; scratch_value = r.scratch }
+
+pub returns-then-total-eq0 : goal.returns-then-total-eq0
+returns-then-total-eq0 c =
+    let legal : LegalLists c.args.starts.now c.args.neighbours.now = legal_lists c.args.starts.now c.args.neighbours.now c.test_adjacency-tested.ensures c.in_default.is in
+    let r =
+    counts_refused c.args.starts.now c.args.neighbours.now c.args.counts.now c.args.pairs.now (sent_three c.args.sent) c.args.numbers.now c.args.scratch.now legal c.if-numbers-n.false
+    c.if-scratch-n.false (unknowns_refused _ _ legal.starts.some (sym c.unknowns-total.ensures ∙ c.if-total-eq0.true)) in
+    record { result_value = r.answer; numbers_value = r.numbers; scratch_value = r.scratch }
+
+pub import-requires : goal.import-requires
+import-requires c =
+    let legal : LegalLists c.args.starts.now c.args.neighbours.now = legal_lists c.args.starts.now c.args.neighbours.now c.test_adjacency-tested.ensures c.in_default.is in
+    let fit : bad_counts (size_of c.args.starts.now) c.args.counts.now ≡ false = unknowns_kept _ _ (λ z. c.if-total-eq0.false (c.unknowns-total.ensures ∙ z)) in
+    let total : c.unknowns-total.result ≡ sum c.args.counts.now = c.unknowns-total.ensures ∙ ap (λ (b : Bool). cond b 0 (sum c.args.counts.now)) fit in
+    let numbers-room : size_of c.args.starts.now ≤ length c.args.numbers.now = c.if-numbers-n.false in
+    let numbers-part : length (take (size_of c.args.starts.now) c.args.numbers.now) ≡ size_of c.args.starts.now = length-take-le _ _ numbers-room in
+    let scratch-room : size_of c.args.starts.now ≤ length c.args.scratch.now = c.if-scratch-n.false in
+    let scratch_part : length (take (size_of c.args.starts.now) c.args.scratch.now) ≡ size_of c.args.starts.now = length-take-le _ _ scratch-room in
+    record { legal_lists = legal; counts_value = fit; numbers_len = numbers-part; scratch_len = scratch_part; total_value = total }
+
+pub returns : goal.returns
+returns c =
+    let legal : LegalLists c.args.starts.now c.args.neighbours.now = legal_lists c.args.starts.now c.args.neighbours.now c.test_adjacency-tested.ensures c.in_default.is in
+    let fit : bad_counts (size_of c.args.starts.now) c.args.counts.now ≡ false = unknowns_kept _ _ (λ z. c.if-total-eq0.false (c.unknowns-total.ensures ∙ z)) in
+    let numbers-room : size_of c.args.starts.now ≤ length c.args.numbers.now = c.if-numbers-n.false in
+    let scratch-room : size_of c.args.starts.now ≤ length c.args.scratch.now = c.if-scratch-n.false in
+    let r =
+    answered_late c.args.starts.now c.args.neighbours.now c.args.counts.now c.args.pairs.now (sent_three c.args.sent) c.args.numbers.now c.args.scratch.now legal
+    numbers-room scratch-room fit (record { answer = c.import.ensures.result_value; numbers = c.import.ensures.numbers_value; scratch = c.import.ensures.scratch_value }) in
+    record { result_value = r.answer; numbers_value = r.numbers; scratch_value = r.scratch }
+
+pub overflow_sub-n : goal.overflow_sub-n
+overflow_sub-n c =
+    let legal : LegalLists c.args.starts.now c.args.neighbours.now = legal_lists c.args.starts.now c.args.neighbours.now c.test_adjacency-tested.ensures c.in_default.is in
+    omega (arith, legal.starts.count)
+
+pub unknowns-total-requires : goal.unknowns-total-requires
+unknowns-total-requires c =
+    let legal : LegalLists c.args.starts.now c.args.neighbours.now = legal_lists c.args.starts.now c.args.neighbours.now c.test_adjacency-tested.ensures c.in_default.is in
+    legal.starts.few
+
+pub slice_bounds-import-end-2 : goal.slice_bounds-import-end-2
+slice_bounds-import-end-2 c =
+    let numbers-room : size_of c.args.starts.now ≤ length c.args.numbers.now = c.if-numbers-n.false in
+    let numbers-part : length (take (size_of c.args.starts.now) c.args.numbers.now) ≡ size_of c.args.starts.now = length-take-le _ _ numbers-room in
+    sym numbers-part
+
+pub slice_bounds-import-end-4 : goal.slice_bounds-import-end-4
+slice_bounds-import-end-4 c =
+    let scratch-room : size_of c.args.starts.now ≤ length c.args.scratch.now = c.if-scratch-n.false in
+    let scratch_part : length (take (size_of c.args.starts.now) c.args.scratch.now) ≡ size_of c.args.starts.now = length-take-le _ _ scratch-room in
+    sym scratch_part

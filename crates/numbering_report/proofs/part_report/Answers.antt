@@ -1,0 +1,67 @@
+-- `numbering_report::part_report` meets its contract: each refusal by its test, and the report of `find_report`. Assumes nothing.
+use mathlib.Core.Path.{◌≡◌, sym, ◌∙◌}
+use mathlib.Core.Bool.{false}
+use native.Mathlib.Omega.{arith}
+use borrow.Author.Rules.{rules}
+use Rattle.spec.specs.Graph.{size_of, outside}
+use Rattle.spec.specs.Unknowns.{bad_counts}
+use Rattle.graph_words.proofs.Unknowns.{unknowns_refused, unknowns_kept}
+use Rattle.graph.specs.Facts.{LegalLists}
+use Rattle.graph.proofs.Answers.{legal_lists, refused_lists}
+use Rattle.levels.proofs.Refusals.{node_inside}
+use Rattle.numbering_report.proofs.Refusals.{lists_refused, short_refused, counts_refused, node_refused, report_accepted}
+use Rattle.numbering_report.proofs.part_report.Goals as goal
+
+pub returns-then-scratch-n : goal.returns-then-scratch-n
+returns-then-scratch-n c =
+    let legal : LegalLists c.args.starts.now c.args.neighbours.now = legal_lists c.args.starts.now c.args.neighbours.now c.test_adjacency.ensures c.in-Legal.is in
+    let done = short_refused c.args.starts.now c.args.neighbours.now c.args.counts.now c.args.node c.args.scratch.now legal c.if-scratch-n.true in record { result_value = done.0; scratch_value = done.1 }
+
+pub returns-then-unknowns-eq0 : goal.returns-then-unknowns-eq0
+returns-then-unknowns-eq0 c =
+    let legal : LegalLists c.args.starts.now c.args.neighbours.now = legal_lists c.args.starts.now c.args.neighbours.now c.test_adjacency.ensures c.in-Legal.is in
+    let bad = unknowns_refused (size_of c.args.starts.now) c.args.counts.now legal.starts.some (sym c.unknowns.ensures ∙ c.if-unknowns-eq0.true) in
+    let done = counts_refused c.args.starts.now c.args.neighbours.now c.args.counts.now c.args.node c.args.scratch.now legal c.if-scratch-n.false bad in record { result_value = done.0; scratch_value = done.1 }
+
+pub returns-then-no_node : goal.returns-then-no_node
+returns-then-no_node c =
+    let legal : LegalLists c.args.starts.now c.args.neighbours.now = legal_lists c.args.starts.now c.args.neighbours.now c.test_adjacency.ensures c.in-Legal.is in
+    let counted : bad_counts (size_of c.args.starts.now) c.args.counts.now ≡ false = unknowns_kept (size_of c.args.starts.now) c.args.counts.now (λ z. c.if-unknowns-eq0.false (c.unknowns.ensures ∙ z)) in
+    let done = node_refused c.args.starts.now c.args.neighbours.now c.args.counts.now c.args.node c.args.scratch.now legal c.if-scratch-n.false counted
+    (sym c.no_node.ensures ∙ c.if-no_node.true) in record { result_value = done.0; scratch_value = done.1 }
+
+pub returns-in-Refused : goal.returns-in-Refused
+returns-in-Refused c =
+    let done = lists_refused c.args.starts.now c.args.neighbours.now c.args.counts.now c.args.node c.args.scratch.now
+    (refused_lists c.args.starts.now c.args.neighbours.now c.test_adjacency.ensures c.in-Refused.is) in record { result_value = done.0; scratch_value = done.1 }
+
+-- ---- the call
+pub find_report-requires : goal.find_report-requires
+find_report-requires c =
+    let legal : LegalLists c.args.starts.now c.args.neighbours.now = legal_lists c.args.starts.now c.args.neighbours.now c.test_adjacency.ensures c.in-Legal.is in
+    let counted : bad_counts (size_of c.args.starts.now) c.args.counts.now ≡ false = unknowns_kept (size_of c.args.starts.now) c.args.counts.now (λ z. c.if-unknowns-eq0.false (c.unknowns.ensures ∙ z)) in
+    let inside : outside (size_of c.args.starts.now) c.args.node ≡ false = sym c.no_node.ensures ∙ c.if-no_node.false in
+    record { neighbours_value = legal.refusal; counts_value = counted; le_node = node_inside (size_of c.args.starts.now) c.args.node inside; starts_in_bounds = c.if-scratch-n.false }
+
+pub returns-else-no_node : goal.returns-else-no_node
+returns-else-no_node c =
+    let legal : LegalLists c.args.starts.now c.args.neighbours.now = legal_lists c.args.starts.now c.args.neighbours.now c.test_adjacency.ensures c.in-Legal.is in
+    let counted : bad_counts (size_of c.args.starts.now) c.args.counts.now ≡ false = unknowns_kept (size_of c.args.starts.now) c.args.counts.now (λ z. c.if-unknowns-eq0.false (c.unknowns.ensures ∙ z)) in
+    let inside : outside (size_of c.args.starts.now) c.args.node ≡ false = sym c.no_node.ensures ∙ c.if-no_node.false in
+    let done = report_accepted c.args.starts.now c.args.neighbours.now c.args.counts.now c.args.node c.args.scratch.now legal c.if-scratch-n.false counted inside
+    c.find_report.ensures.result_value c.find_report.ensures.scratch_value in record { result_value = done.0; scratch_value = done.1 }
+
+pub overflow_sub-n : goal.overflow_sub-n
+overflow_sub-n c =
+    let legal : LegalLists c.args.starts.now c.args.neighbours.now = legal_lists c.args.starts.now c.args.neighbours.now c.test_adjacency.ensures c.in-Legal.is in
+    omega (arith, legal.starts.count)
+
+pub overflow_mul-n : goal.overflow_mul-n
+overflow_mul-n c =
+    let legal : LegalLists c.args.starts.now c.args.neighbours.now = legal_lists c.args.starts.now c.args.neighbours.now c.test_adjacency.ensures c.in-Legal.is in
+    omega (arith, legal.starts.few)
+
+pub unknowns-requires : goal.unknowns-requires
+unknowns-requires c =
+    let legal : LegalLists c.args.starts.now c.args.neighbours.now = legal_lists c.args.starts.now c.args.neighbours.now c.test_adjacency.ensures c.in-Legal.is in
+    legal.starts.few
