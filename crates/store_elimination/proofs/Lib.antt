@@ -1,5 +1,5 @@
 pub mod Degrees
-pub mod Counts
+pub mod MarkCounts
 pub mod OneEach
 pub mod Lent
 pub mod Answers

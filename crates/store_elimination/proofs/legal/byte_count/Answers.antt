@@ -1,0 +1,9 @@
+-- `store_elimination::legal::byte_count` meets its contract: as many unknowns as nodes, or in unknowns. Assumes nothing.
+use mathlib.Core.Path.{ap, ◌∙◌}
+use borrow.Author.Rules.{rules}
+use Rattle.spec.specs.Store.{mark_byte_count}
+use Rattle.store_elimination.proofs.OneEach.{one_each}
+use Rattle.store_elimination.proofs.legal.byte_count.Goals as goal
+
+pub returns-then-total-numbering : goal.returns-then-total-numbering
+returns-then-total-numbering c = record { value = c.byte_count.ensures ∙ ap mark_byte_count (one_each c.requires.given c.requires.total_value c.if-total-numbering.true); scratch_value = c.requires.given.order }
