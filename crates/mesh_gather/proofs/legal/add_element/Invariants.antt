@@ -1,0 +1,16 @@
+-- `mesh_gather::legal::add_element` meets its contract. Assumes nothing.
+use Prim.Native.Nat.{ℕ, suc, ◌+◌, ◌-◌, ◌≤◌, ◌<◌}
+use mathlib.Core.Path.{◌≡◌, sym, ◌∙◌}
+use mathlib.Core.Logic.{⊎_elim}
+use native.Mathlib.Omega.{arith}
+use borrow.Author.Rules.{rules}
+use lib.ListN.{length, get_or}
+use lib.Dec.{eqb}
+use Rattle.mesh_gather.proofs.Growing.{Towards, towards_begin, towards_step, towards_skip, towards_done, nodes_from, node_next, node_past, node_over}
+use Rattle.mesh_gather.proofs.legal.add_element.Given as goal
+
+abbrev pub invariant-loop-j : goal.invariant-loop-j
+invariant-loop-j l = (l.j ≤ length l.nodes) × (length l.sets ≡ 4096) × Towards (nodes_from l.base l.nodes l.j) (nodes_from l.base l.nodes 0) l.initial.sets l.sets
+
+abbrev pub decreases-loop-j : goal.decreases-loop-j
+decreases-loop-j l = length l.nodes - l.j

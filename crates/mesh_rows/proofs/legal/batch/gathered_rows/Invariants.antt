@@ -1,0 +1,26 @@
+-- `mesh_rows::legal::batch::gathered_rows` meets its contract. Assumes nothing.
+use Prim.Native.Nat.{ℕ, ◌+◌, ◌-◌, ◌≤◌, ◌<◌}
+use mathlib.Core.Path.{◌≡◌, sym, ap, subst, ◌∙◌}
+use mathlib.Core.List.{List}
+use native.Mathlib.Nat.{add-zero}
+use native.Mathlib.Omega.{arith}
+use lib.ListN.{length, length-replicate}
+use Rattle.spec.specs.CallsMesh.{graph_of_elements}
+use Rattle.mesh_gather.specs.Sets.{set_at}
+use Rattle.mesh_rows.specs.Rows.{Goes}
+use Rattle.mesh_rows.proofs.Laying.{Filling, filling_begin, filling_step}
+use Rattle.mesh_rows.proofs.Rows.{SetOf, Left, left_begin, left_step, row_room, row_small, row_goes}
+use Rattle.mesh_rows.proofs.legal.batch.gathered_rows.Given as goal
+
+-- the first `row` of the rows are laid, and the sets of the others are as gathered
+pub record Laying (n : ℕ) (elements : List ℕ) (base rows : ℕ) (starts₀ neighbours₀ group starts neighbours : List ℕ) (to row : ℕ) : Type 0 where
+  pub most : row ≤ rows
+  pub size : length group ≡ 4096
+  pub sets : Left elements base row group
+  pub filling : Filling n elements base starts₀ neighbours₀ starts neighbours to (base + row)
+
+abbrev pub invariant-loop-row : goal.invariant-loop-row
+invariant-loop-row l = Laying l.n l.elements l.base l.rows l.initial.starts l.initial.neighbours l.group l.starts l.neighbours l.to l.row
+
+abbrev pub decreases-loop-row : goal.decreases-loop-row
+decreases-loop-row l = l.rows - l.row
