@@ -1,0 +1,16 @@
+-- `store::cuthill_eliminate` meets its contract, demand 3 included. The numbering call is not named, so that another in its place is refused by what
+-- it ensures. Assumes nothing.
+use borrow.Author.Rules.{rules}
+use Rattle.spec.specs.CallsCuthill.{cuthill_refusal, cuthill_answer, cuthill_numbers, cuthill_scratch, cuthill_eliminate_answer, cuthill_eliminate_bytes}
+use Rattle.store.proofs.Runs.{room, ended, cuthill_ran, cuthill_is}
+use Rattle.store.proofs.cuthill_eliminate.Goals as goal
+
+-- ---- the elimination after it
+pub then_eliminate-requires : goal.then_eliminate-requires
+then_eliminate-requires c F e = room (cuthill_ran c.args.starts.now c.args.neighbours.now c.args.counts.now c.args.numbers.now c.args.levels.now c.args.passes.now c.args.scratch.now (search rules) (search rules) (search rules)) e
+
+pub returns : goal.returns
+unfolding cuthill_refusal cuthill_answer cuthill_numbers cuthill_scratch cuthill_eliminate_answer cuthill_eliminate_bytes
+returns c =
+    let done = ended (cuthill_ran c.args.starts.now c.args.neighbours.now c.args.counts.now c.args.numbers.now c.args.levels.now c.args.passes.now c.args.scratch.now (search c) (search c) (search c))
+    c.args.bytes.now c.then_eliminate.ensures.result_value c.then_eliminate.ensures.scratch_value c.then_eliminate.ensures.bytes_value (cuthill_is (search c)) (search c) (search c) in record { result_value = done.0; numbers_value = done.1.0; levels_value = done.1.1.0; passes_value = done.1.1.1.0; scratch_value = done.1.1.1.1.0; bytes_value = done.1.1.1.1.1.0; cuthill_claimed = done.1.1.1.1.1.1 }
