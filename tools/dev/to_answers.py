@@ -300,7 +300,7 @@ class Turner:
         alias = {}
 
         def fixed(segs):
-            out = list(segs)
+            out = [{'type-inv': 'type_inv', 'well-formed': 'well_formed'}.get(x, x) for x in segs]
             if out and out[0] == 'pre':
                 out[0] = 'requires'
             if len(out) > 1:
@@ -543,7 +543,9 @@ def convert(path, entry, function, clauses, goal_module, said):
                     if not exact:
                         t.look(f'inline {a}')
                         continue
-                    answers[t.need_list[k][1]] = (mm.group(1).split()[0], b, Decl('inline', '', [], [], [], False))
+                    one = Decl('inline', '', [], [], [], False)
+                    one.more = [x for x in mm.group(1).split()[1:] if x != 'κs']
+                    answers[t.need_list[k][1]] = (mm.group(1).split()[0], b, one)
                     order.append(t.need_list[k][1])
 
             if exact:
