@@ -6,6 +6,7 @@ use Rattle.std.proofs.lemmas.List.{take_all}
 use Rattle.std.proofs.lemmas.Bool.{lt-ltb, cases_lt}
 use Rattle.std.specs.declared.option.Option.{Option}
 use Rattle.std.specs.Io.KnownBytes.{Appends}
+use Rattle.std.proofs.KnownBytes.{Appends-nil}
 use Rattle.spec.specs.Refusal.{refuse, ◌or_else◌}
 use Rattle.spec.specs.File.{max_file, bad_header, header_refusal, file_refusal, refused_line, output, program_output}
 
@@ -40,3 +41,17 @@ printed_whole (Ok u) None x y front lines room e is_front text written = tt
 printed_whole (Ok u) (Some file) x y front lines room e is_front text written =
     let first : front ≡ take 65536 file = is_front ∙ ap (λ (n : ℕ). take n file) e in
     subst (Appends x y) (text ∙ ap program_output first ∙ front_suffices file) written
+
+-- and so it is with a front of what is printed
+pub printed_front : (a x y : Option (List ℕ)) (front lines : List ℕ) (room : ℕ) → room ≡ 65536
+    → IfSome a (λ file. front ≡ take room file) → lines ≡ program_output front → (n : ℕ) × Appends x y (take n lines)
+    → IfSome a (λ file. (n : ℕ) × Appends x y (take n (program_output file)))
+printed_front None x y front lines room e is_front text written = tt
+printed_front (Some file) x y front lines room e is_front text written =
+    let first : front ≡ take 65536 file = is_front ∙ ap (λ (n : ℕ). take n file) e in
+    (written.0, subst (λ (l : List ℕ). Appends x y (take written.0 l)) (text ∙ ap program_output first ∙ front_suffices file) written.1)
+
+-- where nothing is written, that is the front of length 0
+pub printed_none : (a x : Option (List ℕ)) → IfSome a (λ file. (n : ℕ) × Appends x x (take n (program_output file)))
+printed_none None x = tt
+printed_none (Some file) x = (0, Appends-nil x)

@@ -1,7 +1,7 @@
 // Document 01's program: reads a file from standard input and prints its listing, or the line of a refusal.
 #![tactic(auto)]
 
-ghost use Rattle.std.specs.Prelude.{◌≡◌, ◌+◌, ◌<◌, ◌≤◌, length, take, drop, IfOk, IfSome, OnOk, OnErr};
+ghost use Rattle.std.specs.Prelude.{◌≡◌, ℕ, ◌+◌, ◌<◌, ◌≤◌, length, take, drop, IfOk, IfSome, OnOk, OnErr};
 ghost use Rattle.std.specs.Io.KnownBytes.{Appends, Consumes, IsAtEnd, Keeps};
 ghost use Rattle.spec.specs.File.{program_output};
 
@@ -43,6 +43,29 @@ fn read_full<R: Read>(input: &mut R, bytes: &mut [u8]) -> io::Result<usize>
     Err(io::Error::other("standard input has no end"))
 }
 
+// Writes all the bytes. Where it fails, a front of them has been written. A write that a signal interrupts is tried again.
+fn write_full<W: Write>(output: &mut W, bytes: &[u8]) -> io::Result<()>
+    ensures all { OnOk result (Appends (W.contents output.old) (W.contents output.new) bytes.now) }
+    ensures front { (n : ℕ) × Appends (W.contents output.old) (W.contents output.new) (take n bytes.now) }
+{
+    let mut size = 0;
+    for _ in 0..u64::MAX {
+        if size == bytes.len() {
+            return Ok(());
+        }
+        match output.write(&bytes[size..]) {
+            Ok(0) => return Err(io::Error::from(ErrorKind::WriteZero)),
+            Ok(n) => size += n,
+            Err(e) => {
+                if e.kind() != ErrorKind::Interrupted {
+                    return Err(e);
+                }
+            }
+        }
+    }
+    Err(io::Error::other("standard output has no room"))
+}
+
 // The text of a file, at the front of the output, and its length. There is room for the greatest file.
 fn text(
     file: &[u8],
@@ -65,10 +88,11 @@ fn text(
     bytes
 }
 
-// The whole program: what it writes is the text of all that it reads. One byte more than a file may have is read, so that a longer file is seen to be
-// too long.
+// The whole program: what it writes is the text of all that it reads, and a front of that text where reading or writing fails. One byte more than a
+// file may have is read, so that a longer file is seen to be too long.
 fn run<R: Read, W: Write>(input: &mut R, output: &mut W) -> io::Result<()>
-    ensures { OnOk result (IfSome (R.remaining input.old) (λ file. Appends (W.contents output.old) (W.contents output.new) (program_output file))) }
+    ensures all { OnOk result (IfSome (R.remaining input.old) (λ file. Appends (W.contents output.old) (W.contents output.new) (program_output file))) }
+    ensures front { IfSome (R.remaining input.old) (λ file. (n : ℕ) × Appends (W.contents output.old) (W.contents output.new) (take n (program_output file))) }
 {
     let mut file = [0u8; 65536];
     let mut words = [0u16; 32763];
@@ -93,7 +117,7 @@ fn run<R: Read, W: Write>(input: &mut R, output: &mut W) -> io::Result<()>
         &mut counts,
         &mut lines,
     );
-    output.write_all(&lines[..bytes])
+    write_full(output, &lines[..bytes])
 }
 
 fn main(rt: HostRuntime) -> io::Result<()> {

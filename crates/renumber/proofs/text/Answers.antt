@@ -5,8 +5,8 @@ use Rattle.renumber.proofs.text.Goals as goal
 
 pub list_file-requires : goal.list_file-requires
 list_file-requires c = record {
-  reading_room = record { words_fit = omega arith; starts_fit = omega arith; neighbours_fit = omega arith; scratch_fits = omega arith; counts_fit = omega arith };
-  text_room = record { numbers_fit = omega arith; levels_fit = omega arith; passes_fit = omega arith; output_fits = omega arith };
+  reading_room = record { words-fit = omega arith; starts_fit = omega arith; neighbours_fit = omega arith; scratch_fits = omega arith; counts_fit = omega arith };
+  text_room = record { numbers_fit = omega arith; levels-fit = omega arith; passes_fit = omega arith; output_fits = omega arith };
 }
 
 pub returns : goal.returns
