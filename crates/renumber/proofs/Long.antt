@@ -1,14 +1,13 @@
 -- A file that is longer than a file may be is refused as such, whatever stands in it: so its first 65,536 bytes say what is printed of it.
 -- Assumes nothing.
-use Rattle.std.proofs.Common.{◌≡◌, ℕ, ◌<◌, ◌≤◌, List, None, Some, IfSome, OnOk, Result, Ok, Err, length, take, true, refl, subst, ◌⊎◌, inl, inr, sym, ap, ◌∙◌, arith}
+use Rattle.std.proofs.Common.{◌≡◌, ℕ, ◌<◌, ◌≤◌, List, None, Some, IfSome, OnOk, Result, Ok, Err, length, take, true, subst, ◌⊎◌, inl, inr, sym, ap, ◌∙◌, arith}
 use Rattle.std.proofs.Math.Seq.{length-take-le}
 use Rattle.std.proofs.lemmas.List.{take_all}
 use Rattle.std.proofs.lemmas.Bool.{lt-ltb, cases_lt}
 use Rattle.std.specs.declared.option.Option.{Option}
 use Rattle.std.specs.Io.KnownBytes.{Appends}
 use Rattle.std.proofs.KnownBytes.{Appends-nil}
-use Rattle.spec.specs.Refusal.{refuse, ◌or_else◌}
-use Rattle.spec.specs.File.{max_file, bad_header, header_refusal, file_refusal, refused_line, output, program_output}
+use Rattle.spec.specs.File.{bad_header, header_refusal, file_refusal, refused_line, output, program_output}
 
 bad_if_long : (file : List ℕ) → 65535 < length file → bad_header file ≡ true
 unfolding bad_header

@@ -1,6 +1,6 @@
 -- What a full read puts in front of a buffer: the bytes that the input has lost, which are the input's front, as far as the buffer has room.
 -- Assumes nothing.
-use Rattle.std.proofs.Common.{◌≡◌, ℕ, ◌+◌, ◌<◌, ◌≤◌, List, [], ◌++◌, None, Some, IfSome, length, take, drop, sym, ap, ◌∙◌, subst, arith, append-nil}
+use Rattle.std.proofs.Common.{◌≡◌, ℕ, ◌+◌, ◌≤◌, List, ◌++◌, None, Some, IfSome, length, take, drop, sym, ap, ◌∙◌, subst, arith, append-nil}
 use Rattle.std.proofs.Math.Seq.{take-add, length-take-le}
 use Rattle.std.proofs.lemmas.List.{take_all, take_at}
 use Rattle.std.specs.declared.option.Option.{Option}

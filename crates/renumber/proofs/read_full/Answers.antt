@@ -1,7 +1,6 @@
 -- `renumber::read_full`: each read goes on where the one before it ended.
-use Rattle.std.proofs.Common.{◌≡◌, rules, arith, sym, subst, length, take}
-use Rattle.std.specs.Io.KnownBytes.{Consumes}
-use Rattle.renumber.proofs.Reading.{read_on, read_none, full, ended}
+use Rattle.std.proofs.Common.{rules, arith}
+use Rattle.renumber.proofs.Reading.{read_on, read_none, full}
 use Rattle.renumber.proofs.read_full.Goals as goal
 use Rattle.renumber.proofs.read_full.Goals.{in-Ok, in-Err+else-ne}
 

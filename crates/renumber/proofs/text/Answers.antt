@@ -1,10 +1,10 @@
 -- `renumber::text`: there is room, so that the text is document 01's.
-use Rattle.std.proofs.Common.{rules, arith}
+use Rattle.std.proofs.Common.{arith}
 use Rattle.file_listing.proofs.Output.{printed}
 use Rattle.renumber.proofs.text.Goals as goal
 
-pub list_file-requires : goal.list_file-requires
-list_file-requires c = record {
+pub list_file-bytes-requires : goal.list_file-bytes-requires
+list_file-bytes-requires c = record {
   reading_room = record { words-fit = omega arith; starts_fit = omega arith; neighbours_fit = omega arith; scratch_fits = omega arith; counts_fit = omega arith };
   text_room = record { numbers_fit = omega arith; levels-fit = omega arith; passes_fit = omega arith; output_fits = omega arith };
 }

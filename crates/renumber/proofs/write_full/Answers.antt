@@ -1,5 +1,5 @@
 -- `renumber::write_full`: each write goes on where the one before it ended.
-use Rattle.std.proofs.Common.{rules, arith, length-take-le}
+use Rattle.std.proofs.Common.{rules, arith}
 use Rattle.std.proofs.KnownBytes.{Appends-kept}
 use Rattle.renumber.proofs.Writing.{wrote_on}
 use Rattle.renumber.proofs.write_full.Goals as goal
