@@ -1,11 +1,70 @@
 // Document 01's program: reads a file from standard input and prints its listing, or the line of a refusal.
 #![tactic(auto)]
 
-ghost use Rattle.std.specs.Prelude.{◌≡◌, take};
+ghost use Rattle.std.specs.Prelude.{◌≡◌, ℕ, ◌+◌, ◌<◌, ◌≤◌, length, take, drop, IfOk, IfSome, OnOk, OnErr};
+ghost use Rattle.std.specs.Io.KnownBytes.{Appends, Consumes, IsAtEnd, Keeps};
 ghost use Rattle.spec.specs.File.{program_output};
-ghost use Rattle.io.specs.Counts.{IsPrefixLen};
 
-use libc::{STDIN_FILENO, STDOUT_FILENO};
+use std::io;
+use std::io::{ErrorKind, Read, Write};
+
+// One read into the bytes behind the first `size`. It gives none only at the end of the input.
+fn read_behind<R: Read>(input: &mut R, bytes: &mut [u8], size: usize) -> io::Result<usize>
+    requires { size < length bytes.old }
+    ensures fits { IfOk result (λ n. size + n ≤ length bytes.new) }
+    ensures front { take size bytes.new ≡ take size bytes.old }
+    ensures next { IfOk result (λ n. Consumes (R.remaining input.old) (R.remaining input.new) (take n (drop size bytes.new))) }
+    ensures end { IfOk result (λ n. n ≡ 0 → IsAtEnd (R.remaining input.new)) }
+    ensures err { OnErr result (Keeps (R.remaining input.old) (R.remaining input.new)) }
+{
+    input.read(&mut bytes[size..])
+}
+
+// Reads until the bytes are full or the input ends, and returns how many it read. A read that a signal interrupts is tried again.
+fn read_full<R: Read>(input: &mut R, bytes: &mut [u8]) -> io::Result<usize>
+    ensures bound { IfOk result (λ n. n ≤ length bytes.new) }
+    ensures value { IfOk result (λ n. IfSome (R.remaining input.old) (λ file. take n bytes.new ≡ take (length bytes.new) file)) }
+{
+    let mut size = 0;
+    for _ in 0..u64::MAX {
+        if size == bytes.len() {
+            return Ok(size);
+        }
+        match read_behind(input, bytes, size) {
+            Ok(0) => return Ok(size),
+            Ok(n) => size += n,
+            Err(e) => {
+                if e.kind() != ErrorKind::Interrupted {
+                    return Err(e);
+                }
+            }
+        }
+    }
+    Err(io::Error::other("standard input has no end"))
+}
+
+// Writes all the bytes. Where it fails, a front of them has been written. A write that a signal interrupts is tried again.
+fn write_full<W: Write>(output: &mut W, bytes: &[u8]) -> io::Result<()>
+    ensures all { OnOk result (Appends (W.contents output.old) (W.contents output.new) bytes.now) }
+    ensures front { (n : ℕ) × Appends (W.contents output.old) (W.contents output.new) (take n bytes.now) }
+{
+    let mut size = 0;
+    for _ in 0..u64::MAX {
+        if size == bytes.len() {
+            return Ok(());
+        }
+        match output.write(&bytes[size..]) {
+            Ok(0) => return Err(io::Error::from(ErrorKind::WriteZero)),
+            Ok(n) => size += n,
+            Err(e) => {
+                if e.kind() != ErrorKind::Interrupted {
+                    return Err(e);
+                }
+            }
+        }
+    }
+    Err(io::Error::other("standard output has no room"))
+}
 
 // The text of a file, at the front of the output, and its length. There is room for the greatest file.
 fn text(
@@ -20,7 +79,7 @@ fn text(
     counts: &mut [u16; 4096],
     output: &mut [u8; 61544],
 ) -> usize
-    ensures prefix_len { IsPrefixLen result output.new }
+    ensures bound { result ≤ length output.new }
     ensures output_value { take result output.new ≡ program_output file.now }
 {
     let bytes = file_listing::legal::list_file(
@@ -29,8 +88,12 @@ fn text(
     bytes
 }
 
-// One byte more than a file may have is read, so that a longer file is seen to be too long.
-fn main() {
+// The whole program: what it writes is the text of all that it reads, and a front of that text where reading or writing fails. One byte more than a
+// file may have is read, so that a longer file is seen to be too long.
+fn run<R: Read, W: Write>(input: &mut R, output: &mut W) -> io::Result<()>
+    ensures all { OnOk result (IfSome (R.remaining input.old) (λ file. Appends (W.contents output.old) (W.contents output.new) (program_output file))) }
+    ensures front { IfSome (R.remaining input.old) (λ file. (n : ℕ) × Appends (W.contents output.old) (W.contents output.new) (take n (program_output file))) }
+{
     let mut file = [0u8; 65536];
     let mut words = [0u16; 32763];
     let mut starts = [0u16; 4097];
@@ -40,8 +103,8 @@ fn main() {
     let mut levels = [0u16; 4096];
     let mut passes = [0u16; 4096];
     let mut counts = [0u16; 4096];
-    let mut output = [0u8; 61544];
-    let size = io::read_full(STDIN_FILENO, &mut file);
+    let mut lines = [0u8; 61544];
+    let size = read_full(input, &mut file)?;
     let bytes = text(
         &file[..size],
         &mut words,
@@ -52,7 +115,11 @@ fn main() {
         &mut levels,
         &mut passes,
         &mut counts,
-        &mut output,
+        &mut lines,
     );
-    io::write_all(STDOUT_FILENO, &output[..bytes]);
+    write_full(output, &lines[..bytes])
+}
+
+fn main(rt: HostRuntime) -> io::Result<()> {
+    run(&mut rt.stdin(), &mut rt.stdout())
 }

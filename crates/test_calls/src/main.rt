@@ -8,8 +8,13 @@
 
 mod calls;
 
+use std::io;
+use std::io::{BufReader, BufWriter, Read, Write};
+
 // One call.
 fn run(
+    input: &mut impl Read,
+    output: &mut impl Write,
     call: usize,
     starts: &[u16],
     neighbours: &[u16],
@@ -21,26 +26,32 @@ fn run(
     third: &mut [u16],
     fourth: &mut [u16],
     bytes: &mut [u8],
-) {
+) -> io::Result<()> {
     match call {
-        1 => calls::adjacency(starts, neighbours),
-        2 => calls::rooted(starts, neighbours, node, first, second),
-        3 => calls::ends(starts, neighbours, node, first),
-        4 => calls::measures(starts, neighbours, counts, given, first),
-        5 => calls::eliminate(starts, neighbours, counts, given, first, bytes),
-        6 => calls::mesh(node, given, first, second, third),
-        7 => calls::combined(starts, neighbours, node, first, second),
-        10 => calls::part_report(starts, neighbours, counts, node, first),
-        13 => calls::store_map(starts, neighbours, counts, given, first, second),
-        14 => calls::import_numbering(starts, neighbours, counts, given, first, second),
+        1 => calls::adjacency(output, starts, neighbours),
+        2 => calls::rooted(output, starts, neighbours, node, first, second),
+        3 => calls::ends(output, starts, neighbours, node, first),
+        4 => calls::measures(output, starts, neighbours, counts, given, first),
+        5 => calls::eliminate(output, starts, neighbours, counts, given, first, bytes),
+        6 => calls::mesh(output, node, given, first, second, third),
+        7 => calls::combined(output, starts, neighbours, node, first, second),
+        10 => calls::part_report(output, starts, neighbours, counts, node, first),
+        13 => calls::store_map(
+            input, output, starts, neighbours, counts, given, first, second,
+        ),
+        14 => calls::import_numbering(
+            input, output, starts, neighbours, counts, given, first, second,
+        ),
         _ => calls::number(
-            call, starts, neighbours, counts, first, second, third, fourth, bytes,
+            output, call, starts, neighbours, counts, first, second, third, fourth, bytes,
         ),
     }
 }
 
 // One call, and its line.
 fn answer(
+    input: &mut impl Read,
+    output: &mut impl Write,
     call: usize,
     starts: &[u16],
     neighbours: &[u16],
@@ -52,20 +63,23 @@ fn answer(
     third: &mut [u16],
     fourth: &mut [u16],
     bytes: &mut [u8],
-) {
+) -> io::Result<()> {
     run(
-        call, starts, neighbours, counts, given, node, first, second, third, fourth, bytes,
-    );
-    test_vectors::show(first);
-    test_vectors::show(second);
-    test_vectors::show(third);
-    test_vectors::show(fourth);
-    test_vectors::show_bytes(bytes);
-    test_vectors::end_line();
+        input, output, call, starts, neighbours, counts, given, node, first, second, third, fourth,
+        bytes,
+    )?;
+    test_vectors::show(output, first)?;
+    test_vectors::show(output, second)?;
+    test_vectors::show(output, third)?;
+    test_vectors::show(output, fourth)?;
+    test_vectors::show_bytes(output, bytes)?;
+    test_vectors::end_line(output)
 }
 
 // A case whose given lists have been read.
 fn lend(
+    input: &mut impl Read,
+    output: &mut impl Write,
     call: usize,
     starts: &[u16],
     neighbours: &[u16],
@@ -76,14 +90,16 @@ fn lend(
     third: &mut [u16],
     fourth: &mut [u16],
     bytes: &mut [u8],
-) {
-    let node = test_vectors::number();
-    let a = test_vectors::lend(first);
-    let b = test_vectors::lend(second);
-    let c = test_vectors::lend(third);
-    let d = test_vectors::lend(fourth);
-    let e = test_vectors::lend_bytes(bytes);
+) -> io::Result<()> {
+    let node = test_vectors::number(input)?;
+    let a = test_vectors::lend(input, first)?;
+    let b = test_vectors::lend(input, second)?;
+    let c = test_vectors::lend(input, third)?;
+    let d = test_vectors::lend(input, fourth)?;
+    let e = test_vectors::lend_bytes(input, bytes)?;
     answer(
+        input,
+        output,
         call,
         starts,
         neighbours,
@@ -95,11 +111,13 @@ fn lend(
         &mut third[..c],
         &mut fourth[..d],
         &mut bytes[..e],
-    );
+    )
 }
 
 // One case. False at the end of the input.
 fn one(
+    input: &mut impl Read,
+    output: &mut impl Write,
     starts: &mut [u16],
     neighbours: &mut [u16],
     counts: &mut [u16],
@@ -109,16 +127,18 @@ fn one(
     third: &mut [u16],
     fourth: &mut [u16],
     bytes: &mut [u8],
-) -> bool {
-    let call = test_vectors::number();
+) -> io::Result<bool> {
+    let call = test_vectors::number(input)?;
     if call == test_vectors::NONE {
-        return false;
+        return Ok(false);
     }
-    let a = test_vectors::read(starts);
-    let b = test_vectors::read(neighbours);
-    let c = test_vectors::read(counts);
-    let d = test_vectors::read(given);
+    let a = test_vectors::read(input, starts)?;
+    let b = test_vectors::read(input, neighbours)?;
+    let c = test_vectors::read(input, counts)?;
+    let d = test_vectors::read(input, given)?;
     lend(
+        input,
+        output,
         call,
         &starts[..a],
         &neighbours[..b],
@@ -129,11 +149,13 @@ fn one(
         third,
         fourth,
         bytes,
-    );
-    true
+    )?;
+    Ok(true)
 }
 
 fn another(
+    input: &mut impl Read,
+    output: &mut impl Write,
     starts: &mut [u16; 33000],
     neighbours: &mut [u16; 33000],
     counts: &mut [u16; 33000],
@@ -143,14 +165,14 @@ fn another(
     third: &mut [u16; 33000],
     fourth: &mut [u16; 33000],
     bytes: &mut [u8; 40000],
-) -> bool {
+) -> io::Result<bool> {
     one(
-        starts, neighbours, counts, given, first, second, third, fourth, bytes,
+        input, output, starts, neighbours, counts, given, first, second, third, fourth, bytes,
     )
 }
 
 // A proved loop has to end, and nothing says that the input does: so the cases are counted down.
-fn main() {
+fn run_all(input: &mut impl Read, output: &mut impl Write) -> io::Result<()> {
     let mut starts = [0u16; 33000];
     let mut neighbours = [0u16; 33000];
     let mut counts = [0u16; 33000];
@@ -160,9 +182,10 @@ fn main() {
     let mut third = [0u16; 33000];
     let mut fourth = [0u16; 33000];
     let mut bytes = [0u8; 40000];
-    let mut left: usize = 100000000;
-    while 0 < left
-        && another(
+    for _ in 0..100000000 {
+        if !another(
+            input,
+            output,
             &mut starts,
             &mut neighbours,
             &mut counts,
@@ -172,8 +195,17 @@ fn main() {
             &mut third,
             &mut fourth,
             &mut bytes,
-        )
-    {
-        left -= 1;
+        )? {
+            return Ok(());
+        }
     }
+    Ok(())
+}
+
+// What a buffer still holds at the end is written before the program says that it succeeded.
+fn main(rt: HostRuntime) -> io::Result<()> {
+    let mut input = BufReader::new(rt.alloc(), rt.stdin())?;
+    let mut output = BufWriter::new(rt.alloc(), rt.stdout())?;
+    run_all(&mut input, &mut output)?;
+    output.flush()
 }

@@ -4,8 +4,9 @@
 
 ghost use Rattle.std.specs.Prelude.{◌≤◌, length};
 
-use libc::STDIN_FILENO;
 use mesh::Entries;
+use std::io;
+use std::io::{BufReader, BufWriter, Read, Write};
 
 // The steps of the reading: the header is tested before anything is lent, then come the counts and the mesh.
 fn read(
@@ -29,10 +30,10 @@ fn read(
     file_reading::legal::read_mesh(file, list, starts, neighbours, scratch)
 }
 
-fn say(answer: Entries) {
+fn say(output: &mut impl Write, answer: Entries) -> io::Result<()> {
     match answer {
-        Entries::Accepted(count) => test_vectors::accepted(&[count as u64]),
-        Entries::Refused(number) => test_vectors::refused(number),
+        Entries::Accepted(count) => test_vectors::accepted(output, &[count as u64]),
+        Entries::Refused(number) => test_vectors::refused(output, number),
     }
 }
 
@@ -51,81 +52,101 @@ fn fill(
 }
 
 fn show(
+    output: &mut impl Write,
     list: &[u16; 35000],
     starts: &[u16; 4100],
     neighbours: &[u16; 32780],
     scratch: &[u16; 4100],
     counts: &[u16; 4100],
-) {
-    test_vectors::show(list);
-    test_vectors::show(starts);
-    test_vectors::show(neighbours);
-    test_vectors::show(scratch);
-    test_vectors::show(counts);
-    test_vectors::end_line();
+) -> io::Result<()> {
+    test_vectors::show(output, list)?;
+    test_vectors::show(output, starts)?;
+    test_vectors::show(output, neighbours)?;
+    test_vectors::show(output, scratch)?;
+    test_vectors::show(output, counts)?;
+    test_vectors::end_line(output)
 }
 
 // The next file into the front of `file`, and its length, or NONE at the end of the input.
-fn next(file: &mut [u8]) -> usize {
-    let size = test_vectors::number();
+fn next(input: &mut impl Read, file: &mut [u8]) -> io::Result<usize> {
+    let size = test_vectors::number(input)?;
     if file.len() < size {
-        return test_vectors::NONE;
+        return Ok(test_vectors::NONE);
     }
-    io::read_full(STDIN_FILENO, &mut file[..size]);
-    size
+    test_vectors::read_full(input, &mut file[..size])?;
+    Ok(size)
 }
 
 // One file, and its line. False at the end of the input.
 fn one(
+    input: &mut impl Read,
+    output: &mut impl Write,
     file: &mut [u8],
     list: &mut [u16; 35000],
     starts: &mut [u16; 4100],
     neighbours: &mut [u16; 32780],
     scratch: &mut [u16; 4100],
     counts: &mut [u16; 4100],
-) -> bool
+) -> io::Result<bool>
     requires { length file.old ≤ 70000 }
 {
-    let size = next(file);
+    let size = next(input, file)?;
     if file.len() < size {
-        return false;
+        return Ok(false);
     }
     fill(list, starts, neighbours, scratch, counts);
-    say(read(&file[..size], list, starts, neighbours, scratch, counts));
-    show(list, starts, neighbours, scratch, counts);
-    true
+    say(
+        output,
+        read(&file[..size], list, starts, neighbours, scratch, counts),
+    )?;
+    show(output, list, starts, neighbours, scratch, counts)?;
+    Ok(true)
 }
 
 fn another(
+    input: &mut impl Read,
+    output: &mut impl Write,
     file: &mut [u8; 70000],
     list: &mut [u16; 35000],
     starts: &mut [u16; 4100],
     neighbours: &mut [u16; 32780],
     scratch: &mut [u16; 4100],
     counts: &mut [u16; 4100],
-) -> bool {
-    one(file, list, starts, neighbours, scratch, counts)
+) -> io::Result<bool> {
+    one(
+        input, output, file, list, starts, neighbours, scratch, counts,
+    )
 }
 
 // A proved loop has to end, and nothing says that the input does: so the files are counted down.
-fn main() {
+fn run(input: &mut impl Read, output: &mut impl Write) -> io::Result<()> {
     let mut file = [0u8; 70000];
     let mut list = [0u16; 35000];
     let mut starts = [0u16; 4100];
     let mut neighbours = [0u16; 32780];
     let mut scratch = [0u16; 4100];
     let mut counts = [0u16; 4100];
-    let mut left: usize = 1000000;
-    while 0 < left
-        && another(
+    for _ in 0..1000000 {
+        if !another(
+            input,
+            output,
             &mut file,
             &mut list,
             &mut starts,
             &mut neighbours,
             &mut scratch,
             &mut counts,
-        )
-    {
-        left -= 1;
+        )? {
+            return Ok(());
+        }
     }
+    Ok(())
+}
+
+// What a buffer still holds at the end is written before the program says that it succeeded.
+fn main(rt: HostRuntime) -> io::Result<()> {
+    let mut input = BufReader::new(rt.alloc(), rt.stdin())?;
+    let mut output = BufWriter::new(rt.alloc(), rt.stdout())?;
+    run(&mut input, &mut output)?;
+    output.flush()
 }

@@ -1,8 +1,8 @@
-// Numbers and lists of standard input. Low byte first.
-ghost use Rattle.std.specs.Prelude.{◌≤◌};
-ghost use Rattle.io.specs.Counts.{IsPrefixLen};
+// Numbers and lists of the input. Low byte first.
+ghost use Rattle.std.specs.Prelude.{◌≤◌, length, IfOk};
 
-use libc::STDIN_FILENO;
+use std::io;
+use std::io::{ErrorKind, Read};
 
 // What `number` answers where the input has ended.
 pub const NONE: usize = 4294967295;
@@ -19,35 +19,47 @@ fn join(low: u8, high: u8) -> usize
     wide(low) + 256 * wide(high)
 }
 
-// The next number: four bytes.
-pub fn number() -> usize {
-    let mut bytes = [0u8; 4];
-    let got = io::read_full(STDIN_FILENO, &mut bytes);
-    if got < 4 {
-        return NONE;
+// Fills the bytes, and says whether the input had so many.
+pub fn read_full(input: &mut impl Read, bytes: &mut [u8]) -> io::Result<bool> {
+    match input.read_exact(bytes) {
+        Ok(()) => Ok(true),
+        Err(e) => {
+            if e.kind() == ErrorKind::UnexpectedEof {
+                Ok(false)
+            } else {
+                Err(e)
+            }
+        }
     }
-    join(bytes[0], bytes[1]) + 65536 * join(bytes[2], bytes[3])
+}
+
+// The next number: four bytes.
+pub fn number(input: &mut impl Read) -> io::Result<usize> {
+    let mut bytes = [0u8; 4];
+    if read_full(input, &mut bytes)? {
+        Ok(join(bytes[0], bytes[1]) + 65536 * join(bytes[2], bytes[3]))
+    } else {
+        Ok(NONE)
+    }
 }
 
 // The next word: two bytes.
-fn word() -> u16 {
+fn word(input: &mut impl Read) -> io::Result<u16> {
     let mut bytes = [0u8; 2];
-    io::read_full(STDIN_FILENO, &mut bytes);
-    join(bytes[0], bytes[1]) as u16
+    read_full(input, &mut bytes)?;
+    Ok(join(bytes[0], bytes[1]) as u16)
 }
 
 // The next list, its length and its words, to the front of `words`. How many there are, or 0 where there is no room.
-pub fn read(words: &mut [u16]) -> usize
-    ensures { IsPrefixLen result words.new }
+pub fn read(input: &mut impl Read, words: &mut [u16]) -> io::Result<usize>
+    ensures { IfOk result (λ n. n ≤ length words.new) }
 {
-    let count = number();
+    let count = number(input)?;
     if words.len() < count {
-        return 0;
+        return Ok(0);
     }
-    let mut i = 0;
-    while i < count {
-        words[i] = word();
-        i += 1;
+    for i in 0..count {
+        words[i] = word(input)?;
     }
-    count
+    Ok(count)
 }

@@ -1,7 +1,9 @@
 // What lent buffers hold before a call.
-ghost use Rattle.io.specs.Counts.{IsPrefixLen};
+ghost use Rattle.std.specs.Prelude.{◌≤◌, length, IfOk};
 
 use crate::input::number;
+use std::io;
+use std::io::Read;
 
 // The word that stands at i. No list of a mesh has a word above 32,768.
 pub(crate) fn pattern(i: usize) -> u16 {
@@ -13,40 +15,36 @@ fn byte_pattern(i: usize) -> u8 {
 }
 
 pub fn fill(words: &mut [u16]) {
-    let mut i = 0;
-    while i < words.len() {
+    for i in 0..words.len() {
         words[i] = pattern(i);
-        i += 1;
     }
 }
 
 fn fill_bytes(bytes: &mut [u8]) {
-    let mut i = 0;
-    while i < bytes.len() {
+    for i in 0..bytes.len() {
         bytes[i] = byte_pattern(i);
-        i += 1;
     }
 }
 
 // The length of the next buffer, which is filled, or 0 where there is no room.
-pub fn lend(words: &mut [u16]) -> usize
-    ensures { IsPrefixLen result words.new }
+pub fn lend(input: &mut impl Read, words: &mut [u16]) -> io::Result<usize>
+    ensures { IfOk result (λ n. n ≤ length words.new) }
 {
-    let count = number();
+    let count = number(input)?;
     if words.len() < count {
-        return 0;
+        return Ok(0);
     }
     fill(&mut words[..count]);
-    count
+    Ok(count)
 }
 
-pub fn lend_bytes(bytes: &mut [u8]) -> usize
-    ensures { IsPrefixLen result bytes.new }
+pub fn lend_bytes(input: &mut impl Read, bytes: &mut [u8]) -> io::Result<usize>
+    ensures { IfOk result (λ n. n ≤ length bytes.new) }
 {
-    let count = number();
+    let count = number(input)?;
     if bytes.len() < count {
-        return 0;
+        return Ok(0);
     }
     fill_bytes(&mut bytes[..count]);
-    count
+    Ok(count)
 }

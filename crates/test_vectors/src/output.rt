@@ -1,17 +1,16 @@
 // Answers and end contents of lent buffers as text.
-ghost use Rattle.std.specs.Prelude.{◌<◌};
-ghost use Rattle.io.specs.Counts.{IsPrefixLen};
+ghost use Rattle.std.specs.Prelude.{◌<◌, ◌≤◌, length};
 
 use crate::lent::pattern;
-use libc::STDOUT_FILENO;
+use std::io;
+use std::io::Write;
 
-pub(crate) fn write_number(x: u64) {
-    io::write_all(STDOUT_FILENO, b" ");
-    io::print_decimal(STDOUT_FILENO, x);
+pub(crate) fn write_number(output: &mut impl Write, x: u64) -> io::Result<()> {
+    write!(output, " {x}")
 }
 
-fn write_word(x: u16) {
-    write_number(x as u64);
+fn write_word(output: &mut impl Write, x: u16) -> io::Result<()> {
+    write_number(output, x as u64)
 }
 
 // A byte as a word.
@@ -19,27 +18,26 @@ fn widen(x: u8) -> u16 {
     x as u16
 }
 
-pub fn refused(number: u16) {
-    io::write_all(STDOUT_FILENO, b"refused");
-    write_word(number);
+pub fn refused(output: &mut impl Write, number: u16) -> io::Result<()> {
+    output.write_all(b"refused")?;
+    write_word(output, number)
 }
 
-pub fn accepted(figures: &[u64]) {
-    io::write_all(STDOUT_FILENO, b"accepted");
-    let mut i = 0;
-    while i < figures.len() {
-        write_number(figures[i]);
-        i += 1;
+pub fn accepted(output: &mut impl Write, figures: &[u64]) -> io::Result<()> {
+    output.write_all(b"accepted")?;
+    for x in figures {
+        write_number(output, *x)?;
     }
+    Ok(())
 }
 
-pub fn end_line() {
-    io::write_all(STDOUT_FILENO, b"\n");
+pub fn end_line(output: &mut impl Write) -> io::Result<()> {
+    output.write_all(b"\n")
 }
 
 // How many words there are up to the last one that isn't as it was lent.
 fn changed(words: &[u16]) -> usize
-    ensures { IsPrefixLen result words.now }
+    ensures { result ≤ length words.now }
 {
     let mut size = words.len();
     while 0 < size {
@@ -69,66 +67,60 @@ fn step(sum: u64, x: u16) -> u64
 // Numbers that tell long lists apart.
 fn checksum(words: &[u16]) -> u64 {
     let mut sum: u64 = 1;
-    let mut i = 0;
-    while i < words.len() {
-        sum = step(sum, words[i]);
-        i += 1;
+    for x in words {
+        sum = step(sum, *x);
     }
     sum
 }
 
 fn byte_checksum(bytes: &[u8]) -> u64 {
     let mut sum: u64 = 1;
-    let mut i = 0;
-    while i < bytes.len() {
-        sum = step(sum, widen(bytes[i]));
-        i += 1;
+    for x in bytes {
+        sum = step(sum, widen(*x));
     }
     sum
 }
 
-fn write_words(words: &[u16]) {
-    let mut i = 0;
-    while i < words.len() {
-        write_word(words[i]);
-        i += 1;
+fn write_words(output: &mut impl Write, words: &[u16]) -> io::Result<()> {
+    for x in words {
+        write_word(output, *x)?;
     }
+    Ok(())
 }
 
-fn write_bytes(bytes: &[u8]) {
-    let mut i = 0;
-    while i < bytes.len() {
-        write_word(widen(bytes[i]));
-        i += 1;
+fn write_bytes(output: &mut impl Write, bytes: &[u8]) -> io::Result<()> {
+    for x in bytes {
+        write_word(output, widen(*x))?;
     }
+    Ok(())
 }
 
 // The count of what follows, and whether it follows one by one.
-pub(crate) fn write_count(count: usize) -> bool {
-    io::write_all(STDOUT_FILENO, b";");
-    write_number(count as u64);
+pub(crate) fn write_count(output: &mut impl Write, count: usize) -> io::Result<bool> {
+    output.write_all(b";")?;
+    write_number(output, count as u64)?;
     if 120 < count {
-        io::write_all(STDOUT_FILENO, b" sum");
-        return false;
+        output.write_all(b" sum")?;
+        return Ok(false);
     }
-    true
+    Ok(true)
 }
 
 // The words up to the last that isn't as it was lent, one by one or by a checksum. All behind them are untouched.
-pub fn show(words: &[u16]) {
+pub fn show(output: &mut impl Write, words: &[u16]) -> io::Result<()> {
     let size = changed(words);
-    if write_count(size) {
-        write_words(&words[..size]);
+    if write_count(output, size)? {
+        write_words(output, &words[..size])
     } else {
-        write_number(checksum(&words[..size]));
+        write_number(output, checksum(&words[..size]))
     }
 }
 
 // All bytes, one by one or by a checksum.
-pub fn show_bytes(bytes: &[u8]) {
-    if write_count(bytes.len()) {
-        write_bytes(bytes);
+pub fn show_bytes(output: &mut impl Write, bytes: &[u8]) -> io::Result<()> {
+    if write_count(output, bytes.len())? {
+        write_bytes(output, bytes)
     } else {
-        write_number(byte_checksum(bytes));
+        write_number(output, byte_checksum(bytes))
     }
 }

@@ -1,8 +1,10 @@
 // Lent lists of 32 bits, as the store map has: what they hold before a call, and their end contents as text, like those of words.
-ghost use Rattle.io.specs.Counts.{IsPrefixLen};
+ghost use Rattle.std.specs.Prelude.{◌≤◌, length, IfOk};
 
 use crate::input::number;
 use crate::output::{wide_step, write_count, write_number};
+use std::io;
+use std::io::{Read, Write};
 
 // The entry that stands at i. No store has so many places.
 fn pattern(i: usize) -> u32 {
@@ -10,28 +12,26 @@ fn pattern(i: usize) -> u32 {
 }
 
 fn fill(places: &mut [u32]) {
-    let mut i = 0;
-    while i < places.len() {
+    for i in 0..places.len() {
         places[i] = pattern(i);
-        i += 1;
     }
 }
 
 // The length of the next list, which is filled, or 0 where there is no room.
-pub fn lend_places(places: &mut [u32]) -> usize
-    ensures { IsPrefixLen result places.new }
+pub fn lend_places(input: &mut impl Read, places: &mut [u32]) -> io::Result<usize>
+    ensures { IfOk result (λ n. n ≤ length places.new) }
 {
-    let count = number();
+    let count = number(input)?;
     if places.len() < count {
-        return 0;
+        return Ok(0);
     }
     fill(&mut places[..count]);
-    count
+    Ok(count)
 }
 
 // How many entries there are up to the last one that isn't as it was lent.
 fn changed(places: &[u32]) -> usize
-    ensures { IsPrefixLen result places.now }
+    ensures { result ≤ length places.now }
 {
     let mut size = places.len();
     while 0 < size {
@@ -45,32 +45,29 @@ fn changed(places: &[u32]) -> usize
 
 fn checksum(places: &[u32]) -> u64 {
     let mut sum: u64 = 1;
-    let mut i = 0;
-    while i < places.len() {
-        sum = wide_step(sum, places[i]);
-        i += 1;
+    for x in places {
+        sum = wide_step(sum, *x);
     }
     sum
 }
 
-fn write_place(x: u32) {
-    write_number(x as u64);
+fn write_place(output: &mut impl Write, x: u32) -> io::Result<()> {
+    write_number(output, x as u64)
 }
 
-fn write_places(places: &[u32]) {
-    let mut i = 0;
-    while i < places.len() {
-        write_place(places[i]);
-        i += 1;
+fn write_places(output: &mut impl Write, places: &[u32]) -> io::Result<()> {
+    for x in places {
+        write_place(output, *x)?;
     }
+    Ok(())
 }
 
 // The entries up to the last that isn't as it was lent, one by one or by a checksum. All behind them are untouched.
-pub fn show_places(places: &[u32]) {
+pub fn show_places(output: &mut impl Write, places: &[u32]) -> io::Result<()> {
     let size = changed(places);
-    if write_count(size) {
-        write_places(&places[..size]);
+    if write_count(output, size)? {
+        write_places(output, &places[..size])
     } else {
-        write_number(checksum(&places[..size]));
+        write_number(output, checksum(&places[..size]))
     }
 }
