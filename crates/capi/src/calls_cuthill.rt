@@ -5,8 +5,7 @@ ghost use Rattle.spec.specs.Graph.{graph_refusal};
 ghost use Rattle.capi_figures.specs.Figures.{answer_c, lent_c, figures_c, run_list};
 
 // Reverse Cuthill-McKee. Figures: nodes, parts, bandwidth, profile, front, levels, width.
-#[unsafe(no_mangle)]
-pub extern "C" fn wagonepoch_reverse_cuthill_mckee(
+pub fn wagonepoch_reverse_cuthill_mckee(
     starts: &[u16],
     neighbours: &[u16],
     counts: &[u16],

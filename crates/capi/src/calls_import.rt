@@ -4,8 +4,7 @@ ghost use Rattle.spec_import.specs.CallsImport.{import_refusal, import_numbers, 
 ghost use Rattle.capi_import.specs.Sent.{sent_c};
 
 // A numbering from another mesh tool, as pairs of old number and new, with its three figures.
-#[unsafe(no_mangle)]
-pub extern "C" fn wagonepoch_import_numbering(
+pub fn wagonepoch_import_numbering(
     starts: &[u16],
     neighbours: &[u16],
     counts: &[u16],

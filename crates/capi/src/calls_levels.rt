@@ -5,16 +5,14 @@ ghost use Rattle.spec.specs.Graph.{graph_refusal};
 ghost use Rattle.capi_figures.specs.Figures.{number, answer_c, lent_c, figures_c, rooted_list, ends_list, combined_list};
 
 // Whether the two lists are a legal graph. No figures.
-#[unsafe(no_mangle)]
-pub extern "C" fn wagonepoch_test_adjacency(starts: &[u16], neighbours: &[u16]) -> u16
+pub fn wagonepoch_test_adjacency(starts: &[u16], neighbours: &[u16]) -> u16
     ensures { result ≡ number (adjacency_answer starts.now neighbours.now) }
 {
     capi_levels::lists::lists_refusal(starts, neighbours)
 }
 
 // Rooted levels and their sizes. Figures: depth, width, count reached.
-#[unsafe(no_mangle)]
-pub extern "C" fn wagonepoch_rooted_levels(
+pub fn wagonepoch_rooted_levels(
     starts: &[u16],
     neighbours: &[u16],
     root: u16,
@@ -31,8 +29,7 @@ pub extern "C" fn wagonepoch_rooted_levels(
 }
 
 // The ends of a part. Figures: v, u, k, the width at v, the width at u, passes.
-#[unsafe(no_mangle)]
-pub extern "C" fn wagonepoch_ends(
+pub fn wagonepoch_ends(
     starts: &[u16],
     neighbours: &[u16],
     node: u16,
@@ -47,8 +44,7 @@ pub extern "C" fn wagonepoch_ends(
 }
 
 // The combined levels of a part. Figures: k, the greatest level count.
-#[unsafe(no_mangle)]
-pub extern "C" fn wagonepoch_combined_levels(
+pub fn wagonepoch_combined_levels(
     starts: &[u16],
     neighbours: &[u16],
     node: u16,

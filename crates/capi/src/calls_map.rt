@@ -5,8 +5,7 @@ ghost use Rattle.spec.specs.Graph.{graph_refusal};
 ghost use Rattle.capi_figures.specs.Figures.{answer_c, lent_c, figures_c, map_list};
 
 // The store map of a graph under a numbering. Figures: profile, number of unknowns.
-#[unsafe(no_mangle)]
-pub extern "C" fn wagonepoch_store_map(
+pub fn wagonepoch_store_map(
     starts: &[u16],
     neighbours: &[u16],
     counts: &[u16],

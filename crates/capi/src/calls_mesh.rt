@@ -6,8 +6,7 @@ ghost use Rattle.spec.specs.Refusal.{refuse};
 ghost use Rattle.capi_figures.specs.Figures.{answer_c, lent_c, figures_c, mesh_list};
 
 // The two lists of the mesh of n nodes. Figures: the entry count.
-#[unsafe(no_mangle)]
-pub extern "C" fn wagonepoch_mesh(
+pub fn wagonepoch_mesh(
     n: usize,
     elements: &[u16],
     starts: &mut [u16],

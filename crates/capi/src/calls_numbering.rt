@@ -5,8 +5,7 @@ ghost use Rattle.spec.specs.Graph.{graph_refusal};
 ghost use Rattle.capi_figures.specs.Figures.{answer_c, lent_c, figures_c, measures_list, report_list, run_list};
 
 // The measures of a graph under a numbering. Figures: bandwidth, profile, front.
-#[unsafe(no_mangle)]
-pub extern "C" fn wagonepoch_measures(
+pub fn wagonepoch_measures(
     starts: &[u16],
     neighbours: &[u16],
     counts: &[u16],
@@ -24,8 +23,7 @@ pub extern "C" fn wagonepoch_measures(
 }
 
 // The report of a part. Figures: v and u as now named, k, width, passes, direction.
-#[unsafe(no_mangle)]
-pub extern "C" fn wagonepoch_part_report(
+pub fn wagonepoch_part_report(
     starts: &[u16],
     neighbours: &[u16],
     counts: &[u16],
@@ -41,8 +39,7 @@ pub extern "C" fn wagonepoch_part_report(
 }
 
 // The whole run. Figures: nodes, parts, bandwidth, profile, front, levels, width.
-#[unsafe(no_mangle)]
-pub extern "C" fn wagonepoch_run(
+pub fn wagonepoch_run(
     starts: &[u16],
     neighbours: &[u16],
     counts: &[u16],

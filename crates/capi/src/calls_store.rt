@@ -5,8 +5,7 @@ ghost use Rattle.spec.specs.Graph.{graph_refusal};
 ghost use Rattle.capi_figures.specs.Figures.{answer_c, lent_c, figures_c, elimination_list};
 
 // The elimination of a graph under a numbering. Figures: marks that are 1, newly joined pairs.
-#[unsafe(no_mangle)]
-pub extern "C" fn wagonepoch_eliminate(
+pub fn wagonepoch_eliminate(
     starts: &[u16],
     neighbours: &[u16],
     counts: &[u16],

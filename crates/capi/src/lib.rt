@@ -3,10 +3,10 @@
 // required of the numbers and the lists.
 #![tactic(auto)]
 
-mod calls_cuthill;
-mod calls_import;
-mod calls_levels;
-mod calls_map;
-mod calls_mesh;
-mod calls_numbering;
-mod calls_store;
+pub mod calls_cuthill;
+pub mod calls_import;
+pub mod calls_levels;
+pub mod calls_map;
+pub mod calls_mesh;
+pub mod calls_numbering;
+pub mod calls_store;
