@@ -1,15 +1,15 @@
 -- The measures in unknowns under a numbering, walked by old number: what a node has, how wide its envelope is, and bandwidth, profile and front
 -- from these. Assumes nothing.
-use mathlib.Core.Path.{◌≡◌, refl, sym, ap, ap₂, ◌∙◌, subst}
+use mathlib.Core.Path.{◌≡◌, refl, sym, ap, ap₂, ◌∙◌}
 use mathlib.Core.Bool.{true, false}
 use mathlib.Core.List.{List, map}
-use Prim.Native.Nat.{ℕ, zero, suc, ◌+◌, ◌-◌, ◌*◌, ◌≤◌, ◌<◌}
+use Prim.Native.Nat.{ℕ, suc, ◌+◌, ◌-◌, ◌*◌, ◌≤◌}
 use native.Mathlib.Nat.{mul-le-mul}
 use native.Mathlib.Omega.{arith}
-use lib.ListN.{length, get_or}
+use lib.ListN.{length}
 use lib.Dec.{leb}
-use Rattle.basis.specs.Lists.{bit, memb, up_from, greatest, sum}
-use Rattle.basis.proofs.Index.{memb-get_or, greatest-memb, greatest_le}
+use Rattle.basis.specs.Lists.{bit, up_from, greatest, sum}
+use Rattle.basis.proofs.Index.{greatest-memb, greatest_le}
 use Rattle.basis.proofs.Lists.{map-map, sum_cong, up_from_in}
 use Rattle.basis.proofs.Perm.{perm_memb, perm_sum}
 use Rattle.spec.specs.Graph.{Graph, nodes, graph_by, of_node}

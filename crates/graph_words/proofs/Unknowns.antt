@@ -8,11 +8,11 @@ use native.Mathlib.Omega.{arith}
 use lib.ListN.{length, get_or, drop, replicate}
 use lib.Seq.{drop-cons, drop-length}
 use lib.Dec.{eqb}
-use borrow.Author.Tests.{eq-eqb, ne_eqb, lt-ltb, le-ltb}
+use borrow.Author.Tests.{eq-eqb, ne_eqb}
 use Rattle.basis.specs.Lists.{bit, countb, anyb, memb, sum}
 use Rattle.basis.proofs.Count.{bit_most, any_count, none_count}
 use Rattle.basis.proofs.Lists.{memb_here}
-use Rattle.basis.proofs.Logic.{by_test, or_left, or_right, or_neither}
+use Rattle.basis.proofs.Logic.{by_test, or_left, or_right}
 use Rattle.spec.specs.Graph.{outside}
 use Rattle.spec.specs.Unknowns.{max_count, bad_counts, ones}
 use Rattle.laws.proofs.UnknownBounds.{counts_size, in_range}

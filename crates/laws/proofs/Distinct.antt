@@ -13,7 +13,7 @@ use Rattle.basis.specs.Perm.{Once}
 use Rattle.basis.proofs.Count.{bit-one, bit_none, times-filter_no, filter_once}
 use Rattle.basis.proofs.Lists.{memb_here, memb-append, any_find, any_make, memb-filter, filter_cong}
 use Rattle.basis.proofs.Logic.{by_test, same, or_left, or_right, eqb_sym}
-use Rattle.spec.specs.Graph.{Graph, outside, graph_by}
+use Rattle.spec.specs.Graph.{outside, graph_by}
 use Rattle.spec.specs.Mesh.{distinct, bad_nodes, joins, mesh_graph}
 
 -- ---- the distinct nodes

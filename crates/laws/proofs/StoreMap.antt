@@ -8,17 +8,17 @@ use native.Mathlib.Omega.{arith}
 use lib.Dec.{leb, ltb}
 use borrow.Author.Tests.{ltb-true}
 use lib.ListN.{length, get_or, drop, length-map, get_or-append}
-use Rattle.basis.specs.Lists.{bit, up_from}
+use Rattle.basis.specs.Lists.{up_from}
 use Rattle.basis.proofs.Index.{get_or-map-up_from}
 use Rattle.basis.proofs.Lists.{length-up_from}
 use Rattle.basis.proofs.Logic.{and_split}
 use Rattle.basis.proofs.Next.{map_next}
 use Rattle.spec.specs.CallsMap.{MapFigures, map_figures, store_map_refusal, store_map_answer, store_map_first, store_map_place}
 use Rattle.spec.specs.CallsStore.{EliminationFigures, elimination_figures, elimination_refusal, elimination_answer, elimination_bytes}
-use Rattle.spec.specs.Graph.{Graph, nodes, adjoins, of_node, graph_of}
+use Rattle.spec.specs.Graph.{Graph, nodes, of_node, graph_of}
 use Rattle.spec.specs.Lent.{accepted}
 use Rattle.spec.specs.Measures.{first_in, profile}
-use Rattle.spec.specs.Store.{Pair, start_of, has_place, place, joined, mark_at, mark_bytes}
+use Rattle.spec.specs.Store.{Pair, start_of, has_place, place, mark_at, mark_bytes}
 use Rattle.spec.specs.StoreMap.{first_columns, row_starts, has_place_in, place_in, MapClaim}
 use Rattle.spec.specs.Unknowns.{renumbered_unknowns}
 use Rattle.laws.proofs.Legal.{of_node-at}

@@ -9,10 +9,10 @@ use lib.Dec.{eqb, ltb}
 use borrow.Author.Tests.{lt-ltb, le-ltb, eqb-false, ltb-false}
 use Rattle.basis.proofs.Logic.{or_none, or_left, or_neither}
 use Rattle.spec.specs.CallsLevels.{level_figures, rooted_refusal, rooted_answer, rooted_levels, rooted_sizes, part_scratch, part_refusal}
-use Rattle.spec.specs.CallsLevels.{CombinedFigures, combined_figures, combined_refusal, combined_answer, combined_levels, combined_scratch}
+use Rattle.spec.specs.CallsLevels.{combined_figures, combined_refusal, combined_answer, combined_levels, combined_scratch}
 use Rattle.spec.specs.Combined.{combined}
 use Rattle.spec.specs.Ends.{ends}
-use Rattle.spec.specs.Graph.{Graph, graph_of, size_of, outside}
+use Rattle.spec.specs.Graph.{graph_of, size_of, outside}
 use Rattle.spec.specs.Lent.{accepted, refused, outcome, zeroed, words_per_node, short}
 use Rattle.spec.specs.Levels.{levels, level_list, size_list}
 use Rattle.laws.specs.Legal.{Node}

@@ -1,5 +1,5 @@
 -- One part in the lent words: what its ends and combined levels ask, and what is returned of them. Assumes nothing.
-use Rattle.std.specs.Prelude.{◌≡◌, List, ℕ, ◌*◌, ◌≤◌, ◌<◌, length, take, replicate, ltb}
+use Rattle.std.specs.Prelude.{◌≡◌, List, ℕ, ◌≤◌, ◌<◌, length, take, replicate, ltb}
 use Rattle.basis.specs.Lists.{filterb, up_from}
 use Rattle.spec.specs.Combined.{combined, width_of}
 use Rattle.spec.specs.Ends.{Ends}

@@ -10,7 +10,7 @@ use Rattle.basis.specs.Lists.{memb, up_from}
 use Rattle.basis.proofs.Lists.{map_cong, up_from_in}
 use Rattle.basis.proofs.Logic.{by_test}
 use Rattle.spec.specs.Combined.{combined}
-use Rattle.spec.specs.Ends.{Ends, ends, depth_at}
+use Rattle.spec.specs.Ends.{Ends, depth_at}
 use Rattle.spec.specs.Graph.{Graph, nodes, of_node}
 use Rattle.spec.specs.Levels.{levels, level_list, part}
 use Rattle.laws.specs.Legal.{Node, LegalGraph}

@@ -17,7 +17,7 @@ use Rattle.basis.proofs.Logic.{same, and_split, and_make}
 use Rattle.basis.proofs.Perm.{perm_count}
 use Rattle.spec.specs.Combined.{count_at}
 use Rattle.spec.specs.Graph.{Graph, nodes, of_node}
-use Rattle.spec.specs.Levels.{levels, depth, sizes, size_list, level_of, level_list}
+use Rattle.spec.specs.Levels.{levels, depth, size_list, level_of, level_list}
 use Rattle.laws.specs.Legal.{Node, LegalGraph}
 use Rattle.laws.proofs.Figures.{sizes_counts}
 use Rattle.laws.proofs.Legal.{of_node-at}

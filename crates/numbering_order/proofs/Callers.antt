@@ -12,11 +12,11 @@ use Rattle.basis.specs.Perm.{times}
 use Rattle.basis.proofs.Count.{bit_none, memb-times, bit_most, count_every, count_length, count_range, count_sum}
 use Rattle.basis.proofs.Index.{memb-get_or}
 use Rattle.basis.proofs.Lists.{length-up_from, up_from_in, sum_mono}
-use Rattle.basis.proofs.Logic.{by_test, same}
+use Rattle.basis.proofs.Logic.{by_test}
 use Rattle.basis.proofs.Perm.{perm_length}
-use Rattle.spec.specs.Graph.{Graph, of_node, nodes}
+use Rattle.spec.specs.Graph.{Graph, of_node}
 use Rattle.spec.specs.Numbering.{forward_order}
-use Rattle.spec.specs.Levels.{part, levels}
+use Rattle.spec.specs.Levels.{part}
 use Rattle.laws.specs.Legal.{LegalGraph, Node}
 use Rattle.laws.specs.Structure.{LevelStructure}
 use Rattle.laws.proofs.Legal.{of_node-at}

@@ -8,9 +8,8 @@ use native.Mathlib.Omega.{arith}
 use lib.ListN.{length, take, drop, get_or, length-append, length-drop, take-append-drop, replicate, length-replicate}
 use lib.Seq.{get_or-drop, drop-drop, take_at, drop_at, drop-append-le, length-take-le}
 use Rattle.basis.specs.Lists.{overwrite}
-use Rattle.spec.specs.Graph.{graph_of, graph_refusal, size_of, nodes}
+use Rattle.spec.specs.Graph.{graph_of, graph_refusal, size_of}
 use Rattle.spec.specs.Numbering.{forward_order}
-use Rattle.spec.specs.Levels.{levels}
 use Rattle.numbering_stacks.specs.Part.{members_in, Placed, Behind}
 use Rattle.numbering_stacks.specs.Stacks.{Held, Ranked}
 use Rattle.numbering_stacks.proofs.Words.{take_same, drop_same, zeros-part, zero_at}

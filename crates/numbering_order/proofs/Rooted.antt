@@ -15,7 +15,7 @@ use Rattle.laws.proofs.Refused.{not_refused}
 use Rattle.laws.proofs.Legal.{node_in_lem, in_nodes, of_node-at}
 use Rattle.laws.proofs.PartOrder.{level_make}
 use Rattle.levels_sort.specs.Nodes.{Nodes}
-use Rattle.numbering_order.specs.Model.{stand, order_in, Listed, Open, Became, Far, found_by, add_by, own_levels, Levelled, on}
+use Rattle.numbering_order.specs.Model.{stand, order_in, Listed, Open, Became, Far, found_by, add_by, own_levels, Levelled}
 use Rattle.numbering_order.specs.Root.{levels_from, before_in, befores_in, root_order, Rooted}
 use Rattle.numbering_order.proofs.Listed.{listed_none, listed-one}
 use Rattle.numbering_order.proofs.Marks.{marks_none}

@@ -11,7 +11,7 @@ use Rattle.basis.specs.Lists.{sum}
 use Rattle.basis.proofs.Logic.{or_none}
 use Rattle.spec.specs.CallsMap.{MapFigures, map_figures, store_map_refusal, store_map_answer, store_map_scratch, store_map_first, store_map_place}
 use Rattle.spec.specs.Graph.{Graph, graph_of, size_of}
-use Rattle.spec.specs.Lent.{Outcome, accepted, refused, outcome, zeroed, short}
+use Rattle.spec.specs.Lent.{Outcome, accepted, refused, zeroed, short}
 use Rattle.spec.specs.Measures.{is_numbering, profile}
 use Rattle.spec.specs.StoreMap.{first_columns, row_starts}
 use Rattle.spec.specs.Unknowns.{max_count, bad_counts, renumbered_unknowns}
@@ -19,7 +19,7 @@ use Rattle.laws.proofs.Lent.{scratch_unused, scratch_used}
 use Rattle.laws.proofs.StoreMap.{columns_length, starts_length}
 use Rattle.laws.proofs.UnknownBounds.{counts_size, unknowns_most, renumbered_unknowns_size}
 use Rattle.graph.specs.Facts.{LegalLists, RefusedLists}
-use Rattle.graph.proofs.Ways.{Turn, last, next, Tests, Refuses, by_lists, by_short, by_next, by_last, by_none, past_next, lists_have, answer_stays, buffer_stays, answer_new, buffer_new}
+use Rattle.graph.proofs.Ways.{last, next, Tests, Refuses, by_lists, by_short, by_next, by_last, by_none, past_next, lists_have, answer_stays, buffer_stays, answer_new, buffer_new}
 
 -- the answer and the three lists after the call
 pub record Answered (S N K x C F P : List ℕ) (a : Outcome MapFigures) (C' F' P' : List ℕ) : Type 0 where

@@ -1,5 +1,5 @@
 -- The first columns, filled node after node by old number. Assumes nothing.
-use mathlib.Core.Path.{◌≡◌, refl, sym, ap, ap₂, ◌∙◌, subst}
+use mathlib.Core.Path.{◌≡◌, refl, sym, ap, ◌∙◌, subst}
 use mathlib.Core.Logic.{◌⊎◌, inl, inr, ⊎_elim}
 use mathlib.Core.Bool.{true, false}
 use mathlib.Core.List.{List, ◌∷◌, map}
@@ -12,21 +12,21 @@ use Rattle.basis.specs.Stored.{puts}
 use Rattle.basis.proofs.Logic.{eq_or_ne, lt_or_le}
 use Rattle.basis.proofs.Puts.{puts-run}
 use Rattle.basis.proofs.Next.{sets_before, sets_behind, sets_at}
-use Rattle.spec.specs.Graph.{Graph, graph_of, size_of, of_node}
+use Rattle.spec.specs.Graph.{Graph, of_node}
 use Rattle.spec.specs.Measures.{is_numbering, order_of, renumbered, first_in}
 use Rattle.spec.specs.StoreMap.{first_columns}
-use Rattle.spec.specs.Unknowns.{bad_counts, owners, in_unknowns, renumbered_unknowns}
+use Rattle.spec.specs.Unknowns.{bad_counts, owners, renumbered_unknowns}
 use Rattle.laws.specs.Legal.{Node, LegalGraph}
-use Rattle.laws.specs.Unknowns.{unknowns_before, Counted, Owns, node_width}
+use Rattle.laws.specs.Unknowns.{unknowns_before, Owns, node_width}
 use Rattle.laws.proofs.ByTest.{renumbered_legal}
 use Rattle.laws.proofs.Places.{first_le}
 use Rattle.laws.proofs.Renumber.{number_node, node_of_number, number-of_node, order_node, renumbered_size}
 use Rattle.laws.proofs.StoreMap.{columns_length, column_at}
-use Rattle.laws.proofs.UnknownBounds.{counts_size, unknowns_most, renumbered_unknowns_size}
+use Rattle.laws.proofs.UnknownBounds.{counts_size, renumbered_unknowns_size}
 use Rattle.laws.proofs.UnknownMeasures.{first_node, unknown_first}
 use Rattle.laws.proofs.Unknowns.{before_mono, owner_owns, owner_is, owns_range, unknowns_size}
 use Rattle.graph_envelope.specs.Aheads.{aheads}
-use Rattle.graph_envelope.proofs.InUnknowns.{new_counts, width_of, new_node, big_is, new-counted, count_is, count_few, ahead_is, before_most, width_is}
+use Rattle.graph_envelope.proofs.InUnknowns.{new_counts, new_node, big_is, new-counted, count_is, count_few, ahead_is, before_most, width_is}
 
 -- ---- one value, some words from a place on
 

@@ -13,7 +13,6 @@ use Rattle.spec.specs.StoreMap.{first_columns, row_starts}
 use Rattle.spec.specs.Unknowns.{bad_counts, renumbered_unknowns}
 use Rattle.laws.proofs.Lent.{zeroed-all}
 use Rattle.laws.proofs.Numberings.{numbering_length}
-use Rattle.laws.proofs.StoreMap.{columns_length}
 use Rattle.laws.proofs.UnknownBounds.{counts_size, unknowns_most, renumbered_unknowns_size}
 use Rattle.graph.specs.Facts.{LegalLists}
 use Rattle.graph_envelope.specs.Aheads.{aheads}

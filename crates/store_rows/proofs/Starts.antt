@@ -3,12 +3,12 @@ use mathlib.Core.Path.{◌≡◌, refl, sym, ap, ◌∙◌}
 use mathlib.Core.List.{List, map}
 use Prim.Native.Nat.{ℕ, zero, suc, ◌+◌, ◌-◌, ◌*◌, ◌≤◌, ◌<◌}
 use native.Mathlib.Omega.{arith}
-use lib.ListN.{length, get_or, replicate}
+use lib.ListN.{length, get_or}
 use Rattle.basis.specs.Lists.{up_from, sum}
 use Rattle.basis.proofs.Lists.{sum_shift}
 use Rattle.basis.proofs.Next.{sum_next, map_shift}
 use Rattle.spec.specs.Graph.{Graph}
-use Rattle.spec.specs.Measures.{first_in, row_span, profile}
+use Rattle.spec.specs.Measures.{row_span, profile}
 use Rattle.spec.specs.Store.{start_of}
 use Rattle.spec.specs.StoreMap.{first_columns, row_starts}
 use Rattle.laws.proofs.Places.{first_le, start_profile}

@@ -1,12 +1,10 @@
 -- `levels::combined_levels` meets its contract: each refusal by its test, and the figures and levels of `find_levels`. Assumes nothing.
 use mathlib.Core.Path.{◌≡◌, sym, ◌∙◌}
-use mathlib.Core.Logic.{⊎_elim}
 use mathlib.Core.Bool.{false}
 use Prim.Native.Nat.{◌*◌, ◌≤◌}
 use native.Mathlib.Omega.{arith}
 use lib.ListN.{length}
 use lib.Seq.{length-take-le}
-use borrow.Author.Rules.{rules}
 use borrow.Author.Tests.{lt-ltb, le-ltb}
 use Rattle.basis.proofs.Logic.{or_right}
 use Rattle.spec.specs.Graph.{size_of, outside}
@@ -57,7 +55,6 @@ returns-else-no_node c =
     let inside : outside (size_of c.args.starts.now) c.args.node ≡ false = sym c.no_node.ensures ∙ c.if-no_node.false in
     let room : size_of c.args.starts.now ≤ length c.args.levels.now = c.if-levels-n.false in
     let n = size_of c.args.starts.now in
-    
     let done = combined_accepted c.args.starts.now c.args.neighbours.now c.args.node c.args.levels.now c.args.scratch.now legal
     (both_long c.args.levels.now n c.args.scratch.now (words_per_node * n) room (le-ltb (length c.args.scratch.now) (words_per_node * n) c.if-scratch-n.false)) inside c.find_levels-f.ensures.value c.find_levels-f.ensures.levels_value c.find_levels-f.ensures.scratch_value in record { result_value = done.0; levels_value = done.1.0; scratch_value = done.1.1 }
 

@@ -1,12 +1,10 @@
 -- `levels::rooted_levels` meets its contract: each refusal by its test, and the figures, levels and sizes of `rooted`. Assumes nothing.
 use mathlib.Core.Path.{◌≡◌, sym, ap, ◌∙◌}
-use mathlib.Core.Logic.{⊎_elim}
 use mathlib.Core.Bool.{false}
 use Prim.Native.Nat.{◌≤◌}
 use native.Mathlib.Omega.{arith}
 use lib.ListN.{length}
 use lib.Seq.{length-take-le}
-use borrow.Author.Rules.{rules}
 use borrow.Author.Tests.{lt-ltb, le-ltb}
 use Rattle.basis.proofs.Logic.{or_right}
 use Rattle.spec.specs.CallsLevels.{level_figures}
@@ -64,7 +62,6 @@ returns-else-no_node c =
     let inside : outside (size_of c.args.starts.now) c.args.root ≡ false = sym c.no_node.ensures ∙ c.if-no_node.false in
     let room : size_of c.args.starts.now ≤ length c.args.levels.now = c.if-levels-n.false in
     let n = size_of c.args.starts.now in
-    
     let A = rooted_accepted c.args.starts.now c.args.neighbours.now c.args.root c.args.levels.now c.args.sizes.now legal
     (both_long c.args.levels.now n c.args.sizes.now n room (le-ltb (length c.args.sizes.now) n c.if-sizes-n.false)) inside c.rooted-f.ensures.levels_value c.rooted-f.ensures.sizes_value in
     let done = A.1 in record { result_value = ap (λ f. accepted (record { depth = f.depth; width = f.width; reached = f.reached })) c.rooted-f.ensures.value ∙ A.0; levels_value = done.0; sizes_value = done.1 }

@@ -2,7 +2,6 @@
 use Prim.Native.Nat.{ℕ, min}
 use mathlib.Core.Path.{◌≡◌, ap, ap₂, ◌∙◌}
 use native.Mathlib.Omega.{arith}
-use borrow.Author.Rules.{rules}
 use lib.ListN.{length, take, length-take}
 use Rattle.spec.specs.Refusal.{refuse, ◌or_else◌}
 use Rattle.spec.specs.Mesh.{node_count, bad_nodes}

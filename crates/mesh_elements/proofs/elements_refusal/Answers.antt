@@ -1,9 +1,8 @@
 -- `mesh_elements::elements_refusal` meets its contract: what the elements from `at` on are refused by is what all are refused by.
 -- Assumes nothing.
-use Prim.Native.Nat.{ℕ, ◌+◌, ◌-◌, ◌≤◌}
+use Prim.Native.Nat.{ℕ, ◌+◌, ◌≤◌}
 use mathlib.Core.Path.{◌≡◌, refl, sym, ap, ◌∙◌}
 use native.Mathlib.Omega.{arith}
-use borrow.Author.Rules.{rules}
 use lib.ListN.{length, get_or, drop, length-drop}
 use Rattle.spec.specs.Mesh.{node_count, element_refusal}
 use Rattle.mesh_elements.proofs.Remains.{tail_part}

@@ -1,13 +1,9 @@
 -- `mesh_elements::elements_refusal` meets its contract: what the elements from `at` on are refused by is what all are refused by.
 -- Assumes nothing.
-use Prim.Native.Nat.{ℕ, ◌+◌, ◌-◌, ◌≤◌}
-use mathlib.Core.Path.{◌≡◌, refl, sym, ap, ◌∙◌}
-use native.Mathlib.Omega.{arith}
-use borrow.Author.Rules.{rules}
-use lib.ListN.{length, get_or, drop, length-drop}
-use Rattle.spec.specs.Mesh.{node_count, element_refusal}
-use Rattle.mesh_elements.proofs.Remains.{tail_part}
-use Rattle.mesh_elements.proofs.Elements.{refusal_from, refusal_met, refusal-passed, refusal_over, good_fits}
+use Prim.Native.Nat.{◌-◌, ◌≤◌}
+use mathlib.Core.Path.{◌≡◌}
+use lib.ListN.{length, drop}
+use Rattle.mesh_elements.proofs.Elements.{refusal_from}
 use Rattle.mesh_elements.proofs.elements_refusal.Given as goal
 
 abbrev pub invariant-loop-at : goal.invariant-loop-at

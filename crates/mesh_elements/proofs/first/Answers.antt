@@ -1,7 +1,6 @@
 -- `mesh_elements::first` meets its contract. Assumes nothing.
 use mathlib.Core.Path.{sym}
 use native.Mathlib.Omega.{arith}
-use borrow.Author.Rules.{rules}
 use Rattle.laws.proofs.Refused.{or_else_first}
 use Rattle.mesh_elements.proofs.first.Goals as goal
 

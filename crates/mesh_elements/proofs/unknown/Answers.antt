@@ -1,7 +1,6 @@
 -- `mesh_elements::unknown` meets its contract. Assumes nothing.
 use Prim.Native.Nat.{ℕ}
 use mathlib.Core.Path.{ap}
-use borrow.Author.Rules.{rules}
 use lib.Dec.{eqb}
 use Rattle.mesh_elements.proofs.unknown.Goals as goal
 

@@ -6,7 +6,6 @@ use native.Mathlib.Omega.{arith}
 use lib.Dec.{ltb}
 use lib.ListN.{length}
 use lib.Seq.{length-take-le}
-use borrow.Author.Rules.{rules}
 use Rattle.basis.specs.Lists.{sum}
 use Rattle.spec.specs.Graph.{size_of}
 use Rattle.spec.specs.Lent.{accepted, words_per_node}

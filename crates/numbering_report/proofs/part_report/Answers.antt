@@ -2,7 +2,6 @@
 use mathlib.Core.Path.{◌≡◌, sym, ◌∙◌}
 use mathlib.Core.Bool.{false}
 use native.Mathlib.Omega.{arith}
-use borrow.Author.Rules.{rules}
 use Rattle.spec.specs.Graph.{size_of, outside}
 use Rattle.spec.specs.Unknowns.{bad_counts}
 use Rattle.graph_words.proofs.Unknowns.{unknowns_refused, unknowns_kept}

@@ -1,10 +1,8 @@
 -- `store_elimination::eliminate` meets its contract: the tests in turn, then the elimination. Assumes nothing.
 use mathlib.Core.Path.{◌≡◌, sym, ◌∙◌}
 use mathlib.Core.Bool.{false}
-use mathlib.Core.List.{List}
-use Prim.Native.Nat.{ℕ, ◌≤◌}
+use Prim.Native.Nat.{◌≤◌}
 use native.Mathlib.Omega.{arith}
-use borrow.Author.Rules.{rules}
 use lib.ListN.{length, take}
 use lib.Seq.{length-take-le}
 use Rattle.basis.specs.Lists.{sum}
@@ -65,7 +63,6 @@ returns-then-numbered c =
     let room : size_of c.args.starts.now ≤ length c.args.scratch.now = c.if-scratch-n.false in
     let numbered : Numbered (size_of c.args.starts.now) c.args.numbering.now c.args.scratch.now c.numbered.new.scratch = numbered_yes _ _ _ _ c.numbered.result c.numbered.ensures.value c.numbered.ensures.scratch_value c.if-numbered.true in
     let M = numbered in
-    
     let r =
     answered_last c.args.starts.now c.args.neighbours.now c.args.counts.now c.args.numbering.now c.args.scratch.now c.args.bytes.now legal room
     fit M.numbering c.eliminate.ensures.result_value (numbered-zeroed M c.eliminate.ensures.scratch_value) c.eliminate.ensures.bytes_value in

@@ -1,12 +1,9 @@
 -- `store_map::store_map` meets its contract: the tests in turn, then the two lists. Assumes nothing.
-use denote.Slice.{shr_slice_at}
 use mathlib.Core.Path.{◌≡◌, sym, ap, ◌∙◌}
 use mathlib.Core.Bool.{Bool, false, cond}
-use mathlib.Core.List.{List}
 use Prim.Native.Nat.{ℕ, ◌+◌, ◌≤◌}
 use native.Mathlib.Omega.{arith}
-use borrow.Author.Rules.{rules}
-use lib.ListN.{length, take}
+use lib.ListN.{length}
 use lib.Seq.{length-take-le}
 use Rattle.basis.specs.Lists.{sum}
 use Rattle.spec.specs.Graph.{size_of}
@@ -73,7 +70,6 @@ returns-then-numbered c =
     let total : c.unknowns-total.result ≡ sum c.args.counts.now = c.unknowns-total.ensures ∙ ap (λ (b : Bool). cond b 0 (sum c.args.counts.now)) fit in
     let numbered : Numbered (size_of c.args.starts.now) c.args.numbering.now c.args.scratch.now c.numbered.new.scratch = numbered_yes _ _ _ _ c.numbered.result c.numbered.ensures.value c.numbered.ensures.scratch_value c.if-numbered.true in
     let M = numbered in
-    
     let r =
     answered_0 c.args.starts.now c.args.neighbours.now c.args.counts.now c.args.numbering.now c.args.scratch.now c.args.first.now c.args.place.now
     legal room fit M.numbering c.rows-profile.ensures.value total c.rows-profile.ensures.first_value c.rows-profile.ensures.place_value in

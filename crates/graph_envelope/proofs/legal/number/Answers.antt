@@ -1,7 +1,6 @@
 -- `graph_envelope::legal::number` meets its contract. Assumes nothing.
 use mathlib.Core.Path.{sym, ◌∙◌}
 use native.Mathlib.Omega.{arith}
-use borrow.Author.Rules.{rules}
 use Rattle.laws.proofs.Legal.{of_node-at}
 use Rattle.graph_envelope.proofs.legal.number.Goals as goal
 

@@ -3,7 +3,6 @@ use Prim.Native.Nat.{ℕ}
 use mathlib.Core.Path.{◌≡◌, sym, ap, ◌∙◌}
 use mathlib.Core.Bool.{cond}
 use native.Mathlib.Omega.{arith}
-use borrow.Author.Rules.{rules}
 use lib.ListN.{length, take, replicate}
 use lib.Seq.{length-take-le}
 use Rattle.spec.specs.Measures.{is_numbering, order_of}
@@ -19,11 +18,17 @@ slice_bounds-invert-end-2 c = sym (length-take-le c.args.n c.clear.new.words (om
 
 pub invert-requires : goal.invert-requires
 invert-requires c =
-    let e : length c.args.numbering.now ≡ c.args.n = c.if-numbering-n.false in record { numbering_len_bound = omega arith; scratch_value = ap (take c.args.n) c.clear.ensures
+    let e : length c.args.numbering.now ≡ c.args.n = c.if-numbering-n.false in record {
+      numbering_len_bound = omega arith;
+      scratch_value = ap (take c.args.n) c.clear.ensures
           ∙ zeroed-front c.args.n c.args.scratch.now
-          ∙ ap (λ (k : ℕ). replicate k 0) (sym e) }
+          ∙ ap (λ (k : ℕ). replicate k 0) (sym e);
+    }
 
 pub returns : goal.returns
 returns c =
-    let e : length c.args.numbering.now ≡ c.args.n = c.if-numbering-n.false in record { value = c.invert.ensures.value ∙ ap (λ (k : ℕ). is_numbering k c.args.numbering.now) e; scratch_value = lent_back c.args.n c.args.numbering.now c.args.scratch.now c.invert.new.scratch c.clear.new.words c.invert.result e
-          c.clear.ensures (c.invert.ensures.scratch_value_2 ∙ ap (λ (k : ℕ). cond c.invert.result (order_of c.args.numbering.now) (replicate k 0)) e) }
+    let e : length c.args.numbering.now ≡ c.args.n = c.if-numbering-n.false in record {
+      value = c.invert.ensures.value ∙ ap (λ (k : ℕ). is_numbering k c.args.numbering.now) e;
+      scratch_value = lent_back c.args.n c.args.numbering.now c.args.scratch.now c.invert.new.scratch c.clear.new.words c.invert.result e
+          c.clear.ensures (c.invert.ensures.scratch_value_2 ∙ ap (λ (k : ℕ). cond c.invert.result (order_of c.args.numbering.now) (replicate k 0)) e);
+    }

@@ -1,13 +1,10 @@
 -- `graph_envelope::legal::profile` meets its contract: the spans of the nodes passed are summed. Assumes nothing.
-use Prim.Native.Nat.{ℕ, ◌+◌, ◌-◌, ◌*◌, ◌≤◌}
-use mathlib.Core.Path.{◌≡◌, refl, ap, ◌∙◌}
+use Prim.Native.Nat.{ℕ, ◌-◌, ◌*◌, ◌≤◌}
+use mathlib.Core.Path.{◌≡◌}
 use mathlib.Core.List.{List}
-use native.Mathlib.Omega.{arith}
 use lib.ListN.{length}
 use Rattle.spec.specs.Graph.{Graph, size_of, graph_of}
-use Rattle.laws.specs.Legal.{Node}
-use Rattle.laws.proofs.Numberings.{numbering_length}
-use Rattle.graph_envelope.proofs.Envelope.{spans, spans_more, spans_all, span_most}
+use Rattle.graph_envelope.proofs.Envelope.{spans}
 use Rattle.graph_envelope.proofs.legal.profile.Given as goal
 
 -- after p nodes of the n: the sum of their spans

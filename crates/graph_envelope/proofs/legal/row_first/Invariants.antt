@@ -1,13 +1,10 @@
 -- `graph_envelope::legal::row_first` meets its contract: the least so far, with the words to come, is the least of all. Assumes nothing.
-use Prim.Native.Nat.{ℕ, ◌+◌, ◌-◌, ◌≤◌, min}
-use mathlib.Core.Path.{◌≡◌, refl, sym, ap, ◌∙◌}
+use Prim.Native.Nat.{◌-◌, ◌≤◌}
+use mathlib.Core.Path.{◌≡◌}
 use mathlib.Core.List.{map}
-use native.Mathlib.Omega.{arith}
-use borrow.Author.Rules.{rules}
 use lib.ListN.{length, drop}
 use Rattle.basis.specs.Lists.{least}
 use Rattle.spec.specs.Graph.{of_node}
-use Rattle.graph_envelope.proofs.Folds.{least_more, least_done}
 use Rattle.graph_envelope.proofs.legal.row_first.Given as goal
 
 abbrev pub invariant-loop-j : goal.invariant-loop-j

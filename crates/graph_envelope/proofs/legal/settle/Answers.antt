@@ -1,15 +1,12 @@
 -- `graph_envelope::legal::settle` meets its contract: the nodes passed stand at their numbers. Assumes nothing.
-use Prim.Native.Nat.{ℕ, ◌-◌, ◌≤◌}
+use Prim.Native.Nat.{ℕ}
 use mathlib.Core.Path.{◌≡◌, refl, sym, ap, ◌∙◌, subst}
 use mathlib.Core.Bool.{false≢true}
-use mathlib.Core.List.{List}
 use native.Mathlib.Omega.{arith}
-use borrow.Author.Rules.{rules}
 use lib.ListN.{length, length-set, length-replicate}
 use Rattle.graph_envelope.specs.Numbers.{Settled}
 use Rattle.graph_envelope.proofs.Settle.{settle_none, settle_more, settle_zero, settle_high, settle_taken, settle_passes, settle_order}
 use Rattle.graph_envelope.proofs.legal.settle.Goals as goal
-use Rattle.graph_envelope.proofs.legal.settle.Invariants.{Settling}
 
 pub loop-i-init : goal.loop-i-init
 loop-i-init c =

@@ -2,7 +2,6 @@
 use mathlib.Core.Path.{ap₂}
 use Prim.Native.Nat.{◌-◌, ◌≤◌}
 use native.Mathlib.Omega.{arith}
-use borrow.Author.Rules.{rules}
 use Rattle.spec.specs.Measures.{row_span}
 use Rattle.laws.proofs.Numberings.{numbering_length}
 use Rattle.graph_envelope.proofs.Envelope.{first_most, number_most}

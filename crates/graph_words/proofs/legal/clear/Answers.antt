@@ -1,10 +1,10 @@
 -- `graph_words::legal::clear` meets its contract: the words passed are 0, the others as they were. Assumes nothing.
-use Prim.Native.Nat.{ℕ, ◌-◌, ◌≤◌}
+use Prim.Native.Nat.{ℕ}
 use mathlib.Core.List.{List, ◌++◌}
 use mathlib.Core.Path.{◌≡◌, refl, sym, ◌∙◌, ap}
 use native.Mathlib.Omega.{arith}
 use borrow.Author.Fill.{fill_more}
-use lib.ListN.{length, set, drop, replicate, length-set}
+use lib.ListN.{set, drop, replicate, length-set}
 use Rattle.laws.proofs.Lent.{zeroed_is}
 use Rattle.graph_words.proofs.legal.clear.Goals as goal
 

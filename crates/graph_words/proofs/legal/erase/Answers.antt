@@ -1,9 +1,9 @@
 -- `graph_words::legal::erase` meets its contract: what remains of the list does the rest. Assumes nothing.
-use Prim.Native.Nat.{◌+◌, ◌-◌, ◌≤◌, ◌<◌}
+use Prim.Native.Nat.{◌+◌, ◌≤◌, ◌<◌}
 use native.Mathlib.Omega.{arith}
 use lib.ListN.{length}
 use borrow.Author.Rules.{rules}
-use Rattle.graph_words.proofs.Erasing.{Erasing, erase_begin, erase_index, erase_range, erase_step, erase_done}
+use Rattle.graph_words.proofs.Erasing.{erase_begin, erase_index, erase_range, erase_step, erase_done}
 use Rattle.graph_words.proofs.legal.erase.Goals as goal
 
 pub loop-i-init : goal.loop-i-init

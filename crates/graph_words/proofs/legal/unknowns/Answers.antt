@@ -1,8 +1,7 @@
 -- `graph_words::legal::unknowns` meets its contract: the counts passed are tested and added up. Assumes nothing.
-use Prim.Native.Nat.{◌-◌}
 use native.Mathlib.Omega.{arith}
 use borrow.Author.Rules.{rules}
-use Rattle.graph_words.proofs.Unknowns.{Totalling, unknowns_misfit, totalling_begin, strays_few, totalling_step, unknowns_bad, unknowns_good}
+use Rattle.graph_words.proofs.Unknowns.{unknowns_misfit, totalling_begin, strays_few, totalling_step, unknowns_bad, unknowns_good}
 use Rattle.graph_words.proofs.legal.unknowns.Goals as goal
 
 pub returns-then-counts-n : goal.returns-then-counts-n

@@ -1,8 +1,6 @@
 -- `levels::legal::collect` meets its contract. Assumes nothing.
-use mathlib.Core.Logic.{⊎_elim}
-use Prim.Native.Nat.{◌-◌}
 use native.Mathlib.Omega.{arith}
-use Rattle.levels.proofs.Collecting.{Collecting, collect_begin, collect_size, count_most, collect_skip, collect_take, collect_done}
+use Rattle.levels.proofs.Collecting.{collect_begin, collect_size, count_most, collect_skip, collect_take, collect_done}
 use Rattle.levels.proofs.legal.collect.Goals as goal
 use Rattle.levels.proofs.legal.collect.Goals.{else-scratch-p-ne0, then-scratch-p-ne0}
 

@@ -78,7 +78,5 @@ returns c =
     let N = c.args.neighbours.now in
     let X = c.args.scratch.now in
     let v = c.first_in_e-first.ensures in
-    
     let k = c.end_widths-w.ensures.scratch_value in
-    
     record { value = figures S N c.requires.neighbours_value X c.requires.part_given v c.ends_from-f.ensures.value c.ends_from-f.ensures.ended k c.combine-width.ensures.value; scratch_value = part-merged S N c.requires.neighbours_value X c.requires.part_given v c.ends_from-f.ensures.value c.ends_from-f.ensures.ended k c.combine-width.ensures.scratch_value }

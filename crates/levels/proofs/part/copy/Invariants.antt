@@ -1,11 +1,8 @@
 -- `levels::part::copy` meets its contract: the words passed stand in the list, and behind them it is as it was. Assumes nothing.
-use mathlib.Core.Path.{◌≡◌, refl}
+use mathlib.Core.Path.{◌≡◌}
 use mathlib.Core.List.{◌++◌}
 use Prim.Native.Nat.{◌-◌, ◌≤◌}
-use native.Mathlib.Omega.{arith}
-use lib.ListN.{length, take, drop, length-set}
-use borrow.Author.Rules.{rules}
-use Rattle.levels.proofs.Copying.{copied_next, copied_over}
+use lib.ListN.{length, take, drop}
 use Rattle.levels.proofs.part.copy.Given as goal
 
 abbrev pub invariant-loop-i : goal.invariant-loop-i

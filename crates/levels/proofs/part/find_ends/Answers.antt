@@ -101,8 +101,10 @@ returns c =
     let h : ℕ = half c.args.starts.now in
     let m : ℕ = words_per_node * size_of c.args.starts.now in
     let Y : List ℕ = c.ends_from-f.new.work in
-    
-    record { value = alone_ends c.args.starts.now c.args.neighbours.now c.requires.neighbours_value node c.first_of_part-v.ensures.value c.ends_from-f.ensures.value c.ends_from-f.ensures.ended c.args.scratch.now words_are c.requires.starts_in_bounds c.end_widths-w.ensures.v_value c.end_widths-w.ensures.u_value; scratch_value = c.clear-2.ensures
+    record {
+      value = alone_ends c.args.starts.now c.args.neighbours.now c.requires.neighbours_value node c.first_of_part-v.ensures.value c.ends_from-f.ensures.value c.ends_from-f.ensures.ended c.args.scratch.now words_are c.requires.starts_in_bounds c.end_widths-w.ensures.v_value c.end_widths-w.ensures.u_value;
+      scratch_value = c.clear-2.ensures
           ∙ zeroed_again m c.end_widths-w.new.scratch c.args.scratch.now
           (ap (drop m) (c.end_widths-w.ensures.scratch_value ∙ front-back (h + h) (c.first_of_part-v.new.work ++ post_of 0 (half c.args.starts.now - 0) c.clear.new.words) Y) ∙ behind_front (h + h) m Y (c.first_of_part-v.new.work ++ post_of 0 (half c.args.starts.now - 0) c.clear.new.words) c.ends_from-f.ensures.ended.full (omega arith)
-          ∙ ap (drop m) words_are ∙ zeroed_behind m c.args.scratch.now) }
+          ∙ ap (drop m) words_are ∙ zeroed_behind m c.args.scratch.now);
+    }

@@ -56,5 +56,4 @@ shape_of-scratch c = search rules
 pub returns : goal.returns
 returns c =
     let z = c.clear.ensures in
-    
     record { value = part_figures c.args.starts.now c.args.neighbours.now c.args.node c.args.scratch.now c.requires.neighbours_value c.requires.le_node c.requires.starts_in_bounds z c.gather_part-count.ensures.value c.gather_part-count.ensures.scratch_value_2 c.combine_part-f.ensures.value; levels_value = c.copy.ensures ∙ levels-lent c.args.starts.now c.args.neighbours.now c.args.node c.args.scratch.now c.requires.neighbours_value c.requires.le_node c.requires.starts_in_bounds z c.gather_part-count.ensures.value c.gather_part-count.ensures.scratch_value_2 c.combine_part-f.ensures.scratch_value; scratch_value = part-words c.args.starts.now c.args.neighbours.now c.args.node c.args.scratch.now c.requires.neighbours_value c.requires.le_node c.requires.starts_in_bounds z c.gather_part-count.ensures.value c.gather_part-count.ensures.scratch_value_2 c.combine_part-f.ensures.scratch_value c.clear-2.ensures }

@@ -1,7 +1,6 @@
 -- `levels_combine::legal::blank` meets its contract. Assumes nothing.
 use Prim.Native.Nat.{◌-◌}
-use native.Mathlib.Omega.{arith}
-use Rattle.levels_laws.proofs.Blank.{Blanking, blank_begin, blank_step, blank_size, blank_done}
+use Rattle.levels_laws.proofs.Blank.{Blanking}
 use Rattle.levels_combine.proofs.legal.blank.Given as goal
 
 abbrev pub invariant-loop-i : goal.invariant-loop-i

@@ -1,6 +1,6 @@
 -- `levels_combine::legal::combine` meets its contract. Assumes nothing.
 use mathlib.Core.Path.{◌≡◌, sym, ap, ◌∙◌, subst}
-use mathlib.Core.List.{List, ◌++◌, map}
+use mathlib.Core.List.{◌++◌, map}
 use Prim.Native.Nat.{ℕ, ◌*◌, ◌≤◌}
 use native.Mathlib.Omega.{arith}
 use lib.ListN.{drop}
@@ -77,7 +77,7 @@ pub tidy-requires : goal.tidy-requires
 tidy-requires c =
     let G : LegalGraph (graph_of c.args.starts.now c.args.neighbours.now) = not_refused c.args.starts.now c.args.neighbours.now c.requires.neighbours_value in
     let few : size_of c.args.starts.now ≤ 4096 = (starts_of_lem (passed c.args.starts.now c.args.neighbours.now c.requires.neighbours_value)).few in
-    let n = size_of c.args.starts.now in record { n_in_bounds = tidy_room c.args.scratch.now G few c.requires.given c.blank.ensures c.level.new.scratch c.level.ensures; clearable = subst (λ (x : ℕ). Clearable n c.args.from c.args.to x (work_of n ( c.level.new.scratch ++ drop (6 * size_of c.args.starts.now) c.blank.new.scratch))) (sym c.wide-2.ensures) (tidy_ok c.args.scratch.now G few c.requires.given c.blank.ensures c.level.new.scratch c.level.ensures) }
+    let n = size_of c.args.starts.now in record { n_in_bounds = tidy_room c.args.scratch.now G few c.requires.given c.blank.ensures c.level.new.scratch c.level.ensures; clearable = subst (λ (x : ℕ). Clearable n c.args.from c.args.to x (work_of n (c.level.new.scratch ++ drop (6 * size_of c.args.starts.now) c.blank.new.scratch))) (sym c.wide-2.ensures) (tidy_ok c.args.scratch.now G few c.requires.given c.blank.ensures c.level.new.scratch c.level.ensures) }
 
 pub move_levels-requires : goal.move_levels-requires
 move_levels-requires c =
@@ -91,7 +91,7 @@ overflow_cast-result c =
     let few : size_of c.args.starts.now ≤ 4096 = (starts_of_lem (passed c.args.starts.now c.args.neighbours.now c.requires.neighbours_value)).few in
     let width : let g = graph_of c.args.starts.now c.args.neighbours.now in c.widest-w.result ≡ width_of c.args.k (combined g (ends_of g c.args.from (words_of (size_of c.args.starts.now) c.args.scratch.now))) = let n = size_of c.args.starts.now in
     width-ok c.args.scratch.now G few c.requires.given c.blank.ensures c.level.new.scratch c.level.ensures
-    (c.widest-w.ensures ∙ ap (λ (x : ℕ). greatest (map (count_of n (work_of n ( c.level.new.scratch ++ drop (6 * size_of c.args.starts.now) c.blank.new.scratch))) (up_from 1 x))) c.wide.ensures) in
+    (c.widest-w.ensures ∙ ap (λ (x : ℕ). greatest (map (count_of n (work_of n (c.level.new.scratch ++ drop (6 * size_of c.args.starts.now) c.blank.new.scratch))) (up_from 1 x))) c.wide.ensures) in
     omega (arith, width, width_most c.args.scratch.now G few c.requires.given c.blank.ensures c.level.new.scratch c.level.ensures)
 
 pub shape_of-scratch : goal.shape_of-scratch
@@ -103,5 +103,5 @@ returns c =
     let few : size_of c.args.starts.now ≤ 4096 = (starts_of_lem (passed c.args.starts.now c.args.neighbours.now c.requires.neighbours_value)).few in
     let width : let g = graph_of c.args.starts.now c.args.neighbours.now in c.widest-w.result ≡ width_of c.args.k (combined g (ends_of g c.args.from (words_of (size_of c.args.starts.now) c.args.scratch.now))) = let n = size_of c.args.starts.now in
     width-ok c.args.scratch.now G few c.requires.given c.blank.ensures c.level.new.scratch c.level.ensures
-    (c.widest-w.ensures ∙ ap (λ (x : ℕ). greatest (map (count_of n (work_of n ( c.level.new.scratch ++ drop (6 * size_of c.args.starts.now) c.blank.new.scratch))) (up_from 1 x))) c.wide.ensures) in
+    (c.widest-w.ensures ∙ ap (λ (x : ℕ). greatest (map (count_of n (work_of n (c.level.new.scratch ++ drop (6 * size_of c.args.starts.now) c.blank.new.scratch))) (up_from 1 x))) c.wide.ensures) in
     record { value = width; scratch_value = combined_is c.args.scratch.now G few c.requires.given c.blank.ensures c.level.new.scratch c.level.ensures c.tidy.new.scratch c.tidy.auto.scratch (c.tidy.ensures.scratch_value, c.tidy.ensures.scratch_value_2) c.move_levels.ensures }

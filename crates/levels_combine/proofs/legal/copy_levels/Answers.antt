@@ -1,12 +1,12 @@
 -- `levels_combine::legal::copy_levels` meets its contract. Assumes nothing.
 use mathlib.Core.List.{List}
-use Prim.Native.Nat.{ℕ, ◌+◌, ◌-◌, ◌*◌, ◌≤◌}
+use Prim.Native.Nat.{ℕ, ◌+◌, ◌*◌, ◌≤◌}
 use native.Mathlib.Omega.{arith}
 use lib.ListN.{length}
 use borrow.Author.Rules.{rules}
 use Rattle.levels_laws.specs.Model.{number_at}
 use Rattle.levels_laws.proofs.MoveLevels.{copy_step}
-use Rattle.levels_laws.proofs.StoreEach.{Storing, store_behind, store_size, z_low, z_high, store_done}
+use Rattle.levels_laws.proofs.StoreEach.{store_behind, store_size, z_low, z_high, store_done}
 use Rattle.levels_combine.proofs.legal.copy_levels.Goals as goal
 
 -- what is known of the member that is read

@@ -5,8 +5,8 @@ use Prim.Native.Nat.{ℕ, ◌+◌, ◌-◌, ◌*◌, ◌≤◌, ◌<◌}
 use native.Mathlib.Omega.{arith}
 use lib.ListN.{length, get_or}
 use borrow.Author.Rules.{rules}
-use Rattle.levels_laws.specs.Members.{mirrored_at, Mirrorable}
-use Rattle.levels_laws.proofs.StoreEach.{Storing, store_begin, store_size, z_low, z_high, z_fits, z_word, z_member, store_step, store_done}
+use Rattle.levels_laws.specs.Members.{mirrored_at}
+use Rattle.levels_laws.proofs.StoreEach.{store_begin, store_size, z_low, z_high, z_fits, z_word, z_member, store_step, store_done}
 use Rattle.levels_combine.proofs.legal.mirror.Goals as goal
 
 -- what is known of the member that is read

@@ -1,12 +1,12 @@
 -- `levels_combine::legal::place_all` meets its contract. Assumes nothing.
 use mathlib.Core.Path.{◌≡◌, ◌∙◌}
-use Prim.Native.Nat.{◌+◌, ◌-◌, ◌*◌, ◌≤◌}
+use Prim.Native.Nat.{◌+◌, ◌*◌, ◌≤◌}
 use native.Mathlib.Omega.{arith}
 use lib.ListN.{length, get_or}
 use borrow.Author.Rules.{rules}
-use Rattle.levels_laws.specs.Areas.{work_of, held_of}
+use Rattle.levels_laws.specs.Areas.{work_of}
 use Rattle.levels_laws.proofs.Areas.{list_read, work_room, view_size}
-use Rattle.levels_laws.proofs.PlaceAll.{PlacingAll, place_begin, now_stands, now_placeable, end_fits, place-step, place_done}
+use Rattle.levels_laws.proofs.PlaceAll.{place_begin, now_stands, now_placeable, end_fits, place-step, place_done}
 use Rattle.levels_combine.proofs.legal.place_all.Goals as goal
 
 pub loop-i-init : goal.loop-i-init

@@ -4,7 +4,7 @@ use Prim.Native.Nat.{◌+◌, ◌-◌, ◌<◌}
 use native.Mathlib.Omega.{arith}
 use lib.ListN.{length, length-set}
 use borrow.Author.Rules.{rules}
-use Rattle.levels_ends.proofs.Copying.{Copying, copy_begin, copy_size, i_fits, v_low, v_fits, copy_step, copied}
+use Rattle.levels_ends.proofs.Copying.{copy_begin, copy_size, i_fits, v_low, v_fits, copy_step, copied}
 use Rattle.levels_ends.proofs.legal.copy_over.Goals as goal
 
 pub overflow_add-half : goal.overflow_add-half

@@ -5,13 +5,13 @@ use Prim.Native.Nat.{◌-◌}
 use native.Mathlib.Omega.{arith}
 use borrow.Author.Rules.{rules}
 use borrow.Rule.Slice.PartMut.{post_of}
-use Rattle.spec.specs.Graph.{graph_of, size_of}
+use Rattle.spec.specs.Graph.{graph_of}
 use Rattle.laws.specs.Legal.{Node, Starts}
 use Rattle.laws.proofs.Parts.{part_most}
 use Rattle.laws.proofs.Refused.{passed, starts_of_lem}
 use Rattle.levels_ends.specs.Passes.{half, At}
 use Rattle.levels_ends.proofs.Areas.{front-lent, front-back}
-use Rattle.levels_ends.proofs.Ending.{Going, first_blank, first_full, first-at, going_begin, small, one-part, next_at, grows, less, going_next, figures, ended}
+use Rattle.levels_ends.proofs.Ending.{first_blank, first_full, first-at, going_begin, small, one-part, next_at, grows, less, going_next, figures, ended}
 use Rattle.levels_ends.proofs.legal.ends_from.Goals as goal
 
 pub overflow_sub-n : goal.overflow_sub-n
@@ -74,7 +74,6 @@ loop-deeper-smaller c =
 pub loop-deeper-preserved : goal.loop-deeper-preserved
 loop-deeper-preserved c =
     let d = c.loop-deeper-test.true in
-    
     going_next c.loop-deeper.invariant d (c.pass-t-in-loop-deeper.ensures c.loop-deeper.t.node (next_at c.loop-deeper.invariant d c.take_over.ensures))
 
 pub shape_of-work : goal.shape_of-work

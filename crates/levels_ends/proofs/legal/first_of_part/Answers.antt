@@ -71,6 +71,9 @@ returns c =
     let queue-lent : take (length c.args.starts.now - 1 + c.wide-count.result - (length c.args.starts.now - 1)) (drop (length c.args.starts.now - 1) c.search-r.new.work) ≡ take (reached (levels (graph_of c.args.starts.now c.args.neighbours.now) c.args.node)) (drop (size_of c.args.starts.now) c.search-r.new.work) = let n : ℕ = length c.args.starts.now - 1 in
     let e : n + c.wide-count.result - n ≡ c.wide-count.result = omega arith in
     ap (λ (k : ℕ). take k (drop n c.search-r.new.work)) (e ∙ reached_is) in
-    let A = starts_of_lem (passed c.args.starts.now c.args.neighbours.now c.requires.neighbours_value) in record { value = c.first_in_e-v.ensures c.args.neighbours.now A
+    let A = starts_of_lem (passed c.args.starts.now c.args.neighbours.now c.requires.neighbours_value) in record {
+      value = c.first_in_e-v.ensures c.args.neighbours.now A
           ∙ ap (first_in_e (graph_of c.args.starts.now c.args.neighbours.now)) queue-lent
-          ∙ first_perm (graph_of c.args.starts.now c.args.neighbours.now) kept.members; work_value_2 = c.wipe.ensures ∙ sym c.requires.work_value }
+          ∙ first_perm (graph_of c.args.starts.now c.args.neighbours.now) kept.members;
+      work_value_2 = c.wipe.ensures ∙ sym c.requires.work_value;
+    }

@@ -1,7 +1,6 @@
 -- `levels_ends::legal::take_over` meets its contract. Assumes nothing.
 use mathlib.Core.Path.{sym, subst}
-use mathlib.Core.List.{List}
-use Prim.Native.Nat.{ℕ, ◌+◌}
+use Prim.Native.Nat.{◌+◌}
 use lib.ListN.{drop}
 use borrow.Author.Rules.{rules}
 use Rattle.levels_search.specs.Queue.{Queued}

@@ -7,7 +7,7 @@ use borrow.Author.Rules.{rules}
 use borrow.Rule.Slice.PartMut.{same_len_mid}
 use Rattle.laws.proofs.Refused.{passed, starts_of_lem}
 use Rattle.levels_ends.specs.Passes.{half}
-use Rattle.levels_ends.proofs.Trying.{Trying, trying_begin, size, fits, node_in_lem, part_few, holds_lent, trying_deep, trying_next, end_node, end_few, end-lent, trying_done}
+use Rattle.levels_ends.proofs.Trying.{trying_begin, size, fits, node_in_lem, part_few, holds_lent, trying_deep, trying_next, end_node, end_few, end-lent, trying_done}
 use Rattle.levels_ends.proofs.legal.try_each.Goals as goal
 
 pub overflow_sub-n : goal.overflow_sub-n

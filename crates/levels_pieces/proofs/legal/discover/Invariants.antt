@@ -1,19 +1,10 @@
 -- `levels_pieces::legal::discover` meets its contract. Assumes nothing.
-use mathlib.Core.Path.{◌≡◌, sym, ap, ◌∙◌}
-use mathlib.Core.Logic.{⊎_elim}
 use mathlib.Core.List.{List}
-use Prim.Native.Nat.{ℕ, ◌+◌, ◌-◌, ◌*◌, ◌≤◌, ◌<◌}
-use native.Mathlib.Omega.{arith}
-use lib.ListN.{length, get_or}
-use borrow.Author.Rules.{rules}
-use Rattle.spec.specs.Graph.{graph_of, size_of}
-use Rattle.laws.proofs.Refused.{passed, starts_of_lem, not_refused}
+use Prim.Native.Nat.{ℕ, ◌-◌, ◌*◌, ◌≤◌}
+use lib.ListN.{length}
+use Rattle.spec.specs.Graph.{graph_of}
 use Rattle.levels_laws.specs.Areas.{work_of, held_of}
-use Rattle.levels_laws.proofs.Areas.{member_read, view_room, view_size}
-use Rattle.levels_laws.specs.Seek.{fresh_at}
-use Rattle.levels_laws.proofs.Discover.{Finding, finding_begin, shut_now}
-use Rattle.levels_laws.proofs.DiscoverStep.{z_node, finding_skip, finding_take}
-use Rattle.levels_laws.proofs.Found.{finding_done}
+use Rattle.levels_laws.proofs.Discover.{Finding}
 use Rattle.levels_pieces.proofs.legal.discover.Given as goal
 
 -- what holds at the loop's head, with the bounds that the words need

@@ -6,7 +6,7 @@ use native.Mathlib.Omega.{arith}
 use lib.ListN.{length, get_or, set, length-set}
 use borrow.Author.Rules.{rules}
 use Rattle.spec.specs.Graph.{graph_of, size_of, row_of}
-use Rattle.laws.specs.Legal.{Node, Starts}
+use Rattle.laws.specs.Legal.{Node}
 use Rattle.laws.proofs.Refused.{passed, starts_of_lem, not_refused}
 use Rattle.levels_laws.specs.Areas.{work_of, held_of}
 use Rattle.levels_laws.proofs.Areas.{view_room}
@@ -42,7 +42,6 @@ overflow_add-first c =
       shut = c.requires.shut_in;
     } in
     let first : First (length c.args.starts.now - 1) c.args.s c.args.scratch.now c.wide.result = let A = growable in
-    
     record {
       few = A.seek.few;
       words = view_room (size_of c.args.starts.now) c.args.scratch.now A.seek.words A.seek.levels;
@@ -63,7 +62,6 @@ overflow_sub-first c =
       shut = c.requires.shut_in;
     } in
     let first : First (length c.args.starts.now - 1) c.args.s c.args.scratch.now c.wide.result = let A = growable in
-    
     record {
       few = A.seek.few;
       words = view_room (size_of c.args.starts.now) c.args.scratch.now A.seek.words A.seek.levels;
@@ -84,7 +82,6 @@ offset_bounds-scratch-first c =
       shut = c.requires.shut_in;
     } in
     let first : First (length c.args.starts.now - 1) c.args.s c.args.scratch.now c.wide.result = let A = growable in
-    
     record {
       few = A.seek.few;
       words = view_room (size_of c.args.starts.now) c.args.scratch.now A.seek.words A.seek.levels;
@@ -105,7 +102,6 @@ bounds-scratch-first c =
       shut = c.requires.shut_in;
     } in
     let first : First (length c.args.starts.now - 1) c.args.s c.args.scratch.now c.wide.result = let A = growable in
-    
     record {
       few = A.seek.few;
       words = view_room (size_of c.args.starts.now) c.args.scratch.now A.seek.words A.seek.levels;
@@ -126,7 +122,6 @@ overflow_add-scratch c =
       shut = c.requires.shut_in;
     } in
     let first : First (length c.args.starts.now - 1) c.args.s c.args.scratch.now c.wide.result = let A = growable in
-    
     record {
       few = A.seek.few;
       words = view_room (size_of c.args.starts.now) c.args.scratch.now A.seek.words A.seek.levels;
@@ -147,7 +142,6 @@ offset_bounds-scratch-n c =
       shut = c.requires.shut_in;
     } in
     let first : First (length c.args.starts.now - 1) c.args.s c.args.scratch.now c.wide.result = let A = growable in
-    
     record {
       few = A.seek.few;
       words = view_room (size_of c.args.starts.now) c.args.scratch.now A.seek.words A.seek.levels;
@@ -168,7 +162,6 @@ bounds-scratch-n c =
       shut = c.requires.shut_in;
     } in
     let first : First (length c.args.starts.now - 1) c.args.s c.args.scratch.now c.wide.result = let A = growable in
-    
     record {
       few = A.seek.few;
       words = view_room (size_of c.args.starts.now) c.args.scratch.now A.seek.words A.seek.levels;
@@ -177,7 +170,6 @@ bounds-scratch-n c =
       room = seed_fits A;
     } in
     let F = first in
-    
     omega (arith, length-set c.args.scratch.now (3 * (length c.args.starts.now - 1) + c.wide.result - 1) 1)
 
 pub overflow_add-t : goal.overflow_add-t
@@ -191,7 +183,6 @@ overflow_add-t c =
       shut = c.requires.shut_in;
     } in
     let first : First (length c.args.starts.now - 1) c.args.s c.args.scratch.now c.wide.result = let A = growable in
-    
     record {
       few = A.seek.few;
       words = view_room (size_of c.args.starts.now) c.args.scratch.now A.seek.words A.seek.levels;
@@ -212,7 +203,6 @@ loop-h-init c =
       shut = c.requires.shut_in;
     } in
     let first : First (length c.args.starts.now - 1) c.args.s c.args.scratch.now c.wide.result = let A = growable in
-    
     record {
       few = A.seek.few;
       words = view_room (size_of c.args.starts.now) c.args.scratch.now A.seek.words A.seek.levels;
@@ -374,7 +364,6 @@ offset_bounds-scratch-first-2 c =
       shut = c.requires.shut_in;
     } in
     let first : First (length c.args.starts.now - 1) c.args.s c.args.scratch.now c.wide.result = let A = growable in
-    
     record {
       few = A.seek.few;
       words = view_room (size_of c.args.starts.now) c.args.scratch.now A.seek.words A.seek.levels;
@@ -395,7 +384,6 @@ bounds-scratch-first-2 c =
       shut = c.requires.shut_in;
     } in
     let first : First (length c.args.starts.now - 1) c.args.s c.args.scratch.now c.wide.result = let A = growable in
-    
     record {
       few = A.seek.few;
       words = view_room (size_of c.args.starts.now) c.args.scratch.now A.seek.words A.seek.levels;

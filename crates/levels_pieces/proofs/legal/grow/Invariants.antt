@@ -1,17 +1,11 @@
 -- `levels_pieces::legal::grow` meets its contract. Assumes nothing.
-use mathlib.Core.Path.{◌≡◌, refl, sym, ap, ◌∙◌, subst}
+use mathlib.Core.Path.{◌≡◌}
 use mathlib.Core.List.{List}
 use Prim.Native.Nat.{ℕ, ◌+◌, ◌-◌, ◌*◌, ◌≤◌}
-use native.Mathlib.Omega.{arith}
-use lib.ListN.{length, get_or, set, length-set}
-use borrow.Author.Rules.{rules}
-use Rattle.spec.specs.Graph.{graph_of, size_of, row_of}
-use Rattle.laws.specs.Legal.{Node, Starts}
-use Rattle.laws.proofs.Refused.{passed, starts_of_lem, not_refused}
+use Rattle.spec.specs.Graph.{graph_of}
+use Rattle.laws.specs.Legal.{Starts}
 use Rattle.levels_laws.specs.Areas.{work_of, held_of}
-use Rattle.levels_laws.proofs.Areas.{view_room}
-use Rattle.levels_laws.specs.Seek.{Nodes}
-use Rattle.levels_laws.proofs.Grow.{Growable, Spreading, row-nodes, seed_fits, t_most, next_node, spread_step, spread_begin_in, spread_same, spread_room, spread_read, spread_done_in}
+use Rattle.levels_laws.proofs.Grow.{Spreading}
 use Rattle.levels_pieces.proofs.legal.grow.Given as goal
 
 abbrev pub invariant-loop-h : goal.invariant-loop-h

@@ -1,6 +1,5 @@
 -- `levels_pieces::legal::visit` meets its contract. Assumes nothing.
 use mathlib.Core.Path.{◌≡◌, sym, ap, ◌∙◌}
-use mathlib.Core.Logic.{⊎_elim}
 use mathlib.Core.Bool.{true}
 use mathlib.Core.List.{List}
 use Prim.Native.Nat.{ℕ, ◌+◌, ◌-◌, ◌*◌, ◌≤◌}
@@ -9,7 +8,7 @@ use lib.ListN.{length, get_or, set, length-set}
 use borrow.Author.Rules.{rules}
 use Rattle.levels_laws.specs.Areas.{work_of, held_of}
 use Rattle.levels_laws.specs.Seek.{fresh_at}
-use Rattle.levels_laws.proofs.Visit.{Visiting, visit_begin, v_low, v_high, visit_old, t_in, visit_done, visit_room, visit_same, visit_new_in}
+use Rattle.levels_laws.proofs.Visit.{visit_begin, v_low, v_high, visit_old, t_in, visit_done, visit_room, visit_same, visit_new_in}
 use Rattle.levels_pieces.proofs.legal.visit.Goals as goal
 use Rattle.levels_pieces.proofs.legal.visit.Goals.{else-fresh, then-fresh}
 
@@ -198,8 +197,11 @@ loop-k-preserved c =
     let e = c.wide-v.ensures in
     let v = c.wide-v.result in
     let marked : List ℕ = set c.loop-k.scratch (3 * c.args.n + v - 1) 1 in
-    elim c.if-fresh.branch [ then-fresh w ↦ rw (w.scratch-is, w.t-is) (visit_new_in c.args.scratch.now c.loop-k.scratch I h e (sym c.fresh.ensures ∙ w.if-fresh.true)
-    (set marked (c.args.n + c.loop-k.t) (get_or c.args.row.now c.loop-k.k 0)) (ap (set marked (c.args.n + c.loop-k.t)) (sym e))) | else-fresh w ↦ rw (w.scratch-is, w.t-is) (visit_old I h e (sym c.fresh.ensures ∙ w.if-fresh.false)) ]
+    elim c.if-fresh.branch [
+      | then-fresh w ↦ rw (w.scratch-is, w.t-is) (visit_new_in c.args.scratch.now c.loop-k.scratch I h e (sym c.fresh.ensures ∙ w.if-fresh.true)
+          (set marked (c.args.n + c.loop-k.t) (get_or c.args.row.now c.loop-k.k 0)) (ap (set marked (c.args.n + c.loop-k.t)) (sym e)))
+      | else-fresh w ↦ rw (w.scratch-is, w.t-is) (visit_old I h e (sym c.fresh.ensures ∙ w.if-fresh.false))
+    ]
 
 pub shape_of-scratch : goal.shape_of-scratch
 shape_of-scratch c = visit_same c.args.scratch.now c.loop-k.scratch c.loop-k.invariant

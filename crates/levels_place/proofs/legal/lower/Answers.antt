@@ -1,8 +1,8 @@
 -- `levels_place::legal::lower` meets its contract. Assumes nothing.
-use Prim.Native.Nat.{◌-◌, ◌<◌}
+use Prim.Native.Nat.{◌<◌}
 use native.Mathlib.Omega.{arith}
 use lib.ListN.{length}
-use Rattle.levels_laws.proofs.RaiseLower.{LoweringIn, pass_size, pass_room, pass_read, pass_in, lower_begin_in, lower_pass, lower-some, lower-step_in, lower_done_in}
+use Rattle.levels_laws.proofs.RaiseLower.{pass_size, pass_room, pass_read, pass_in, lower_begin_in, lower_pass, lower-some, lower-step_in, lower_done_in}
 use Rattle.levels_place.proofs.legal.lower.Goals as goal
 
 pub loop-p-init : goal.loop-p-init

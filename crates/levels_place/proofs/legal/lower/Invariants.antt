@@ -1,8 +1,6 @@
 -- `levels_place::legal::lower` meets its contract. Assumes nothing.
-use Prim.Native.Nat.{◌-◌, ◌<◌}
-use native.Mathlib.Omega.{arith}
-use lib.ListN.{length}
-use Rattle.levels_laws.proofs.RaiseLower.{LoweringIn, pass_size, pass_room, pass_read, pass_in, lower_begin_in, lower_pass, lower-some, lower-step_in, lower_done_in}
+use Prim.Native.Nat.{◌-◌}
+use Rattle.levels_laws.proofs.RaiseLower.{LoweringIn}
 use Rattle.levels_place.proofs.legal.lower.Given as goal
 
 abbrev pub invariant-loop-p : goal.invariant-loop-p

@@ -1,10 +1,9 @@
 -- `levels_place::legal::put` meets its contract. Assumes nothing.
-use Prim.Native.Nat.{◌-◌}
 use native.Mathlib.Omega.{arith}
 use borrow.Author.Rules.{rules}
 use Rattle.levels_laws.specs.Areas.{work_of}
 use Rattle.levels_laws.proofs.Slots.{Located}
-use Rattle.levels_laws.proofs.PutLevels.{Putting, put_begin, put_at, put_step, put_done}
+use Rattle.levels_laws.proofs.PutLevels.{put_begin, put_at, put_step, put_done}
 use Rattle.levels_place.proofs.legal.put.Goals as goal
 
 pub loop-p-init : goal.loop-p-init

@@ -1,10 +1,6 @@
 -- `levels_place::legal::put` meets its contract. Assumes nothing.
 use Prim.Native.Nat.{◌-◌}
-use native.Mathlib.Omega.{arith}
-use borrow.Author.Rules.{rules}
-use Rattle.levels_laws.specs.Areas.{work_of}
-use Rattle.levels_laws.proofs.Slots.{Located}
-use Rattle.levels_laws.proofs.PutLevels.{Putting, put_begin, put_at, put_step, put_done}
+use Rattle.levels_laws.proofs.PutLevels.{Putting}
 use Rattle.levels_place.proofs.legal.put.Given as goal
 
 abbrev pub invariant-loop-p : goal.invariant-loop-p

@@ -1,9 +1,9 @@
 -- `levels_place::legal::widest` meets its contract. Assumes nothing.
 use mathlib.Core.Path.{ap, ◌∙◌}
-use Prim.Native.Nat.{◌-◌, max}
+use Prim.Native.Nat.{max}
 use native.Mathlib.Omega.{arith}
 use borrow.Author.Rules.{rules}
-use Rattle.levels_laws.proofs.Widest.{Topping, top_begin, top-step, top_done}
+use Rattle.levels_laws.proofs.Widest.{top_begin, top-step, top_done}
 use Rattle.levels_place.proofs.legal.widest.Goals as goal
 
 pub loop-i-init : goal.loop-i-init

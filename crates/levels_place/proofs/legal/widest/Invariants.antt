@@ -1,9 +1,6 @@
 -- `levels_place::legal::widest` meets its contract. Assumes nothing.
-use mathlib.Core.Path.{ap, ◌∙◌}
-use Prim.Native.Nat.{◌-◌, max}
-use native.Mathlib.Omega.{arith}
-use borrow.Author.Rules.{rules}
-use Rattle.levels_laws.proofs.Widest.{Topping, top_begin, top-step, top_done}
+use Prim.Native.Nat.{◌-◌}
+use Rattle.levels_laws.proofs.Widest.{Topping}
 use Rattle.levels_place.proofs.legal.widest.Given as goal
 
 abbrev pub invariant-loop-i : goal.invariant-loop-i

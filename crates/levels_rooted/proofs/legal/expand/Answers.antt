@@ -1,12 +1,10 @@
 -- `levels_rooted::legal::expand` meets its contract. The invariant: what the rest of the window does from here is what the window does from
 -- the start. Assumes nothing.
-use Prim.Native.Nat.{◌+◌, ◌-◌, ◌<◌}
+use Prim.Native.Nat.{◌<◌}
 use native.Mathlib.Nat.{le_refl}
 use native.Mathlib.Omega.{arith}
 use lib.ListN.{length}
-use lib.Seq.{slice}
-use Rattle.levels_search.specs.Marks.{found, rows}
-use Rattle.levels_search.proofs.Expanding.{Expanding, expand_begin, readable_now, head_in, head_node, expand_step, through}
+use Rattle.levels_search.proofs.Expanding.{expand_begin, readable_now, head_in, head_node, expand_step, through}
 use Rattle.levels_rooted.proofs.legal.expand.Goals as goal
 
 pub loop-h-init : goal.loop-h-init

@@ -4,7 +4,7 @@ use Prim.Native.Nat.{◌≤◌}
 use native.Mathlib.Omega.{arith}
 use lib.ListN.{length, replicate}
 use borrow.Author.Rules.{rules}
-use Rattle.spec.specs.Graph.{Graph, graph_of}
+use Rattle.spec.specs.Graph.{graph_of}
 use Rattle.laws.proofs.Lent.{zeroed-all}
 use Rattle.levels_rooted.proofs.Zeros.{d_most, zeros_behind}
 use Rattle.levels_rooted.proofs.legal.rooted.Goals as goal

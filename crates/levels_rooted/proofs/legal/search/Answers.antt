@@ -7,7 +7,7 @@ use borrow.Author.Rules.{rules}
 use Rattle.spec.specs.Graph.{size_of}
 use Rattle.levels_search.proofs.AfterRounds.{size}
 use Rattle.levels_search.proofs.Window.{b_most}
-use Rattle.levels_rooted.proofs.Searching.{Searching, begin, lists, room, inside, b_small, w_small, d_small, order, t_small, d_fits, step, listed, figures, counts}
+use Rattle.levels_rooted.proofs.Searching.{begin, lists, room, inside, b_small, w_small, d_small, order, t_small, d_fits, step, listed, figures, counts}
 use Rattle.levels_rooted.proofs.legal.search.Goals as goal
 
 -- ---- before the loop

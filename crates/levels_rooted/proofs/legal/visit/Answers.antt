@@ -1,12 +1,11 @@
 -- `levels_rooted::legal::visit` meets its contract. The invariant: what the rest of the row does from here is what the row does from the start.
 -- Assumes nothing.
 use mathlib.Core.Path.{refl}
-use mathlib.Core.Logic.{⊎_elim}
 use Prim.Native.Nat.{◌-◌, ◌<◌}
 use native.Mathlib.Omega.{arith}
 use lib.ListN.{length}
 use borrow.Author.Rules.{rules}
-use Rattle.levels_search.proofs.Visiting.{Going, going_begin, going_done}
+use Rattle.levels_search.proofs.Visiting.{going_begin, going_done}
 use Rattle.levels_rooted.proofs.Visiting.{low, inside, fits, taken, new}
 use Rattle.levels_rooted.proofs.legal.visit.Goals as goal
 use Rattle.levels_rooted.proofs.legal.visit.Goals.{else-levels-at-eq0, then-levels-at-eq0}

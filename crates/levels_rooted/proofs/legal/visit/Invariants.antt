@@ -1,13 +1,8 @@
 -- `levels_rooted::legal::visit` meets its contract. The invariant: what the rest of the row does from here is what the row does from the start.
 -- Assumes nothing.
-use mathlib.Core.Path.{refl}
-use mathlib.Core.Logic.{⊎_elim}
-use Prim.Native.Nat.{◌-◌, ◌<◌}
-use native.Mathlib.Omega.{arith}
+use Prim.Native.Nat.{◌-◌}
 use lib.ListN.{length}
-use borrow.Author.Rules.{rules}
-use Rattle.levels_search.proofs.Visiting.{Going, going_begin, going_done}
-use Rattle.levels_rooted.proofs.Visiting.{low, inside, fits, taken, new}
+use Rattle.levels_search.proofs.Visiting.{Going}
 use Rattle.levels_rooted.proofs.legal.visit.Given as goal
 
 abbrev pub invariant-loop-k : goal.invariant-loop-k

@@ -1,10 +1,9 @@
 -- `levels_search::legal::expand` meets its contract: the loop is `Expanding.antt`'s. Assumes nothing.
 use mathlib.Core.Path.{sym, ◌∙◌}
-use Prim.Native.Nat.{◌+◌, ◌-◌, ◌<◌}
+use Prim.Native.Nat.{◌+◌, ◌<◌}
 use native.Mathlib.Omega.{arith}
 use lib.ListN.{length}
-use borrow.Author.Tests.{ltb-false}
-use Rattle.levels_search.proofs.Expanding.{Inside, inside_begin, h_in, p_low, p_high, inside_step, through, all}
+use Rattle.levels_search.proofs.Expanding.{inside_begin, h_in, p_low, p_high, inside_step, through, all}
 use Rattle.levels_search.proofs.legal.expand.Goals as goal
 
 pub loop-h-init : goal.loop-h-init

@@ -1,13 +1,11 @@
 -- `levels_search::legal::search` meets its contract: the loop is `Searching.antt`'s, in the words of `SearchWords.antt`. Assumes nothing.
 use mathlib.Core.Path.{refl, sym, ◌∙◌}
-use Prim.Native.Nat.{◌-◌}
 use native.Mathlib.Nat.{le_trans}
 use native.Mathlib.Omega.{arith}
 use lib.ListN.{length-set}
 use borrow.Author.Rules.{rules}
-use Rattle.spec.specs.Graph.{size_of}
 use Rattle.levels_search.proofs.Within.{readable}
-use Rattle.levels_search.proofs.SearchWords.{Inside, Start, some, few, W-size, at_low, at_in, begins, lent, graph, window, again, found_all, d_small, b_small, w_small, last_small}
+use Rattle.levels_search.proofs.SearchWords.{Start, some, few, W-size, at_low, at_in, begins, lent, graph, window, again, found_all, d_small, b_small, w_small, last_small}
 use Rattle.levels_search.proofs.Searching.{numbers}
 use Rattle.levels_search.proofs.Window.{b_most, bound}
 use Rattle.levels_search.proofs.legal.search.Goals as goal
@@ -63,7 +61,6 @@ overflow_add-depth-in-loop-a c = omega (arith, d_small c.loop-a.invariant c.loop
 pub expand-t-requires : goal.expand-t-requires
 expand-t-requires c =
     let I = c.loop-a.invariant in
-    
     record { lent = lent I; readable = graph I; a_le_b = c.loop-a.invariant.on.window.order; within = window I; work_bound = le_trans (bound c.loop-a.invariant.on.window c.loop-a-test.true) c.requires.root_len_bound }
 
 pub loop-a-smaller : goal.loop-a-smaller

@@ -1,11 +1,7 @@
 -- `levels_search::legal::visit` meets its contract: the loop is `Visiting.antt`'s. Assumes nothing.
-use mathlib.Core.Path.{sym, ◌∙◌}
-use Prim.Native.Nat.{◌+◌, ◌-◌}
-use native.Mathlib.Omega.{arith}
+use Prim.Native.Nat.{◌-◌}
 use lib.ListN.{length}
-use borrow.Author.Rules.{rules}
-use borrow.Author.Tests.{ltb-true}
-use Rattle.levels_search.proofs.Visiting.{Visiting, visit_begin, lent, t_most, a_node, both-nodes, a-before, step-one, step-two, visit_done}
+use Rattle.levels_search.proofs.Visiting.{Visiting}
 use Rattle.levels_search.proofs.legal.visit.Given as goal
 
 abbrev pub invariant-loop-k : goal.invariant-loop-k

@@ -1,8 +1,6 @@
 -- `levels_sizes::legal::list_sizes` meets its contract: the loop is `Listing.antt`'s. Assumes nothing.
-use Prim.Native.Nat.{◌-◌, ◌≤◌}
-use native.Mathlib.Omega.{arith}
-use borrow.Author.Rules.{rules}
-use Rattle.levels_sizes.proofs.Listing.{Listing, list_begin, list_room, list_node, list_level, list_fits, list_step, list_done, list_rooted, list_top}
+use Prim.Native.Nat.{◌-◌}
+use Rattle.levels_sizes.proofs.Listing.{Listing}
 use Rattle.levels_sizes.proofs.legal.list_sizes.Given as goal
 
 abbrev pub invariant-loop-i : goal.invariant-loop-i

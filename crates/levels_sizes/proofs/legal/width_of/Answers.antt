@@ -19,4 +19,4 @@ shape_of-scratch c = search rules
 pub returns : goal.returns
 returns c =
     let A = c.requires in
-        record { value = c.list_sizes-top.ensures.value ∙ width-listed A; scratch_value = c.wipe_sizes.ensures ∙ words_back A c.list_sizes-top.ensures.scratch_value }
+    record { value = c.list_sizes-top.ensures.value ∙ width-listed A; scratch_value = c.wipe_sizes.ensures ∙ words_back A c.list_sizes-top.ensures.scratch_value }

@@ -1,12 +1,9 @@
 -- `mesh_elements::nodes::leaves` meets its contract: what the nodes from j on leave is what all leave. Assumes nothing.
-use Prim.Native.Nat.{◌-◌, ◌≤◌}
-use mathlib.Core.Path.{◌≡◌, refl, ◌∙◌}
+use mathlib.Core.Path.{refl, ◌∙◌}
 use native.Mathlib.Omega.{arith}
 use borrow.Author.Tests.{eq-eqb, ne_eqb, lt-ltb, le-ltb}
-use borrow.Author.Rules.{rules}
-use lib.ListN.{length, get_or, drop}
+use lib.ListN.{get_or}
 use lib.Dec.{eqb}
-use Rattle.basis.specs.Lists.{anyb}
 use Rattle.basis.proofs.Logic.{or_right, or_neither}
 use Rattle.spec.specs.Graph.{outside}
 use Rattle.mesh_elements.proofs.Remains.{any_met, any_passed, any_over}

@@ -1,6 +1,5 @@
 -- `mesh_elements::nodes::nodes_refusal` meets its contract. Assumes nothing.
 use mathlib.Core.Path.{sym, ◌∙◌}
-use borrow.Author.Rules.{rules}
 use Rattle.spec.specs.Mesh.{bad_nodes}
 use Rattle.mesh_elements.proofs.nodes.nodes_refusal.Goals as goal
 

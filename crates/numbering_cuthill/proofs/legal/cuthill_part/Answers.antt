@@ -56,5 +56,4 @@ returns c =
     let X = c.args.scratch.now in
     let w = c.find_rooted-f.ensures.scratch_value in
     let R = result graph few X given c.args.counts.now in
-    
     record { value = c.find_rooted-f.ensures.value; scratch_value = scratch_done graph few X given R w c.give_numbers.ensures.scratch_value c.give_levels.ensures.scratch_value; numbers_value = numbers_done graph few X given R w c.args.numbers.now c.requires.numbers_len.0 c.give_numbers.ensures.numbers_value; levels_value = levels_done graph few X given R w c.give_numbers.ensures.scratch_value c.args.levels.now c.requires.numbers_len.1 c.give_levels.ensures.levels_value }

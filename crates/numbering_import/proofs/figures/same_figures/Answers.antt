@@ -1,6 +1,5 @@
 -- `numbering_import::figures::same_figures` meets its contract: each figure is compared whole. Assumes nothing.
 use mathlib.Core.Path.{sym, ap, ◌∙◌}
-use borrow.Author.Rules.{rules}
 use lib.Dec.{eqb}
 use Rattle.numbering_ones.specs.Three.{three}
 use Rattle.numbering_import.specs.Answer.{sent_three}

@@ -1,14 +1,11 @@
 -- `numbering_import::numbers::own_numbers` meets its contract: the words passed are the nodes' own numbers. Assumes nothing.
-use mathlib.Core.Path.{◌≡◌, refl, ◌∙◌}
-use mathlib.Core.List.{List}
-use Prim.Native.Nat.{ℕ, ◌+◌, ◌-◌, ◌≤◌}
+use mathlib.Core.Path.{refl, ◌∙◌}
+use Prim.Native.Nat.{ℕ, ◌+◌}
 use native.Mathlib.Omega.{arith}
 use lib.ListN.{length}
-use Rattle.graph_envelope.specs.Aheads.{Made}
 use Rattle.graph_envelope.proofs.Ahead.{made_none, made_more, made_all}
 use Rattle.numbering_import.proofs.Supplied.{own_are}
 use Rattle.numbering_import.proofs.numbers.own_numbers.Goals as goal
-use Rattle.numbering_import.proofs.numbers.own_numbers.Invariants.{Owned}
 
 pub loop-i-preserved : goal.loop-i-preserved
 loop-i-preserved c =

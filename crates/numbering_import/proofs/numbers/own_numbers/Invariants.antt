@@ -1,12 +1,9 @@
 -- `numbering_import::numbers::own_numbers` meets its contract: the words passed are the nodes' own numbers. Assumes nothing.
-use mathlib.Core.Path.{◌≡◌, refl, ◌∙◌}
+use mathlib.Core.Path.{◌≡◌}
 use mathlib.Core.List.{List}
 use Prim.Native.Nat.{ℕ, ◌+◌, ◌-◌, ◌≤◌}
-use native.Mathlib.Omega.{arith}
 use lib.ListN.{length}
 use Rattle.graph_envelope.specs.Aheads.{Made}
-use Rattle.graph_envelope.proofs.Ahead.{made_none, made_more, made_all}
-use Rattle.numbering_import.proofs.Supplied.{own_are}
 use Rattle.numbering_import.proofs.numbers.own_numbers.Given as goal
 
 -- after i words of W

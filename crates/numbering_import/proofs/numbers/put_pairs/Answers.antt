@@ -1,9 +1,8 @@
 -- `numbering_import::numbers::put_pairs` meets its contract: the pairs passed are put over the nodes' own numbers. Assumes nothing.
 use mathlib.Core.Path.{◌≡◌, refl, sym, ap, ◌∙◌}
 use mathlib.Core.List.{List}
-use Prim.Native.Nat.{ℕ, ◌-◌, ◌≤◌}
+use Prim.Native.Nat.{ℕ, ◌≤◌}
 use native.Mathlib.Omega.{arith}
-use borrow.Author.Rules.{rules}
 use lib.ListN.{length, get_or, length-set}
 use Rattle.basis.proofs.ByNumber.{word_of}
 use Rattle.basis.proofs.Puts.{puts_none, puts-step}
@@ -11,7 +10,6 @@ use Rattle.spec_import.specs.CallsImport.{old_numbers}
 use Rattle.numbering_import.proofs.Supplied.{new_at, puts_of, old_range, puts-all}
 use Rattle.numbering_import.proofs.ByPair.{olds_length, olds_at}
 use Rattle.numbering_import.proofs.numbers.put_pairs.Goals as goal
-use Rattle.numbering_import.proofs.numbers.put_pairs.Invariants.{Put}
 
 pub loop-i-preserved : goal.loop-i-preserved
 loop-i-preserved c =

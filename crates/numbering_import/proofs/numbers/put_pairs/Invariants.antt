@@ -1,15 +1,10 @@
 -- `numbering_import::numbers::put_pairs` meets its contract: the pairs passed are put over the nodes' own numbers. Assumes nothing.
-use mathlib.Core.Path.{◌≡◌, refl, sym, ap, ◌∙◌}
+use mathlib.Core.Path.{◌≡◌}
 use mathlib.Core.List.{List}
 use Prim.Native.Nat.{ℕ, ◌-◌, ◌≤◌}
-use native.Mathlib.Omega.{arith}
-use borrow.Author.Rules.{rules}
-use lib.ListN.{length, get_or, length-set}
-use Rattle.basis.proofs.ByNumber.{word_of}
-use Rattle.basis.proofs.Puts.{puts_none, puts-step}
+use lib.ListN.{length}
 use Rattle.spec_import.specs.CallsImport.{old_numbers}
-use Rattle.numbering_import.proofs.Supplied.{new_at, puts_of, old_range, puts-all}
-use Rattle.numbering_import.proofs.ByPair.{olds_length, olds_at}
+use Rattle.numbering_import.proofs.Supplied.{puts_of}
 use Rattle.numbering_import.proofs.numbers.put_pairs.Given as goal
 
 -- after i pairs of P over W

@@ -1,7 +1,6 @@
 -- `numbering_import::numbers::supply` meets its contract: own numbers, and the pairs over them. Assumes nothing.
 use mathlib.Core.Path.{sym, ap, ◌∙◌}
 use Prim.Native.Nat.{ℕ}
-use borrow.Author.Rules.{rules}
 use Rattle.basis.specs.Lists.{up_from}
 use Rattle.spec_import.specs.CallsImport.{supplied, refuses13}
 use Rattle.numbering_import.proofs.numbers.supply.Goals as goal

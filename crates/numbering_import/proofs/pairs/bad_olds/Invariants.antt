@@ -1,12 +1,8 @@
 -- `numbering_import::pairs::bad_olds` meets its contract: the nodes met so far have the flag 1. Assumes nothing.
-use mathlib.Core.Path.{◌≡◌, sym, ◌∙◌}
-use Prim.Native.Nat.{◌-◌, ◌<◌}
-use native.Mathlib.Omega.{arith}
-use borrow.Author.Rules.{rules}
-use lib.ListN.{length, get_or}
+use Prim.Native.Nat.{◌-◌}
+use lib.ListN.{length}
 use Rattle.spec_import.specs.CallsImport.{old_numbers}
-use Rattle.numbering_import.proofs.ByPair.{olds_length, olds_at}
-use Rattle.numbering_import.proofs.Seen.{Seen, seen_none, seen_more, seen_all, met_zero, met_high, met_again}
+use Rattle.numbering_import.proofs.Seen.{Seen}
 use Rattle.numbering_import.proofs.pairs.bad_olds.Given as goal
 
 abbrev pub invariant-loop-i : goal.invariant-loop-i

@@ -1,5 +1,4 @@
 -- `numbering_import::pairs::bad_pairs` meets its contract: an odd number of words, or the old numbers. Assumes nothing.
-use borrow.Author.Rules.{rules}
 use lib.ListN.{length}
 use Rattle.numbering_import.proofs.ByPair.{odd_refused, even_decides}
 use Rattle.numbering_import.proofs.pairs.bad_pairs.Goals as goal

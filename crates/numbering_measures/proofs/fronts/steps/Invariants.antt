@@ -1,14 +1,11 @@
 -- `numbering_measures::fronts::steps` meets its contract: the words passed are steps, the others as they were. Assumes nothing.
-use Prim.Native.Nat.{ℕ, ◌+◌, ◌-◌, ◌≤◌}
-use mathlib.Core.Path.{◌≡◌, refl, ap₂, ◌∙◌}
+use Prim.Native.Nat.{ℕ, ◌-◌, ◌≤◌}
+use mathlib.Core.Path.{◌≡◌}
 use mathlib.Core.List.{List}
-use native.Mathlib.Omega.{arith}
-use borrow.Author.Rules.{rules}
-use lib.ListN.{length, get_or}
+use lib.ListN.{length}
 use Rattle.spec.specs.Graph.{of_node}
 use Rattle.graph_envelope.specs.Aheads.{Made}
-use Rattle.graph_envelope.proofs.Ahead.{made_none, made_more}
-use Rattle.numbering_measures.proofs.Steps.{step, steps_made, last_more, last_none}
+use Rattle.numbering_measures.proofs.Steps.{step}
 use Rattle.numbering_measures.proofs.fronts.steps.Given as goal
 
 -- after i words of W: they are steps, the others as they were, and last is the one before

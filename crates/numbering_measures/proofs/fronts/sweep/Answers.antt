@@ -1,16 +1,15 @@
 -- `numbering_measures::fronts::sweep` meets its contract: the words passed are summed, and are 0. Assumes nothing.
-use Prim.Native.Nat.{ℕ, ◌+◌, ◌-◌, ◌*◌, ◌≤◌}
+use Prim.Native.Nat.{ℕ, ◌+◌, ◌-◌, ◌*◌}
 use mathlib.Core.Path.{◌≡◌, refl, sym, ap, ap₂, ◌∙◌}
-use mathlib.Core.List.{List, ◌++◌, map}
+use mathlib.Core.List.{List, map}
 use native.Mathlib.Omega.{arith}
-use borrow.Author.Rules.{rules}
 use borrow.Author.Fill.{fill_more}
-use lib.ListN.{length, set, take, drop, replicate, length-set}
+use lib.ListN.{length, set, take, length-set}
 use Rattle.basis.specs.Lists.{greatest, sum, up_from}
 use Rattle.graph_envelope.proofs.Folds.{greatest_more}
 use Rattle.numbering_ones.proofs.Passed.{take_more, word-ahead, words-passed}
 use Rattle.numbering_measures.proofs.fronts.sweep.Goals as goal
-use Rattle.numbering_measures.proofs.fronts.sweep.Invariants.{standing, Swept}
+use Rattle.numbering_measures.proofs.fronts.sweep.Invariants.{standing}
 
 pub overflow_add-live : goal.overflow_add-live
 overflow_add-live c =

@@ -1,14 +1,9 @@
 -- `numbering_measures::fronts::sweep` meets its contract: the words passed are summed, and are 0. Assumes nothing.
-use Prim.Native.Nat.{ℕ, ◌+◌, ◌-◌, ◌*◌, ◌≤◌}
-use mathlib.Core.Path.{◌≡◌, refl, sym, ap, ap₂, ◌∙◌}
+use Prim.Native.Nat.{ℕ, ◌-◌, ◌*◌, ◌≤◌}
+use mathlib.Core.Path.{◌≡◌}
 use mathlib.Core.List.{List, ◌++◌, map}
-use native.Mathlib.Omega.{arith}
-use borrow.Author.Rules.{rules}
-use borrow.Author.Fill.{fill_more}
-use lib.ListN.{length, set, take, drop, replicate, length-set}
+use lib.ListN.{length, take, drop, replicate}
 use Rattle.basis.specs.Lists.{greatest, sum, up_from}
-use Rattle.graph_envelope.proofs.Folds.{greatest_more}
-use Rattle.numbering_ones.proofs.Passed.{take_more, word-ahead, words-passed}
 use Rattle.numbering_measures.proofs.fronts.sweep.Given as goal
 
 -- what stands in the front at i: opened up to i, and not passed before

@@ -1,6 +1,5 @@
 -- `numbering_measures::legal::figures` meets its contract: as many unknowns as nodes, or in unknowns. Assumes nothing.
 use mathlib.Core.Path.{◌≡◌, sym, ◌∙◌}
-use borrow.Author.Rules.{rules}
 use Rattle.basis.specs.Lists.{sum}
 use Rattle.spec.specs.Graph.{size_of}
 use Rattle.laws.proofs.Numberings.{numbering_length}

@@ -4,9 +4,8 @@ use Prim.Native.Nat.{ℕ}
 use mathlib.Core.Path.{◌≡◌, sym, ap, ◌∙◌, subst}
 use mathlib.Core.List.{List}
 use native.Mathlib.Omega.{arith}
-use borrow.Author.Rules.{rules}
 use lib.ListN.{length, replicate}
-use Rattle.spec.specs.Graph.{Graph, size_of, graph_of}
+use Rattle.spec.specs.Graph.{size_of, graph_of}
 use Rattle.spec.specs.Measures.{order_of}
 use Rattle.spec.specs.Unknowns.{renumbered_unknowns}
 use Rattle.graph_envelope.specs.Aheads.{aheads}
@@ -57,8 +56,11 @@ returns c =
     let x = c.args.numbering.now in
     let K = c.args.counts.now in
     let C = c.gather.new.words in
-    record { result_value = the_three (renumbered_unknowns (graph_of c.args.starts.now c.args.neighbours.now) K x) _ _ _ c.walk-spans.ensures.bandwidth_value c.walk-spans.ensures.profile_value
-          (c.sweep-most.ensures.value ∙ front_swept c.requires.measurable C gathered); words_value_2 = c.sweep-most.ensures.words_value ∙ ap (λ (k : ℕ). replicate k 0) (swept_long c.requires.measurable C gathered) }
+    record {
+      result_value = the_three (renumbered_unknowns (graph_of c.args.starts.now c.args.neighbours.now) K x) _ _ _ c.walk-spans.ensures.bandwidth_value c.walk-spans.ensures.profile_value
+          (c.sweep-most.ensures.value ∙ front_swept c.requires.measurable C gathered);
+      words_value_2 = c.sweep-most.ensures.words_value ∙ ap (λ (k : ℕ). replicate k 0) (swept_long c.requires.measurable C gathered);
+    }
 
 pub sweep-most-requires : goal.sweep-most-requires
 sweep-most-requires c =

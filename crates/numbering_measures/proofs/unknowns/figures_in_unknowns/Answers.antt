@@ -1,6 +1,5 @@
 -- `numbering_measures::unknowns::figures_in_unknowns` meets its contract: the order is made, and the figures from it. Assumes nothing.
 use native.Mathlib.Omega.{arith}
-use borrow.Author.Rules.{rules}
 use Rattle.numbering_measures.proofs.Nodes.{numbers_size}
 use Rattle.numbering_measures.proofs.Ordered.{order_made}
 use Rattle.numbering_measures.proofs.unknowns.figures_in_unknowns.Goals as goal

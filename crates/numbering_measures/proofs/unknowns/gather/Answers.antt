@@ -2,7 +2,7 @@
 use Prim.Native.Nat.{◌+◌, ◌-◌, ◌≤◌, ◌<◌}
 use native.Mathlib.Omega.{arith}
 use lib.ListN.{length, get_or}
-use Rattle.numbering_measures.proofs.Gathered.{Gathered, gathered_begin, f_room, word_small, gathered-step, gathered_done}
+use Rattle.numbering_measures.proofs.Gathered.{gathered_begin, f_room, word_small, gathered-step, gathered_done}
 use Rattle.numbering_measures.proofs.Nodes.{counts_long, next_node, next_few}
 use Rattle.numbering_measures.proofs.unknowns.gather.Goals as goal
 

@@ -1,9 +1,7 @@
 -- `numbering_measures::unknowns::gather` meets its contract: the unknowns of the nodes passed are added at their f. Assumes nothing.
-use Prim.Native.Nat.{◌+◌, ◌-◌, ◌≤◌, ◌<◌}
-use native.Mathlib.Omega.{arith}
-use lib.ListN.{length, get_or}
-use Rattle.numbering_measures.proofs.Gathered.{Gathered, gathered_begin, f_room, word_small, gathered-step, gathered_done}
-use Rattle.numbering_measures.proofs.Nodes.{counts_long, next_node, next_few}
+use Prim.Native.Nat.{◌-◌}
+use lib.ListN.{length}
+use Rattle.numbering_measures.proofs.Gathered.{Gathered}
 use Rattle.numbering_measures.proofs.unknowns.gather.Given as goal
 
 abbrev pub invariant-loop-p : goal.invariant-loop-p

@@ -1,10 +1,7 @@
 -- `numbering_measures::unknowns::walk` meets its contract: the reaches and shares of the nodes passed are taken in. Assumes nothing.
-use Prim.Native.Nat.{◌+◌, ◌-◌}
-use native.Mathlib.Omega.{arith}
-use borrow.Author.Rules.{rules}
+use Prim.Native.Nat.{◌-◌}
 use lib.ListN.{length}
-use Rattle.numbering_measures.proofs.Nodes.{counts_long, next_node}
-use Rattle.numbering_measures.proofs.Walked.{Seen, Walked, aheads_ready, seen, walked_begin, walked_step, walked_done}
+use Rattle.numbering_measures.proofs.Walked.{Walked}
 use Rattle.numbering_measures.proofs.unknowns.walk.Given as goal
 
 abbrev pub invariant-loop-p : goal.invariant-loop-p

@@ -1,16 +1,14 @@
 -- `numbering_ones::fronts::sweep` meets its contract: the words passed are summed, and are 0. Assumes nothing.
-use Prim.Native.Nat.{ℕ, ◌+◌, ◌-◌, ◌≤◌, max}
+use Prim.Native.Nat.{ℕ, ◌+◌, ◌-◌, max}
 use mathlib.Core.Path.{◌≡◌, refl, sym, ap, ap₂, ◌∙◌}
-use mathlib.Core.List.{List, ◌++◌, map}
+use mathlib.Core.List.{List, map}
 use native.Mathlib.Omega.{arith}
-use borrow.Author.Rules.{rules}
 use borrow.Author.Fill.{fill_more}
-use lib.ListN.{length, set, take, drop, replicate, length-set}
+use lib.ListN.{length, set, take, length-set}
 use Rattle.basis.specs.Lists.{greatest, sum, up_from}
 use Rattle.numbering_ones.proofs.Passed.{take_more, word-ahead, words-passed}
 use Rattle.numbering_ones.proofs.Swept.{sweep_more}
 use Rattle.numbering_ones.proofs.fronts.sweep.Goals as goal
-use Rattle.numbering_ones.proofs.fronts.sweep.Invariants.{Swept}
 
 pub overflow_add-live : goal.overflow_add-live
 overflow_add-live c =

@@ -1,14 +1,9 @@
 -- `numbering_ones::fronts::sweep` meets its contract: the words passed are summed, and are 0. Assumes nothing.
-use Prim.Native.Nat.{ℕ, ◌+◌, ◌-◌, ◌≤◌, max}
-use mathlib.Core.Path.{◌≡◌, refl, sym, ap, ap₂, ◌∙◌}
+use Prim.Native.Nat.{ℕ, ◌-◌, ◌≤◌}
+use mathlib.Core.Path.{◌≡◌}
 use mathlib.Core.List.{List, ◌++◌, map}
-use native.Mathlib.Omega.{arith}
-use borrow.Author.Rules.{rules}
-use borrow.Author.Fill.{fill_more}
-use lib.ListN.{length, set, take, drop, replicate, length-set}
+use lib.ListN.{length, take, drop, replicate}
 use Rattle.basis.specs.Lists.{greatest, sum, up_from}
-use Rattle.numbering_ones.proofs.Passed.{take_more, word-ahead, words-passed}
-use Rattle.numbering_ones.proofs.Swept.{sweep_more}
 use Rattle.numbering_ones.proofs.fronts.sweep.Given as goal
 
 -- after i words of C: they are 0, their sum, and the greatest front so far

@@ -1,9 +1,7 @@
 -- `numbering_ones::legal::figures` meets its contract. Assumes nothing.
 use Prim.Native.Nat.{ℕ}
 use mathlib.Core.Path.{◌≡◌, ap, ◌∙◌}
-use mathlib.Core.List.{List}
 use native.Mathlib.Omega.{arith}
-use borrow.Author.Rules.{rules}
 use lib.ListN.{length, replicate}
 use Rattle.spec.specs.Graph.{size_of, graph_of}
 use Rattle.spec.specs.Lent.{zeroed}
@@ -34,8 +32,11 @@ overflow_cast-result c =
 pub returns : goal.returns
 returns c =
     let x = c.args.numbering.now in
-    record { result_value = the_three (renumbered (graph_of c.args.starts.now c.args.neighbours.now) x) _ _ _ c.walk-spans.ensures.bandwidth_value c.walk-spans.ensures.profile_value
-          (c.sweep-most.ensures.value ∙ front_swept c.requires.legal_lists.graph x c.requires.numbering_value c.walk-spans.new.counts c.walk-spans.ensures.counts_value_2); counts_value = c.sweep-most.ensures.counts_value ∙ ap (λ (k : ℕ). replicate k 0) (opened_long c.requires.legal_lists.graph x c.requires.numbering_value c.walk-spans.new.counts c.walk-spans.ensures.counts_value_2) }
+    record {
+      result_value = the_three (renumbered (graph_of c.args.starts.now c.args.neighbours.now) x) _ _ _ c.walk-spans.ensures.bandwidth_value c.walk-spans.ensures.profile_value
+          (c.sweep-most.ensures.value ∙ front_swept c.requires.legal_lists.graph x c.requires.numbering_value c.walk-spans.new.counts c.walk-spans.ensures.counts_value_2);
+      counts_value = c.sweep-most.ensures.counts_value ∙ ap (λ (k : ℕ). replicate k 0) (opened_long c.requires.legal_lists.graph x c.requires.numbering_value c.walk-spans.new.counts c.walk-spans.ensures.counts_value_2);
+    }
 
 pub sweep-most-requires : goal.sweep-most-requires
 sweep-most-requires c =

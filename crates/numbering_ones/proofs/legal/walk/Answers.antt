@@ -1,11 +1,10 @@
 -- `numbering_ones::legal::walk` meets its contract: the spans of the nodes passed are taken in, and their f counted. Assumes nothing.
-use Prim.Native.Nat.{ℕ, ◌+◌, ◌-◌, ◌*◌, ◌≤◌, ◌<◌}
+use Prim.Native.Nat.{ℕ, ◌+◌, ◌-◌, ◌≤◌, ◌<◌}
 use mathlib.Core.Path.{◌≡◌, refl, sym, ap, ap₂, ◌∙◌}
 use mathlib.Core.List.{List}
 use native.Mathlib.Omega.{arith}
-use borrow.Author.Rules.{rules}
 use lib.ListN.{length, get_or, set, length-set}
-use Rattle.spec.specs.Graph.{Graph, size_of, graph_of}
+use Rattle.spec.specs.Graph.{size_of, graph_of}
 use Rattle.spec.specs.Measures.{row_span}
 use Rattle.laws.specs.Legal.{Node}
 use Rattle.laws.proofs.Numberings.{numbering_length}
@@ -15,7 +14,6 @@ use Rattle.numbering_ones.specs.Fronts.{opened}
 use Rattle.numbering_ones.proofs.Opened.{length-opened, opened_none, opened_most, opened_more}
 use Rattle.numbering_ones.proofs.Widths.{span_of, widest, widest-all}
 use Rattle.numbering_ones.proofs.legal.walk.Goals as goal
-use Rattle.numbering_ones.proofs.legal.walk.Invariants.{Walked}
 
 pub loop-p-init : goal.loop-p-init
 loop-p-init c =

@@ -1,19 +1,12 @@
 -- `numbering_ones::legal::walk` meets its contract: the spans of the nodes passed are taken in, and their f counted. Assumes nothing.
-use Prim.Native.Nat.{ℕ, ◌+◌, ◌-◌, ◌*◌, ◌≤◌, ◌<◌}
-use mathlib.Core.Path.{◌≡◌, refl, sym, ap, ap₂, ◌∙◌}
+use Prim.Native.Nat.{ℕ, ◌-◌, ◌*◌, ◌≤◌}
+use mathlib.Core.Path.{◌≡◌}
 use mathlib.Core.List.{List}
-use native.Mathlib.Omega.{arith}
-use borrow.Author.Rules.{rules}
-use lib.ListN.{length, get_or, set, length-set}
+use lib.ListN.{length}
 use Rattle.spec.specs.Graph.{Graph, size_of, graph_of}
-use Rattle.spec.specs.Measures.{row_span}
-use Rattle.laws.specs.Legal.{Node}
-use Rattle.laws.proofs.Numberings.{numbering_length}
-use Rattle.graph_envelope.proofs.Folds.{greatest_more}
-use Rattle.graph_envelope.proofs.Envelope.{spans, spans_more, spans_all, first_low, first_most, number_most}
+use Rattle.graph_envelope.proofs.Envelope.{spans}
 use Rattle.numbering_ones.specs.Fronts.{opened}
-use Rattle.numbering_ones.proofs.Opened.{length-opened, opened_none, opened_most, opened_more}
-use Rattle.numbering_ones.proofs.Widths.{span_of, widest, widest-all}
+use Rattle.numbering_ones.proofs.Widths.{widest}
 use Rattle.numbering_ones.proofs.legal.walk.Given as goal
 
 -- after p nodes of the n: the widest span, the sum of the spans, and how many rows begin at each number

@@ -1,9 +1,7 @@
 -- `numbering_order::legal::append` meets its contract. The invariant: what the rest of the row adds from here is what the row adds from the start. Assumes nothing.
-use Prim.Native.Nat.{◌-◌}
 use native.Mathlib.Omega.{arith}
-use lib.ListN.{length}
 use borrow.Author.Rules.{rules}
-use Rattle.numbering_order.proofs.Append.{Appending, append_begin, append_far, append_open, row_node, append-step, append_done}
+use Rattle.numbering_order.proofs.Append.{append_begin, append_far, append_open, row_node, append-step, append_done}
 use Rattle.numbering_order.proofs.legal.append.Goals as goal
 
 pub loop-j-init : goal.loop-j-init

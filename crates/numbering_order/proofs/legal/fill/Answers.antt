@@ -1,9 +1,9 @@
 -- `numbering_order::legal::fill` meets its contract. The invariant: the cursor is at the end, rounds enough from here number the level as from the start, and what is left stands on the level's stack from z down. Assumes nothing.
-use mathlib.Core.Path.{◌≡◌, refl, ap, ◌∙◌}
+use mathlib.Core.Path.{refl, ap, ◌∙◌}
 use mathlib.Core.List.{List}
 use Prim.Native.Nat.{ℕ, ◌+◌, ◌-◌}
 use native.Mathlib.Omega.{arith}
-use lib.ListN.{length, get_or}
+use lib.ListN.{get_or}
 use borrow.Author.Rules.{rules}
 use Rattle.spec.specs.Graph.{graph_of}
 use Rattle.numbering_order.specs.Model.{Fills}
@@ -99,11 +99,10 @@ loop-z-smaller c =
     omega (arith, F.1, at_most F.0.walk.now)
 
 pub loop-z-preserved : goal.loop-z-preserved
-loop-z-preserved c =
-    (
-      λ P W F. fill_on (fill_step (c.loop-z.invariant.0 P W F) c.loop-z-test.true c.resume-e.auto.work c.resume-e.ensures).0 c.unmarked-z-in-loop-z.ensures,
-      c.resume-e.auto.work ∙ c.loop-z.invariant.1,
-    )
+loop-z-preserved c = (
+  λ P W F. fill_on (fill_step (c.loop-z.invariant.0 P W F) c.loop-z-test.true c.resume-e.auto.work c.resume-e.ensures).0 c.unmarked-z-in-loop-z.ensures,
+  c.resume-e.auto.work ∙ c.loop-z.invariant.1,
+)
 
 pub shape_of-work : goal.shape_of-work
 shape_of-work c =

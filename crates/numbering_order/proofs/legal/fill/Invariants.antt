@@ -1,16 +1,9 @@
 -- `numbering_order::legal::fill` meets its contract. The invariant: the cursor is at the end, rounds enough from here number the level as from the start, and what is left stands on the level's stack from z down. Assumes nothing.
-use mathlib.Core.Path.{◌≡◌, refl, ap, ◌∙◌}
+use mathlib.Core.Path.{◌≡◌}
 use mathlib.Core.List.{List}
-use Prim.Native.Nat.{ℕ, ◌+◌, ◌-◌}
-use native.Mathlib.Omega.{arith}
-use lib.ListN.{length, get_or}
-use borrow.Author.Rules.{rules}
-use Rattle.spec.specs.Graph.{graph_of}
-use Rattle.numbering_order.specs.Model.{Fills}
-use Rattle.numbering_order.proofs.Words.{at_most}
-use Rattle.numbering_order.proofs.Walk.{walk_open, walk_far}
-use Rattle.numbering_order.proofs.Stack.{standing_far}
-use Rattle.numbering_order.proofs.Fill.{Filling, Found, fill_room, fill_begin, fill_asks, fill_on, fill_spread, fill_step, fill_done, left_range, left_unseen}
+use Prim.Native.Nat.{ℕ, ◌-◌}
+use lib.ListN.{length}
+use Rattle.numbering_order.proofs.Fill.{Found}
 use Rattle.numbering_order.proofs.legal.fill.Given as goal
 
 abbrev pub invariant-loop-z : goal.invariant-loop-z

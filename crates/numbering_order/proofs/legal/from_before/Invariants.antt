@@ -1,8 +1,6 @@
 -- `numbering_order::legal::from_before` meets its contract. The invariant: what the rest of the level before adds from here is what all of it adds from the start. Assumes nothing.
 use Prim.Native.Nat.{◌-◌}
-use native.Mathlib.Omega.{arith}
-use Rattle.numbering_order.proofs.Walk.{walk_open, walk_far, walk_range, walk_index}
-use Rattle.numbering_order.proofs.FromBefore.{Before, before_begin, before_in_lem, before-step, before_done}
+use Rattle.numbering_order.proofs.FromBefore.{Before}
 use Rattle.numbering_order.proofs.legal.from_before.Given as goal
 
 abbrev pub invariant-loop-h : goal.invariant-loop-h

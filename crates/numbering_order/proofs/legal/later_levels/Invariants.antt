@@ -1,11 +1,9 @@
 -- `numbering_order::legal::later_levels` meets its contract. The invariant: the levels still to come number from here as from level 2 on. Assumes nothing.
 use mathlib.Core.List.{List}
 use Prim.Native.Nat.{ℕ, ◌-◌}
-use native.Mathlib.Omega.{arith}
 use Rattle.spec.specs.Graph.{graph_of}
 use Rattle.numbering_order.specs.Model.{Follows}
-use Rattle.numbering_order.proofs.Walk.{walk_open}
-use Rattle.numbering_order.proofs.LaterLevels.{Advancing, advance_begin, advance_standing, advance_levelled, advance_step, advance_done}
+use Rattle.numbering_order.proofs.LaterLevels.{Advancing}
 use Rattle.numbering_order.proofs.legal.later_levels.Given as goal
 
 abbrev pub invariant-loop-i : goal.invariant-loop-i

@@ -1,9 +1,6 @@
 -- `numbering_order::legal::spread` meets its contract. The invariant: where the cursor goes from here, it goes from the start. Assumes nothing.
 use Prim.Native.Nat.{◌-◌}
-use native.Mathlib.Omega.{arith}
-use Rattle.numbering_order.proofs.Words.{at_most}
-use Rattle.numbering_order.proofs.Walk.{walk_open, walk_far, walk_range, walk_index}
-use Rattle.numbering_order.proofs.Spread.{Spreading, spread_begin, spread_step, spread_done}
+use Rattle.numbering_order.proofs.Spread.{Spreading}
 use Rattle.numbering_order.proofs.legal.spread.Given as goal
 
 abbrev pub invariant-loop-h : goal.invariant-loop-h

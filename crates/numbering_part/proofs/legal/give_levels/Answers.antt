@@ -4,7 +4,7 @@ use native.Mathlib.Omega.{arith}
 use lib.ListN.{length}
 use borrow.Author.Rules.{rules}
 use Rattle.levels_laws.proofs.StoreEach.{store_size, z_low, z_high, z_fits, store_done}
-use Rattle.numbering_part.proofs.Levels.{Handing, handing_begin, levels_size, handing_step, handing_done}
+use Rattle.numbering_part.proofs.Levels.{handing_begin, levels_size, handing_step, handing_done}
 use Rattle.numbering_part.proofs.legal.give_levels.Goals as goal
 
 pub loop-i-init : goal.loop-i-init

@@ -1,8 +1,8 @@
 -- `numbering_part::legal::give_numbers` meets its contract. Assumes nothing.
-use Prim.Native.Nat.{◌-◌, ◌≤◌}
+use Prim.Native.Nat.{◌≤◌}
 use native.Mathlib.Omega.{arith}
 use borrow.Author.Rules.{rules}
-use Rattle.numbering_part.proofs.Numbers.{Giving, giving_begin, words_size, numbers_size, z_range, giving_step, giving_words, giving_done}
+use Rattle.numbering_part.proofs.Numbers.{giving_begin, words_size, numbers_size, z_range, giving_step, giving_words, giving_done}
 use Rattle.numbering_part.proofs.legal.give_numbers.Goals as goal
 
 pub loop-i-init : goal.loop-i-init

@@ -1,8 +1,6 @@
 -- `numbering_part::legal::give_numbers` meets its contract. Assumes nothing.
-use Prim.Native.Nat.{◌-◌, ◌≤◌}
-use native.Mathlib.Omega.{arith}
-use borrow.Author.Rules.{rules}
-use Rattle.numbering_part.proofs.Numbers.{Giving, giving_begin, words_size, numbers_size, z_range, giving_step, giving_words, giving_done}
+use Prim.Native.Nat.{◌-◌}
+use Rattle.numbering_part.proofs.Numbers.{Giving}
 use Rattle.numbering_part.proofs.legal.give_numbers.Given as goal
 
 abbrev pub invariant-loop-i : goal.invariant-loop-i

@@ -63,5 +63,4 @@ returns c =
     let result : let g = graph_of c.args.starts.now c.args.neighbours.now in let z = lowest_in g.size c.args.from c.args.scratch.now in Sound g c.args.counts.now z (part_result g c.args.counts.now z) = (part_sound graph c.args.counts.now).sound _ (z_node graph few c.args.scratch.now given) in
     let X = c.args.scratch.now in
     let w = c.find_part-f.ensures.scratch_value in
-    
     record { value = ap part_figures_of c.find_part-f.ensures.result_value; scratch_value = scratch_done graph few X given result w c.give_numbers.ensures.scratch_value c.give_levels.ensures.scratch_value; numbers_value = numbers_done graph few X given result w c.args.numbers.now c.requires.numbers_len.0 c.give_numbers.ensures.numbers_value; levels_value = levels_done graph few X given result w c.give_numbers.ensures.scratch_value c.args.levels.now c.requires.numbers_len.1 c.give_levels.ensures.levels_value }

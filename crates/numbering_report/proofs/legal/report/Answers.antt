@@ -1,5 +1,4 @@
 -- `numbering_report::legal::report` meets its contract. Assumes nothing.
-use borrow.Author.Rules.{rules}
 use Rattle.numbering_report.proofs.Reported.{reported_by}
 use Rattle.numbering_report.proofs.legal.report.Goals as goal
 

@@ -2,7 +2,6 @@
 use Prim.Native.Nat.{ℕ}
 use mathlib.Core.Path.{ap, ◌∙◌}
 use mathlib.Core.List.{reverse}
-use borrow.Author.Rules.{rules}
 use Rattle.spec.specs.Graph.{graph_of}
 use Rattle.spec.specs.Unknowns.{bad_counts}
 use Rattle.numbering_reverse.specs.Places.{segment}

@@ -1,8 +1,7 @@
 -- `numbering_reverse::legal::put_aheads` meets its contract: the nodes passed have the unknowns ahead of them. Assumes nothing.
-use Prim.Native.Nat.{◌-◌, ◌≤◌}
+use Prim.Native.Nat.{◌≤◌}
 use native.Mathlib.Omega.{arith}
-use borrow.Author.Rules.{rules}
-use Rattle.numbering_reverse.proofs.Placing.{Putting, putting_begin, putting_size, putting_few, z_range, z-counted, z_few, putting_step, putting_done}
+use Rattle.numbering_reverse.proofs.Placing.{putting_begin, putting_size, putting_few, z_range, z-counted, z_few, putting_step, putting_done}
 use Rattle.numbering_reverse.proofs.legal.put_aheads.Goals as goal
 
 -- its count, added to the sum

@@ -1,9 +1,8 @@
 -- `numbering_reverse::legal::reverse` meets its contract: the words passed at both ends have changed places. Assumes nothing.
-use Prim.Native.Nat.{◌-◌, ◌≤◌}
-use mathlib.Core.Path.{◌≡◌}
+use Prim.Native.Nat.{◌≤◌}
 use native.Mathlib.Omega.{arith}
 use lib.ListN.{length, length-set}
-use Rattle.numbering_reverse.proofs.Reversing.{Reversing, reversing_none, reversing_more, reversing_all}
+use Rattle.numbering_reverse.proofs.Reversing.{reversing_none, reversing_more, reversing_all}
 use Rattle.numbering_reverse.proofs.legal.reverse.Goals as goal
 
 pub loop-i-preserved : goal.loop-i-preserved

@@ -1,9 +1,8 @@
 -- `numbering_reverse::legal::reverse` meets its contract: the words passed at both ends have changed places. Assumes nothing.
-use Prim.Native.Nat.{◌-◌, ◌≤◌}
+use Prim.Native.Nat.{◌-◌}
 use mathlib.Core.Path.{◌≡◌}
-use native.Mathlib.Omega.{arith}
-use lib.ListN.{length, length-set}
-use Rattle.numbering_reverse.proofs.Reversing.{Reversing, reversing_none, reversing_more, reversing_all}
+use lib.ListN.{length}
+use Rattle.numbering_reverse.proofs.Reversing.{Reversing}
 use Rattle.numbering_reverse.proofs.legal.reverse.Given as goal
 
 abbrev pub invariant-loop-i : goal.invariant-loop-i

@@ -1,12 +1,11 @@
 -- `numbering_reverse::legal::span` meets its contract: the words of the row give both shares. Assumes nothing.
 use Prim.Native.Nat.{ℕ, ◌+◌, ◌-◌, ◌≤◌}
 use mathlib.Core.Path.{◌≡◌, refl, sym, ap, ◌∙◌}
-use mathlib.Core.List.{List, reverse}
+use mathlib.Core.List.{reverse}
 use native.Mathlib.Omega.{arith}
-use borrow.Author.Rules.{rules}
 use lib.ListN.{length, take}
 use lib.Seq.{length-take-le}
-use Rattle.spec.specs.Graph.{Graph, graph_of}
+use Rattle.spec.specs.Graph.{graph_of}
 use Rattle.spec.specs.Measures.{in_order}
 use Rattle.spec.specs.Unknowns.{counts_in}
 use Rattle.laws.specs.Unknowns.{node_span}
@@ -18,7 +17,7 @@ use Rattle.numbering_reverse.proofs.legal.span.Goals as goal
 pub overflow_add-own : goal.overflow_add-own
 overflow_add-own c =
     let long : length (segment c.args.n c.args.m c.args.work.now) ≡ c.args.m = segment-length c.args.n c.args.m c.args.work.now c.requires.n_value.1 in
-    let stands : ( Standing c.args.starts.now c.args.neighbours.now c.args.counts.now (segment c.args.n c.args.m c.args.work.now) c.args.n c.args.work.now c.args.a c.wide-z.result) = let W = c.args.work.now in
+    let stands : (Standing c.args.starts.now c.args.neighbours.now c.args.counts.now (segment c.args.n c.args.m c.args.work.now) c.args.n c.args.work.now c.args.a c.wide-z.result) = let W = c.args.work.now in
     record {
       part = c.requires.part;
       counted = c.requires.counts_value;
@@ -32,7 +31,7 @@ overflow_add-own c =
 pub ends-e-requires : goal.ends-e-requires
 ends-e-requires c =
     let long : length (segment c.args.n c.args.m c.args.work.now) ≡ c.args.m = segment-length c.args.n c.args.m c.args.work.now c.requires.n_value.1 in
-    let stands : ( Standing c.args.starts.now c.args.neighbours.now c.args.counts.now (segment c.args.n c.args.m c.args.work.now) c.args.n c.args.work.now c.args.a c.wide-z.result) = let W = c.args.work.now in
+    let stands : (Standing c.args.starts.now c.args.neighbours.now c.args.counts.now (segment c.args.n c.args.m c.args.work.now) c.args.n c.args.work.now c.args.a c.wide-z.result) = let W = c.args.work.now in
     record {
       part = c.requires.part;
       counted = c.requires.counts_value;
@@ -47,7 +46,7 @@ ends-e-requires c =
 pub share-requires : goal.share-requires
 share-requires c =
     let long : length (segment c.args.n c.args.m c.args.work.now) ≡ c.args.m = segment-length c.args.n c.args.m c.args.work.now c.requires.n_value.1 in
-    let stands : ( Standing c.args.starts.now c.args.neighbours.now c.args.counts.now (segment c.args.n c.args.m c.args.work.now) c.args.n c.args.work.now c.args.a c.wide-z.result) = let W = c.args.work.now in
+    let stands : (Standing c.args.starts.now c.args.neighbours.now c.args.counts.now (segment c.args.n c.args.m c.args.work.now) c.args.n c.args.work.now c.args.a c.wide-z.result) = let W = c.args.work.now in
     record {
       part = c.requires.part;
       counted = c.requires.counts_value;
@@ -64,7 +63,7 @@ share-requires c =
 pub share-requires-2 : goal.share-requires-2
 share-requires-2 c =
     let long : length (segment c.args.n c.args.m c.args.work.now) ≡ c.args.m = segment-length c.args.n c.args.m c.args.work.now c.requires.n_value.1 in
-    let stands : ( Standing c.args.starts.now c.args.neighbours.now c.args.counts.now (segment c.args.n c.args.m c.args.work.now) c.args.n c.args.work.now c.args.a c.wide-z.result) = let W = c.args.work.now in
+    let stands : (Standing c.args.starts.now c.args.neighbours.now c.args.counts.now (segment c.args.n c.args.m c.args.work.now) c.args.n c.args.work.now c.args.a c.wide-z.result) = let W = c.args.work.now in
     record {
       part = c.requires.part;
       counted = c.requires.counts_value;
@@ -81,7 +80,7 @@ share-requires-2 c =
 pub returns : goal.returns
 returns c =
     let long : length (segment c.args.n c.args.m c.args.work.now) ≡ c.args.m = segment-length c.args.n c.args.m c.args.work.now c.requires.n_value.1 in
-    let stands : ( Standing c.args.starts.now c.args.neighbours.now c.args.counts.now (segment c.args.n c.args.m c.args.work.now) c.args.n c.args.work.now c.args.a c.wide-z.result) = let W = c.args.work.now in
+    let stands : (Standing c.args.starts.now c.args.neighbours.now c.args.counts.now (segment c.args.n c.args.m c.args.work.now) c.args.n c.args.work.now c.args.a c.wide-z.result) = let W = c.args.work.now in
     record {
       part = c.requires.part;
       counted = c.requires.counts_value;
@@ -95,15 +94,19 @@ returns c =
     let x = c.number-c.result in
     let own = c.wide-own.result in
     let R = reaches in
-    let k = count.1 in record { forward_value = c.share.ensures ∙ R.forward; backward_value = c.share-2.ensures ∙ R.backward ∙ ap (λ (l : ℕ). node_span (in_order (graph_of c.args.starts.now c.args.neighbours.now) (reverse (segment c.args.n c.args.m c.args.work.now))) (counts_in c.args.counts.now (reverse (segment c.args.n c.args.m c.args.work.now))) (l - c.args.a)) long; forward_bound = (
-          omega (arith, c.share.ensures, share_most x (own - c.ends-e.result.first) k (omega (arith, R))),
-          omega (arith, c.share-2.ensures, share_most x (c.ends-e.result.last - (own + x)) k (omega (arith, R))),
-        ) }
+    let k = count.1 in record {
+      forward_value = c.share.ensures ∙ R.forward;
+      backward_value = c.share-2.ensures ∙ R.backward ∙ ap (λ (l : ℕ). node_span (in_order (graph_of c.args.starts.now c.args.neighbours.now) (reverse (segment c.args.n c.args.m c.args.work.now))) (counts_in c.args.counts.now (reverse (segment c.args.n c.args.m c.args.work.now))) (l - c.args.a)) long;
+      forward_bound = (
+        omega (arith, c.share.ensures, share_most x (own - c.ends-e.result.first) k (omega (arith, R))),
+        omega (arith, c.share-2.ensures, share_most x (c.ends-e.result.last - (own + x)) k (omega (arith, R))),
+      );
+    }
 
 pub number-c-requires : goal.number-c-requires
 number-c-requires c =
     let long : length (segment c.args.n c.args.m c.args.work.now) ≡ c.args.m = segment-length c.args.n c.args.m c.args.work.now c.requires.n_value.1 in
-    let stands : ( Standing c.args.starts.now c.args.neighbours.now c.args.counts.now (segment c.args.n c.args.m c.args.work.now) c.args.n c.args.work.now c.args.a c.wide-z.result) = let W = c.args.work.now in
+    let stands : (Standing c.args.starts.now c.args.neighbours.now c.args.counts.now (segment c.args.n c.args.m c.args.work.now) c.args.n c.args.work.now c.args.a c.wide-z.result) = let W = c.args.work.now in
     record {
       part = c.requires.part;
       counted = c.requires.counts_value;
@@ -117,7 +120,7 @@ number-c-requires c =
 pub overflow_sub-z : goal.overflow_sub-z
 overflow_sub-z c =
     let long : length (segment c.args.n c.args.m c.args.work.now) ≡ c.args.m = segment-length c.args.n c.args.m c.args.work.now c.requires.n_value.1 in
-    let stands : ( Standing c.args.starts.now c.args.neighbours.now c.args.counts.now (segment c.args.n c.args.m c.args.work.now) c.args.n c.args.work.now c.args.a c.wide-z.result) = let W = c.args.work.now in
+    let stands : (Standing c.args.starts.now c.args.neighbours.now c.args.counts.now (segment c.args.n c.args.m c.args.work.now) c.args.n c.args.work.now c.args.a c.wide-z.result) = let W = c.args.work.now in
     record {
       part = c.requires.part;
       counted = c.requires.counts_value;
@@ -131,7 +134,7 @@ overflow_sub-z c =
 pub offset_bounds-work-z : goal.offset_bounds-work-z
 offset_bounds-work-z c =
     let long : length (segment c.args.n c.args.m c.args.work.now) ≡ c.args.m = segment-length c.args.n c.args.m c.args.work.now c.requires.n_value.1 in
-    let stands : ( Standing c.args.starts.now c.args.neighbours.now c.args.counts.now (segment c.args.n c.args.m c.args.work.now) c.args.n c.args.work.now c.args.a c.wide-z.result) = let W = c.args.work.now in
+    let stands : (Standing c.args.starts.now c.args.neighbours.now c.args.counts.now (segment c.args.n c.args.m c.args.work.now) c.args.n c.args.work.now c.args.a c.wide-z.result) = let W = c.args.work.now in
     record {
       part = c.requires.part;
       counted = c.requires.counts_value;
@@ -147,7 +150,7 @@ offset_bounds-work-z c =
 pub bounds-work-z : goal.bounds-work-z
 bounds-work-z c =
     let long : length (segment c.args.n c.args.m c.args.work.now) ≡ c.args.m = segment-length c.args.n c.args.m c.args.work.now c.requires.n_value.1 in
-    let stands : ( Standing c.args.starts.now c.args.neighbours.now c.args.counts.now (segment c.args.n c.args.m c.args.work.now) c.args.n c.args.work.now c.args.a c.wide-z.result) = let W = c.args.work.now in
+    let stands : (Standing c.args.starts.now c.args.neighbours.now c.args.counts.now (segment c.args.n c.args.m c.args.work.now) c.args.n c.args.work.now c.args.a c.wide-z.result) = let W = c.args.work.now in
     record {
       part = c.requires.part;
       counted = c.requires.counts_value;
@@ -163,7 +166,7 @@ bounds-work-z c =
 pub row-row-requires : goal.row-row-requires
 row-row-requires c =
     let long : length (segment c.args.n c.args.m c.args.work.now) ≡ c.args.m = segment-length c.args.n c.args.m c.args.work.now c.requires.n_value.1 in
-    let stands : ( Standing c.args.starts.now c.args.neighbours.now c.args.counts.now (segment c.args.n c.args.m c.args.work.now) c.args.n c.args.work.now c.args.a c.wide-z.result) = let W = c.args.work.now in
+    let stands : (Standing c.args.starts.now c.args.neighbours.now c.args.counts.now (segment c.args.n c.args.m c.args.work.now) c.args.n c.args.work.now c.args.a c.wide-z.result) = let W = c.args.work.now in
     record {
       part = c.requires.part;
       counted = c.requires.counts_value;
@@ -182,7 +185,7 @@ slice_bounds-ends-end c =
 pub overflow_sub-below : goal.overflow_sub-below
 overflow_sub-below c =
     let long : length (segment c.args.n c.args.m c.args.work.now) ≡ c.args.m = segment-length c.args.n c.args.m c.args.work.now c.requires.n_value.1 in
-    let stands : ( Standing c.args.starts.now c.args.neighbours.now c.args.counts.now (segment c.args.n c.args.m c.args.work.now) c.args.n c.args.work.now c.args.a c.wide-z.result) = let W = c.args.work.now in
+    let stands : (Standing c.args.starts.now c.args.neighbours.now c.args.counts.now (segment c.args.n c.args.m c.args.work.now) c.args.n c.args.work.now c.args.a c.wide-z.result) = let W = c.args.work.now in
     record {
       part = c.requires.part;
       counted = c.requires.counts_value;
@@ -197,7 +200,7 @@ overflow_sub-below c =
 pub overflow_sub-above : goal.overflow_sub-above
 overflow_sub-above c =
     let long : length (segment c.args.n c.args.m c.args.work.now) ≡ c.args.m = segment-length c.args.n c.args.m c.args.work.now c.requires.n_value.1 in
-    let stands : ( Standing c.args.starts.now c.args.neighbours.now c.args.counts.now (segment c.args.n c.args.m c.args.work.now) c.args.n c.args.work.now c.args.a c.wide-z.result) = let W = c.args.work.now in
+    let stands : (Standing c.args.starts.now c.args.neighbours.now c.args.counts.now (segment c.args.n c.args.m c.args.work.now) c.args.n c.args.work.now c.args.a c.wide-z.result) = let W = c.args.work.now in
     record {
       part = c.requires.part;
       counted = c.requires.counts_value;

@@ -1,16 +1,13 @@
 -- `numbering_reverse::legal::spans` meets its contract: the shares of the places passed are summed, from the front and from the back. Assumes nothing.
 use Prim.Native.Nat.{ℕ, ◌-◌, ◌*◌, ◌≤◌}
-use mathlib.Core.Path.{◌≡◌, refl, ap, ◌∙◌}
+use mathlib.Core.Path.{◌≡◌}
 use mathlib.Core.List.{List, reverse}
-use native.Mathlib.Omega.{arith}
-use lib.ListN.{length, length-reverse}
 use Rattle.spec.specs.Graph.{Graph, graph_of}
 use Rattle.spec.specs.Measures.{in_order}
 use Rattle.spec.specs.Unknowns.{counts_in}
 use Rattle.laws.specs.Unknowns.{node_span}
 use Rattle.numbering_reverse.specs.Places.{segment}
-use Rattle.numbering_reverse.proofs.Placing.{segment-length}
-use Rattle.numbering_reverse.proofs.Spans.{spans_to, spans_back, spans_more, spans-back, spans-back-all, spans_all, spans_turned, part_small}
+use Rattle.numbering_reverse.proofs.Spans.{spans_to, spans_back}
 use Rattle.numbering_reverse.proofs.legal.spans.Given as goal
 
 -- the share of a place

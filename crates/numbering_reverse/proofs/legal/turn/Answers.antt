@@ -1,10 +1,8 @@
 -- `numbering_reverse::legal::turn` meets its contract: the profile of the order, of the order reversed, and the lesser stays. Assumes nothing.
-use Prim.Native.Nat.{ℕ, ◌+◌}
+use Prim.Native.Nat.{◌+◌}
 use mathlib.Core.Path.{◌≡◌}
-use mathlib.Core.List.{List}
-use borrow.Author.Rules.{rules}
 use lib.ListN.{length, drop}
-use Rattle.spec.specs.Graph.{Graph, graph_of}
+use Rattle.spec.specs.Graph.{graph_of}
 use Rattle.numbering_reverse.specs.Places.{segment}
 use Rattle.numbering_reverse.proofs.Placing.{segment-length}
 use Rattle.numbering_reverse.proofs.Laid.{laid, laid_from, laid_turned, turns_yes, turns_no}

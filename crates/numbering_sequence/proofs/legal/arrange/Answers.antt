@@ -26,5 +26,4 @@ returns c =
     let N = c.args.neighbours.now in
     let K = c.args.counts.now in
     let f = c.forward.ensures in
-    
     record { value = arranged_turns S N c.requires.neighbours_value c.requires.named f K c.turn.ensures.value; work_value = arranged_words S N c.requires.neighbours_value c.requires.named f K c.turn.ensures.value c.turn.ensures.work_value }

@@ -4,7 +4,7 @@ use Prim.Native.Nat.{◌+◌, ◌-◌, ◌≤◌, ◌<◌}
 use native.Mathlib.Omega.{arith}
 use lib.ListN.{length}
 use borrow.Author.Rules.{rules}
-use Rattle.numbering_sequence.proofs.Mirrored.{Mirroring, mirror_begin, mirror_size, mirror_range, mirror_index, mirror_level, mirror_step, mirror_done}
+use Rattle.numbering_sequence.proofs.Mirrored.{mirror_begin, mirror_size, mirror_range, mirror_index, mirror_level, mirror_step, mirror_done}
 use Rattle.numbering_sequence.proofs.legal.mirror.Goals as goal
 
 pub loop-j-init : goal.loop-j-init

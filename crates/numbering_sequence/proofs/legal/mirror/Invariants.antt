@@ -1,10 +1,7 @@
 -- `numbering_sequence::legal::mirror` meets its contract. The invariant: the levels of the nodes passed are counted from the other end.
 -- Assumes nothing.
-use Prim.Native.Nat.{◌+◌, ◌-◌, ◌≤◌, ◌<◌}
-use native.Mathlib.Omega.{arith}
-use lib.ListN.{length}
-use borrow.Author.Rules.{rules}
-use Rattle.numbering_sequence.proofs.Mirrored.{Mirroring, mirror_begin, mirror_size, mirror_range, mirror_index, mirror_level, mirror_step, mirror_done}
+use Prim.Native.Nat.{◌-◌}
+use Rattle.numbering_sequence.proofs.Mirrored.{Mirroring}
 use Rattle.numbering_sequence.proofs.legal.mirror.Given as goal
 
 abbrev pub invariant-loop-j : goal.invariant-loop-j

@@ -1,5 +1,4 @@
 -- `numbering_sequence::legal::renames` meets its contract. Assumes nothing.
-use borrow.Author.Rules.{rules}
 use Rattle.spec.specs.Graph.{graph_of}
 use Rattle.numbering_sequence.proofs.Sequenced.{degrees_compared}
 use Rattle.numbering_sequence.proofs.legal.renames.Goals as goal

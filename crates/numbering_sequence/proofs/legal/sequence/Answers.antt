@@ -1,6 +1,5 @@
 -- `numbering_sequence::legal::sequence` meets its contract: the names stay or change, and then the order is had. Assumes nothing.
 use native.Mathlib.Omega.{arith}
-use borrow.Author.Rules.{rules}
 use Rattle.spec.specs.Graph.{graph_of}
 use Rattle.laws.proofs.Refused.{passed, starts_of_lem}
 use Rattle.numbering_sequence.proofs.Sequenced.{Renamed, ends_inside, names_tested, sequence_mirrorable, names_kept, names_changed, renamed_named, sequenced}

@@ -49,10 +49,13 @@ returns c =
     let S = c.args.starts.now in
     let N = c.args.neighbours.now in
     let W = c.args.scratch.now in
-    
-    let w = c.clear.ensures in record { value = c.members.ensures.value; ran = λ order K counted. ran_begin (drop (5 * size_of S) c.clear.new.words) c.requires.neighbours_value counted c.members.ensures.sized
-            (c.clear-2.ensures ∙ zeroed-all (size_of S) c.args.levels.now c.requires.numbers_len.1)
-            (c.clear-3.ensures ∙ zeroed-all (size_of S) c.args.passes.now c.requires.numbers_len.2)
-            c.members.ensures.scratch_value_2
-            (filled_room S N c.requires.neighbours_value W c.requires.starts_in_bounds w c.members.ensures.scratch_value_2)
-            (levels_blank S N c.requires.neighbours_value W c.requires.starts_in_bounds w c.members.ensures.scratch_value_2); scratch_value = behind_same S N c.requires.neighbours_value W c.requires.starts_in_bounds w c.members.ensures.scratch_value_2 }
+    let w = c.clear.ensures in record {
+      value = c.members.ensures.value;
+      ran = λ order K counted. ran_begin (drop (5 * size_of S) c.clear.new.words) c.requires.neighbours_value counted c.members.ensures.sized
+          (c.clear-2.ensures ∙ zeroed-all (size_of S) c.args.levels.now c.requires.numbers_len.1)
+          (c.clear-3.ensures ∙ zeroed-all (size_of S) c.args.passes.now c.requires.numbers_len.2)
+          c.members.ensures.scratch_value_2
+          (filled_room S N c.requires.neighbours_value W c.requires.starts_in_bounds w c.members.ensures.scratch_value_2)
+          (levels_blank S N c.requires.neighbours_value W c.requires.starts_in_bounds w c.members.ensures.scratch_value_2);
+      scratch_value = behind_same S N c.requires.neighbours_value W c.requires.starts_in_bounds w c.members.ensures.scratch_value_2;
+    }

@@ -1,9 +1,7 @@
 -- `numbering_whole::legal::number_parts` meets its contract. Assumes nothing.
-use mathlib.Core.Path.{◌≡◌, refl, sym, ◌∙◌}
-use Prim.Native.Nat.{◌-◌}
+use mathlib.Core.Path.{refl, sym, ◌∙◌}
 use native.Mathlib.Omega.{arith}
 use borrow.Author.Rules.{rules}
-use Rattle.numbering_next.specs.Ran.{Ran}
 use Rattle.numbering_next.proofs.NextPart.{ran_words, levels_size, passes_words}
 use Rattle.numbering_whole.proofs.Ran.{passed-all, all_numbers, all-levels, all_passes, summed}
 use Rattle.numbering_whole.proofs.legal.number_parts.Goals as goal

@@ -1,11 +1,7 @@
 -- `numbering_whole::legal::number_parts` meets its contract. Assumes nothing.
-use mathlib.Core.Path.{◌≡◌, refl, sym, ◌∙◌}
+use mathlib.Core.Path.{◌≡◌}
 use Prim.Native.Nat.{◌-◌}
-use native.Mathlib.Omega.{arith}
-use borrow.Author.Rules.{rules}
 use Rattle.numbering_next.specs.Ran.{Ran}
-use Rattle.numbering_next.proofs.NextPart.{ran_words, levels_size, passes_words}
-use Rattle.numbering_whole.proofs.Ran.{passed-all, all_numbers, all-levels, all_passes, summed}
 use Rattle.numbering_whole.proofs.legal.number_parts.Given as goal
 
 abbrev pub invariant-loop-t : goal.invariant-loop-t

@@ -1,9 +1,8 @@
 -- `numbering_width::legal::width_of` meets its contract: the loop is `Weighing.antt`'s. Assumes nothing.
 use mathlib.Core.Path.{◌∙◌}
-use Prim.Native.Nat.{◌-◌}
 use native.Mathlib.Omega.{arith}
 use borrow.Author.Rules.{rules}
-use Rattle.numbering_width.proofs.Weighing.{Weighing, weigh_begin, weigh_room, weigh_next, weigh-step, weigh-top, weigh-back}
+use Rattle.numbering_width.proofs.Weighing.{weigh_begin, weigh_room, weigh_next, weigh-step, weigh-top, weigh-back}
 use Rattle.numbering_width.proofs.legal.width_of.Goals as goal
 
 pub loop-i-init : goal.loop-i-init

@@ -1,9 +1,6 @@
 -- `store_eliminate::legal::climb` meets its contract: p is due in place of the first. Assumes nothing.
-use mathlib.Core.Path.{◌≡◌, refl, sym, ◌∙◌}
-use Prim.Native.Nat.{◌-◌}
+use mathlib.Core.Path.{refl, sym, ◌∙◌}
 use borrow.Author.Rules.{rules}
-use lib.ListN.{length}
-use Rattle.store_eliminate.specs.Walk.{Risen}
 use Rattle.store_eliminate.proofs.Walk.{room, climbed, climbed_joined}
 use Rattle.store_eliminate.proofs.legal.climb.Goals as goal
 

@@ -1,10 +1,8 @@
 -- `store_eliminate::legal::climb` meets its contract: p is due in place of the first. Assumes nothing.
-use mathlib.Core.Path.{◌≡◌, refl, sym, ◌∙◌}
+use mathlib.Core.Path.{◌≡◌}
 use Prim.Native.Nat.{◌-◌}
-use borrow.Author.Rules.{rules}
 use lib.ListN.{length}
 use Rattle.store_eliminate.specs.Walk.{Risen}
-use Rattle.store_eliminate.proofs.Walk.{room, climbed, climbed_joined}
 use Rattle.store_eliminate.proofs.legal.climb.Given as goal
 
 abbrev pub invariant-loop-p : goal.invariant-loop-p

@@ -1,7 +1,6 @@
 -- `store_eliminate::legal::eliminate_row` meets its contract: the row is opened, its neighbours are joined, and it is shut. Assumes nothing.
 use mathlib.Core.Path.{◌∙◌}
 use native.Mathlib.Omega.{arith}
-use borrow.Author.Rules.{rules}
 use Rattle.spec.specs.Measures.{order_of}
 use Rattle.store_eliminate.specs.Walk.{new_graph}
 use Rattle.store_eliminate.proofs.Rows.{node_node, node_index, opened-number, opened-row, opened_walk, opened_reach, next_start, next_small, row_closed}
@@ -37,7 +36,7 @@ returns c =
     let S = c.args.starts.now in
     let N = c.args.neighbours.now in
     let x = c.args.numbering.now in
-        let a = c.wide-node.ensures in
+    let a = c.wide-node.ensures in
     let e = c.row_of-row.ensures in
     let R = opened-row c.requires.0 c.requires.1 c.requires.2 a c.requires.3 e in
     let w = c.join_edges.ensures (new_graph S N x) (order_of x) R (rw c.row-adjacent.ensures (opened_walk c.requires.0 c.requires.1 c.requires.2 a c.requires.3 e)) in

@@ -1,6 +1,5 @@
 -- `store_eliminate::legal::join` meets its contract. Assumes nothing.
 use mathlib.Core.Path.{ap, ◌∙◌}
-use borrow.Author.Rules.{rules}
 use Rattle.store_marks.specs.Marks.{with_mark}
 use Rattle.store_eliminate.proofs.legal.join.Goals as goal
 

@@ -1,18 +1,15 @@
 -- `store_eliminate::legal::join_edges` meets its contract: the neighbours from the i-th on are due. Assumes nothing.
-use mathlib.Core.Path.{◌≡◌, refl, sym, ap, ◌∙◌}
-use mathlib.Core.List.{List, map}
-use Prim.Native.Nat.{ℕ, suc, ◌-◌, ◌≤◌}
+use mathlib.Core.Path.{refl, sym, ap, ◌∙◌}
+use mathlib.Core.List.{map}
+use Prim.Native.Nat.{suc}
 use native.Mathlib.Numerals.{add-one}
 use native.Mathlib.Omega.{arith}
 use borrow.Author.Rules.{rules}
-use lib.ListN.{length, get_or, drop}
+use lib.ListN.{get_or, drop}
 use Rattle.basis.proofs.Index.{memb-get_or}
-use Rattle.spec.specs.Graph.{Graph, of_node}
-use Rattle.store_eliminate.specs.Walk.{IsRow, Walk}
-use Rattle.store_eliminate.specs.declared.legal.Row.{Row}
+use Rattle.spec.specs.Graph.{of_node}
 use Rattle.store_eliminate.proofs.Walk.{due_next, due_none}
 use Rattle.store_eliminate.proofs.legal.join_edges.Goals as goal
-use Rattle.store_eliminate.proofs.legal.join_edges.Invariants.{Joining}
 
 pub loop-i-init : goal.loop-i-init
 loop-i-init c = record { inside = omega arith; words = refl; bytes = refl; due = λ h o R w. w }
@@ -29,7 +26,7 @@ climb-requires c =
     let A = c.args.adjacent.now in
     let x = c.args.numbering.now in
     let i = c.loop-i.i in
-        let e = c.number.ensures ∙ ap (of_node x) c.wide-b.ensures in
+    let e = c.number.ensures ∙ ap (of_node x) c.wide-b.ensures in
     (c.requires.1.0, c.requires.1.1, map (of_node x) (drop (suc i) A), c.requires.1.2, rw (e, sym (due_next x A i c.loop-i-test.true)) (c.loop-i.invariant.due c.requires.1.0 c.requires.1.1 c.requires.1.2 c.requires.1.3))
 
 pub loop-i-preserved : goal.loop-i-preserved

@@ -1,16 +1,11 @@
 -- `store_eliminate::legal::join_edges` meets its contract: the neighbours from the i-th on are due. Assumes nothing.
-use mathlib.Core.Path.{◌≡◌, refl, sym, ap, ◌∙◌}
+use mathlib.Core.Path.{◌≡◌}
 use mathlib.Core.List.{List, map}
-use Prim.Native.Nat.{ℕ, suc, ◌-◌, ◌≤◌}
-use native.Mathlib.Numerals.{add-one}
-use native.Mathlib.Omega.{arith}
-use borrow.Author.Rules.{rules}
-use lib.ListN.{length, get_or, drop}
-use Rattle.basis.proofs.Index.{memb-get_or}
+use Prim.Native.Nat.{ℕ, ◌-◌, ◌≤◌}
+use lib.ListN.{length, drop}
 use Rattle.spec.specs.Graph.{Graph, of_node}
 use Rattle.store_eliminate.specs.Walk.{IsRow, Walk}
 use Rattle.store_eliminate.specs.declared.legal.Row.{Row}
-use Rattle.store_eliminate.proofs.Walk.{due_next, due_none}
 use Rattle.store_eliminate.proofs.legal.join_edges.Given as goal
 
 -- after i of the neighbours: where all were due, those behind them are

@@ -1,6 +1,5 @@
 -- `store_eliminate::legal::joined` meets its contract. Assumes nothing.
 use mathlib.Core.Path.{ap, ◌∙◌}
-use borrow.Author.Rules.{rules}
 use Rattle.store_marks.specs.Marks.{marked}
 use Rattle.store_eliminate.proofs.legal.joined.Goals as goal
 

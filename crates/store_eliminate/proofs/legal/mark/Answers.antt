@@ -2,7 +2,6 @@
 use mathlib.Core.Path.{refl, ap, ◌∙◌}
 use Prim.Native.Nat.{ℕ}
 use native.Mathlib.Omega.{arith}
-use borrow.Author.Rules.{rules}
 use lib.ListN.{replicate}
 use Rattle.store_eliminate.proofs.Rows.{rows_none, rows_words, rows_bytes}
 use Rattle.store_eliminate.proofs.Walk.{bytes_few}

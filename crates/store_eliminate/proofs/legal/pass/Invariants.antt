@@ -1,16 +1,10 @@
 -- `store_eliminate::legal::pass` meets its contract: the rows up to `done` are eliminated, `start` says where the next one starts. Assumes nothing.
-use mathlib.Core.Path.{◌≡◌, refl, sym}
+use mathlib.Core.Path.{◌≡◌}
 use mathlib.Core.List.{List}
 use Prim.Native.Nat.{ℕ, suc, ◌-◌, ◌≤◌}
-use native.Mathlib.Numerals.{add-one}
-use native.Mathlib.Omega.{arith}
-use borrow.Author.Rules.{rules}
 use lib.ListN.{length}
-use Rattle.spec.specs.Graph.{size_of}
 use Rattle.spec.specs.Store.{start_of}
-use Rattle.laws.proofs.Numberings.{numbering_length}
 use Rattle.store_eliminate.specs.Walk.{new_graph, Done}
-use Rattle.store_eliminate.proofs.Rows.{start_none}
 use Rattle.store_eliminate.proofs.legal.pass.Given as goal
 
 -- after so many rows: where the next one starts, and what is done

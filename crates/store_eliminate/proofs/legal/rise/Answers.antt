@@ -2,7 +2,6 @@
 use mathlib.Core.Path.{◌≡◌, sym, ◌∙◌}
 use Prim.Native.Nat.{◌-◌}
 use native.Mathlib.Omega.{arith}
-use borrow.Author.Rules.{rules}
 use lib.ListN.{get_or}
 use Rattle.store_eliminate.proofs.Walk.{room, number_fits, low, index, risen_adopt, parent_above, parent_below, risen_climb}
 use Rattle.store_eliminate.proofs.legal.rise.Goals as goal

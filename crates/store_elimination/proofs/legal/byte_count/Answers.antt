@@ -1,6 +1,5 @@
 -- `store_elimination::legal::byte_count` meets its contract: as many unknowns as nodes, or in unknowns. Assumes nothing.
 use mathlib.Core.Path.{ap, ◌∙◌}
-use borrow.Author.Rules.{rules}
 use Rattle.spec.specs.Store.{mark_byte_count}
 use Rattle.store_elimination.proofs.OneEach.{one_each}
 use Rattle.store_elimination.proofs.legal.byte_count.Goals as goal

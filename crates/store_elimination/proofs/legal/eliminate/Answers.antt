@@ -1,7 +1,6 @@
 -- `store_elimination::legal::eliminate` meets its contract: the bytes are short, or their front is lent. Assumes nothing.
 use mathlib.Core.Path.{sym, ◌∙◌}
 use native.Mathlib.Omega.{arith}
-use borrow.Author.Rules.{rules}
 use lib.Seq.{length-take-le}
 use Rattle.spec.specs.Graph.{graph_of}
 use Rattle.spec.specs.Unknowns.{renumbered_unknowns}
@@ -30,6 +29,5 @@ mark-requires c = record { given = given_again c.requires.given _ c.byte_count-m
 pub returns : goal.returns
 returns c =
     let h = renumbered_unknowns (graph_of c.args.starts.now c.args.neighbours.now) c.args.counts.now c.args.numbering.now in
-    
     let l = long_bytes h c.args.bytes.now c.byte_count-m.ensures.value c.if-bytes-m.false c.mark.ensures.result_value c.mark.ensures.bytes_value in
     record { result_value = l.0; scratch_value = c.mark.ensures.scratch_value; bytes_value = l.1 }

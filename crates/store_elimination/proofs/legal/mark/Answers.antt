@@ -1,6 +1,5 @@
 -- `store_elimination::legal::mark` meets its contract: as many unknowns as nodes, or in unknowns. Assumes nothing.
 use mathlib.Core.Path.{◌≡◌, sym, ap, ◌∙◌}
-use borrow.Author.Rules.{rules}
 use Rattle.spec.specs.CallsStore.{elimination_figures}
 use Rattle.spec.specs.Graph.{graph_of}
 use Rattle.spec.specs.Store.{mark_byte_count, mark_bytes}
@@ -19,4 +18,4 @@ pub returns-then-total-numbering : goal.returns-then-total-numbering
 returns-then-total-numbering c =
     let same : new_graph c.args.starts.now c.args.neighbours.now c.args.numbering.now ≡ renumbered_unknowns (graph_of c.args.starts.now c.args.neighbours.now) c.args.counts.now c.args.numbering.now = one_each c.requires.given c.requires.total_value c.if-total-numbering.true in
     let g = same in
-        record { result_value = c.mark.ensures.0 ∙ ap elimination_figures g; scratch_value = c.mark.ensures.1; bytes_value = c.mark.ensures.2 ∙ ap mark_bytes g }
+    record { result_value = c.mark.ensures.0 ∙ ap elimination_figures g; scratch_value = c.mark.ensures.1; bytes_value = c.mark.ensures.2 ∙ ap mark_bytes g }

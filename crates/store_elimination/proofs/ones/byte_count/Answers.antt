@@ -2,7 +2,6 @@
 use mathlib.Core.Path.{ap}
 use Prim.Native.Nat.{ℕ, ◌+◌, ◌/◌}
 use native.Mathlib.Omega.{arith}
-use borrow.Author.Rules.{rules}
 use Rattle.spec.specs.Store.{mark_byte_count}
 use Rattle.store_unknowns.proofs.Stores.{nodes_small}
 use Rattle.store_elimination.proofs.ones.byte_count.Goals as goal

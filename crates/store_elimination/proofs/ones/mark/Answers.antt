@@ -1,5 +1,4 @@
 -- `store_elimination::ones::mark` meets its contract. Assumes nothing.
-use borrow.Author.Rules.{rules}
 use Rattle.store_elimination.proofs.MarkCounts.{edges_few, counts_are}
 use Rattle.store_elimination.proofs.ones.mark.Goals as goal
 

@@ -1,10 +1,10 @@
 -- `store_marks::legal::clear` meets its contract: the bytes passed are 0, the others as they were. Assumes nothing.
-use Prim.Native.Nat.{ℕ, ◌-◌, ◌≤◌}
+use Prim.Native.Nat.{ℕ}
 use mathlib.Core.List.{List, ◌++◌}
 use mathlib.Core.Path.{◌≡◌, refl, sym, ◌∙◌, ap}
 use native.Mathlib.Omega.{arith}
 use borrow.Author.Fill.{fill_more}
-use lib.ListN.{length, set, drop, replicate, length-set}
+use lib.ListN.{set, drop, replicate, length-set}
 use Rattle.laws.proofs.Lent.{zeroed_is}
 use Rattle.store_marks.proofs.legal.clear.Goals as goal
 

@@ -1,11 +1,8 @@
 -- `store_marks::legal::clear` meets its contract: the bytes passed are 0, the others as they were. Assumes nothing.
-use Prim.Native.Nat.{ℕ, ◌-◌, ◌≤◌}
-use mathlib.Core.List.{List, ◌++◌}
-use mathlib.Core.Path.{◌≡◌, refl, sym, ◌∙◌, ap}
-use native.Mathlib.Omega.{arith}
-use borrow.Author.Fill.{fill_more}
-use lib.ListN.{length, set, drop, replicate, length-set}
-use Rattle.laws.proofs.Lent.{zeroed_is}
+use Prim.Native.Nat.{◌-◌, ◌≤◌}
+use mathlib.Core.List.{◌++◌}
+use mathlib.Core.Path.{◌≡◌}
+use lib.ListN.{length, drop, replicate}
 use Rattle.store_marks.proofs.legal.clear.Given as goal
 
 abbrev pub invariant-loop-i : goal.invariant-loop-i

@@ -1,16 +1,15 @@
 -- `store_rows::legal::columns` meets its contract: the rows of the nodes passed have their first columns. Assumes nothing.
-use Prim.Native.Nat.{ℕ, ◌+◌, ◌-◌, ◌≤◌, ◌<◌}
-use mathlib.Core.Path.{◌≡◌, refl, ap, ◌∙◌}
+use Prim.Native.Nat.{◌+◌, ◌≤◌}
+use mathlib.Core.Path.{◌≡◌, ap, ◌∙◌}
 use native.Mathlib.Omega.{arith}
-use borrow.Author.Rules.{rules}
 use lib.ListN.{length}
-use Rattle.spec.specs.Graph.{Graph, graph_of, size_of}
+use Rattle.spec.specs.Graph.{graph_of, size_of}
 use Rattle.laws.specs.Legal.{Node}
 use Rattle.laws.proofs.Numberings.{numbering_length}
 use Rattle.laws.proofs.Renumber.{number_node}
 use Rattle.laws.proofs.UnknownBounds.{counts_size}
 use Rattle.graph_envelope.proofs.InUnknowns.{aheads_rise, aheads_long}
-use Rattle.store_rows.proofs.Columns.{Filled, Placed, placed, filled_begin, filled-step, filled_done}
+use Rattle.store_rows.proofs.Columns.{Placed, placed, filled_begin, filled-step, filled_done}
 use Rattle.store_rows.proofs.legal.columns.Goals as goal
 
 pub number-c-requires : goal.number-c-requires
@@ -51,8 +50,7 @@ loop-p-preserved c =
     let many : (length c.args.numbering.now ≡ size_of c.args.starts.now) × (length c.args.counts.now ≡ size_of c.args.starts.now) = (numbering_length _ _ c.requires.numbering_value, counts_size _ _ c.requires.counts_value) in
     let next : Node (graph_of c.args.starts.now c.args.neighbours.now) (c.loop-p.p + 1) = record { low = omega arith; high = omega (arith, many.0) } in
     let rows : Placed (graph_of c.args.starts.now c.args.neighbours.now) c.args.counts.now c.args.numbering.now (c.loop-p.p + 1) c.number-at.result c.number-c.result c.width.result = placed c.requires.legal_lists.graph c.args.counts.now c.requires.counts_value c.args.numbering.now c.requires.numbering_value _ next
-    c.requires.ahead_value c.number.ensures c.number-at.ensures c.number-c.ensures c.width.ensures in
-    (
+    c.requires.ahead_value c.number.ensures c.number-at.ensures c.number-c.ensures c.width.ensures in (
       omega arith,
       filled-step c.requires.legal_lists.graph c.args.counts.now c.requires.counts_value c.args.numbering.now c.requires.numbering_value c.loop-p.p c.loop-p.first c.loop-p.invariant.1
           (omega (arith, many.0)) rows.at_is c.number-c.ensures rows.low_is c.fill.ensures,

@@ -1,12 +1,8 @@
 -- `store_rows::legal::fill` meets its contract: a run of stores of one value. Assumes nothing.
-use Prim.Native.Nat.{ℕ, ◌+◌, ◌-◌, ◌≤◌}
-use mathlib.Core.Path.{◌≡◌, refl, sym, ap, ◌∙◌}
-use mathlib.Core.List.{List}
-use native.Mathlib.Omega.{arith}
+use Prim.Native.Nat.{◌+◌, ◌-◌, ◌≤◌}
+use mathlib.Core.Path.{◌≡◌}
 use lib.ListN.{length}
 use Rattle.basis.specs.Stored.{puts}
-use Rattle.basis.proofs.Puts.{puts_none, puts-step, length-puts}
-use Rattle.store_rows.proofs.Columns.{filled-run}
 use Rattle.store_rows.proofs.legal.fill.Given as goal
 
 abbrev pub invariant-loop-i : goal.invariant-loop-i

@@ -1,12 +1,10 @@
 -- `store_rows::legal::row_starts` meets its contract: a running sum. Assumes nothing.
-use Prim.Native.Nat.{ℕ, ◌+◌, ◌-◌, ◌*◌, ◌≤◌}
+use Prim.Native.Nat.{ℕ, ◌+◌, ◌*◌, ◌≤◌}
 use mathlib.Core.Path.{◌≡◌, refl, sym, ap, ◌∙◌}
 use mathlib.Core.List.{map}
 use native.Mathlib.Omega.{arith}
-use borrow.Author.Rules.{rules}
 use lib.ListN.{length, set}
 use Rattle.basis.specs.Lists.{up_from}
-use Rattle.graph_envelope.specs.Aheads.{Made}
 use Rattle.graph_envelope.proofs.Ahead.{made_none, made_more, made_all}
 use Rattle.store_rows.specs.Rows.{start_by}
 use Rattle.store_rows.proofs.Starts.{start_none, start_more, start_most}
@@ -29,9 +27,12 @@ returns c =
     let F = c.args.first.now in
     let P = c.args.place.now in
     let e = ended in
-    let m = made_more (start_by F) P c.loop-i.i c.loop-i.sum c.loop-i.place c.loop-i.invariant.3 (omega (arith, e, c.requires.place_len)) c.loop-i.invariant.2 in record { value = c.loop-i.invariant.2 ∙ ap (start_by F) e; place_value = ap (λ (k : ℕ). set c.loop-i.place k c.loop-i.sum) (sym e)
+    let m = made_more (start_by F) P c.loop-i.i c.loop-i.sum c.loop-i.place c.loop-i.invariant.3 (omega (arith, e, c.requires.place_len)) c.loop-i.invariant.2 in record {
+      value = c.loop-i.invariant.2 ∙ ap (start_by F) e;
+      place_value = ap (λ (k : ℕ). set c.loop-i.place k c.loop-i.sum) (sym e)
           ∙ made_all (start_by F) P (c.loop-i.i + 1) _ m (omega (arith, e, c.requires.place_len))
-          ∙ ap (λ (k : ℕ). map (start_by F) (up_from 0 k)) c.requires.place_len }
+          ∙ ap (λ (k : ℕ). map (start_by F) (up_from 0 k)) c.requires.place_len;
+    }
 
 pub loop-i-init : goal.loop-i-init
 loop-i-init c = (omega arith, refl, start_none _, made_none _ _)

@@ -1,15 +1,9 @@
 -- `store_rows::legal::row_starts` meets its contract: a running sum. Assumes nothing.
-use Prim.Native.Nat.{ℕ, ◌+◌, ◌-◌, ◌*◌, ◌≤◌}
-use mathlib.Core.Path.{◌≡◌, refl, sym, ap, ◌∙◌}
-use mathlib.Core.List.{map}
-use native.Mathlib.Omega.{arith}
-use borrow.Author.Rules.{rules}
-use lib.ListN.{length, set}
-use Rattle.basis.specs.Lists.{up_from}
+use Prim.Native.Nat.{◌-◌, ◌≤◌}
+use mathlib.Core.Path.{◌≡◌}
+use lib.ListN.{length}
 use Rattle.graph_envelope.specs.Aheads.{Made}
-use Rattle.graph_envelope.proofs.Ahead.{made_none, made_more, made_all}
 use Rattle.store_rows.specs.Rows.{start_by}
-use Rattle.store_rows.proofs.Starts.{start_none, start_more, start_most}
 use Rattle.store_rows.proofs.legal.row_starts.Given as goal
 
 abbrev pub invariant-loop-i : goal.invariant-loop-i

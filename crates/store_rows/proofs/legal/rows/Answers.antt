@@ -1,7 +1,6 @@
 -- `store_rows::legal::rows` meets its contract: what each function leaves is what the next one asks for. Assumes nothing.
 use mathlib.Core.Path.{◌≡◌, ap, ◌∙◌}
 use native.Mathlib.Omega.{arith}
-use borrow.Author.Rules.{rules}
 use Rattle.spec.specs.Measures.{order_of}
 use Rattle.graph_envelope.specs.Aheads.{aheads}
 use Rattle.store_rows.proofs.Rows.{order_ready, words_room, words_cleared, columns_ready, starts_made, profile_made}

@@ -2,7 +2,6 @@
 use mathlib.Core.Path.{ap, ◌∙◌}
 use Prim.Native.Nat.{ℕ, ◌-◌}
 use native.Mathlib.Omega.{arith}
-use borrow.Author.Rules.{rules}
 use lib.ListN.{get_or}
 use Rattle.store_spread.proofs.Rows.{node_low, node_high, count_word}
 use Rattle.store_spread.proofs.legal.count_of.Goals as goal

@@ -1,12 +1,8 @@
 -- `store_spread::legal::expand` meets its contract: the marks of the nodes from p on are moved. Assumes nothing.
 use mathlib.Core.Path.{◌≡◌, refl}
-use Prim.Native.Nat.{◌-◌, ◌≤◌}
 use native.Mathlib.Omega.{arith}
 use borrow.Author.Rules.{rules}
-use lib.ListN.{length}
-use Rattle.spec.specs.Unknowns.{counts_in}
 use Rattle.laws.proofs.UnknownOrder.{counts_length}
-use Rattle.store_spread.specs.Rows.{offset, Expanded}
 use Rattle.store_spread.proofs.Rows.{expanded_none, step-some, step_fits, step-at, step-least, step-within, step_clear, step_more}
 use Rattle.store_spread.proofs.legal.expand.Goals as goal
 
@@ -54,10 +50,13 @@ pub shift-requires : goal.shift-requires
 shift-requires c =
     let a = c.loop-p.p in
     let b = c.loop-p.at in
-    let t = c.loop-p-test.true in record { room = record {
+    let t = c.loop-p-test.true in record {
+      room = record {
         fits = omega (arith, c.requires.room.0.fits, c.loop-p.invariant.3, step_fits c.requires.listed.0 c.requires.listed.1 a b c.count_of-c.result t c.loop-p.invariant.1 c.loop-p.invariant.2 c.count_of-c.ensures, step-within c.requires.listed.0 c.requires.listed.1 a b c.count_of-c.result t c.loop-p.invariant.1 c.loop-p.invariant.2 c.count_of-c.ensures);
         small = omega (arith, c.requires.room.0.small, step_fits c.requires.listed.0 c.requires.listed.1 a b c.count_of-c.result t c.loop-p.invariant.1 c.loop-p.invariant.2 c.count_of-c.ensures, step-within c.requires.listed.0 c.requires.listed.1 a b c.count_of-c.result t c.loop-p.invariant.1 c.loop-p.invariant.2 c.count_of-c.ensures);
-      }; s_le_t = (omega (arith, c.requires.listed.1.later, step-least c.requires.listed.0 c.requires.listed.1 a b c.count_of-c.result t c.loop-p.invariant.1 c.loop-p.invariant.2 c.count_of-c.ensures), step-some c.requires.listed.0 c.requires.listed.1 a b c.count_of-c.result t c.loop-p.invariant.1 c.loop-p.invariant.2 c.count_of-c.ensures, step_clear c.requires.listed.0 c.requires.listed.1 a b c.count_of-c.result t c.loop-p.invariant.1 c.loop-p.invariant.2 c.count_of-c.ensures c.loop-p.invariant.4) }
+      };
+      s_le_t = (omega (arith, c.requires.listed.1.later, step-least c.requires.listed.0 c.requires.listed.1 a b c.count_of-c.result t c.loop-p.invariant.1 c.loop-p.invariant.2 c.count_of-c.ensures), step-some c.requires.listed.0 c.requires.listed.1 a b c.count_of-c.result t c.loop-p.invariant.1 c.loop-p.invariant.2 c.count_of-c.ensures, step_clear c.requires.listed.0 c.requires.listed.1 a b c.count_of-c.result t c.loop-p.invariant.1 c.loop-p.invariant.2 c.count_of-c.ensures c.loop-p.invariant.4);
+    }
 
 pub loop-p-smaller : goal.loop-p-smaller
 loop-p-smaller c = omega (arith, c.loop-p-test.true)

@@ -1,26 +1,20 @@
 -- `store_spread::legal::spread` meets its contract: the rows after q are spread. Assumes nothing.
 use mathlib.Core.Path.{◌≡◌, refl, ◌∙◌}
-use Prim.Native.Nat.{ℕ, ◌≤◌, ◌<◌}
 use native.Mathlib.Omega.{arith}
 use borrow.Author.Rules.{rules}
-use lib.ListN.{length, get_or}
-use Rattle.spec.specs.Store.{mark_at}
-use Rattle.laws.specs.Unknowns.{Spread}
-use Rattle.store_spread.specs.Places.{Room}
-use Rattle.store_spread.specs.Rows.{EndsAt, new_graph, new_counts}
+use lib.ListN.{length}
 use Rattle.store_spread.proofs.Spreading.{given_size, given-ends, given_room, given_none, given-all}
 use Rattle.store_spread.proofs.legal.spread.Goals as goal
 
 pub loop-q-init : goal.loop-q-init
-loop-q-init c =
-    (
-      omega arith,
-      refl,
-      λ j. omega (arith, c.slice_known-1.given j),
-      record { fits = given_room c.requires.given c.requires.nodes_value.0 c.requires.nodes_value.1 _ c.requires.bytes_len.0; small = omega arith },
-      given-ends c.requires.given c.requires.nodes_value.0 c.requires.nodes_value.1,
-      given_none c.requires.given _ c.requires.bytes_len.1.0 c.requires.bytes_len.1.1,
-    )
+loop-q-init c = (
+  omega arith,
+  refl,
+  λ j. omega (arith, c.slice_known-1.given j),
+  record { fits = given_room c.requires.given c.requires.nodes_value.0 c.requires.nodes_value.1 _ c.requires.bytes_len.0; small = omega arith },
+  given-ends c.requires.given c.requires.nodes_value.0 c.requires.nodes_value.1,
+  given_none c.requires.given _ c.requires.bytes_len.1.0 c.requires.bytes_len.1.1,
+)
 
 pub spread_row-ends-requires : goal.spread_row-ends-requires
 spread_row-ends-requires c = record { given = (c.requires.given, omega (arith, c.loop-q-test.true), omega (arith, c.loop-q.invariant.0, given_size c.requires.given)); ends_at = (c.loop-q.invariant.4, c.loop-q.invariant.3); spread = c.loop-q.invariant.5 }

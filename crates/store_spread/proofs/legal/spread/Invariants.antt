@@ -1,14 +1,11 @@
 -- `store_spread::legal::spread` meets its contract: the rows after q are spread. Assumes nothing.
-use mathlib.Core.Path.{◌≡◌, refl, ◌∙◌}
+use mathlib.Core.Path.{◌≡◌}
 use Prim.Native.Nat.{ℕ, ◌≤◌, ◌<◌}
-use native.Mathlib.Omega.{arith}
-use borrow.Author.Rules.{rules}
 use lib.ListN.{length, get_or}
 use Rattle.spec.specs.Store.{mark_at}
 use Rattle.laws.specs.Unknowns.{Spread}
 use Rattle.store_spread.specs.Places.{Room}
 use Rattle.store_spread.specs.Rows.{EndsAt, new_graph, new_counts}
-use Rattle.store_spread.proofs.Spreading.{given_size, given-ends, given_room, given_none, given-all}
 use Rattle.store_spread.proofs.legal.spread.Given as goal
 
 abbrev pub invariant-loop-q : goal.invariant-loop-q

@@ -1,10 +1,7 @@
 -- `store_spread::legal::width` meets its contract: the unknowns of the nodes passed are summed. Assumes nothing.
 use mathlib.Core.Path.{◌≡◌, sym}
-use Prim.Native.Nat.{◌-◌, ◌≤◌}
 use native.Mathlib.Numerals.{add-one}
 use native.Mathlib.Omega.{arith}
-use Rattle.spec.specs.Unknowns.{counts_in}
-use Rattle.store_spread.specs.Rows.{offset}
 use Rattle.store_spread.proofs.Rows.{offset_none, offset_next, offset_most}
 use Rattle.store_spread.proofs.legal.width.Goals as goal
 

@@ -1,6 +1,5 @@
 -- `store_unknowns::legal::mark` meets its contract. Assumes nothing.
 use mathlib.Core.Path.{refl}
-use borrow.Author.Rules.{rules}
 use Rattle.store_unknowns.proofs.Stores.{given_again}
 use Rattle.store_unknowns.proofs.legal.mark.Goals as goal
 

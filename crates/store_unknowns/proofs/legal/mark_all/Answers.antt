@@ -1,5 +1,4 @@
 -- `store_unknowns::legal::mark_all` meets its contract. Assumes nothing.
-use borrow.Author.Rules.{rules}
 use Rattle.store_unknowns.proofs.Stores.{given_again}
 use Rattle.store_unknowns.proofs.legal.mark_all.Goals as goal
 

@@ -1,7 +1,6 @@
 -- `store_unknowns::legal::mark_both` meets its contract. Assumes nothing.
 use Prim.Native.Nat.{◌-◌}
 use native.Mathlib.Omega.{arith}
-use borrow.Author.Rules.{rules}
 use lib.ListN.{length}
 use Rattle.spec.specs.Store.{mark_byte_count}
 use Rattle.store_eliminate.specs.Walk.{new_graph}

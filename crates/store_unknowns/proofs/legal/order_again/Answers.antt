@@ -1,5 +1,4 @@
 -- `store_unknowns::legal::order_again` meets its contract. Assumes nothing.
-use borrow.Author.Rules.{rules}
 use Rattle.graph_envelope.proofs.Lent.{length-order_of}
 use Rattle.store_unknowns.proofs.Stores.{order_made}
 use Rattle.store_unknowns.proofs.legal.order_again.Goals as goal

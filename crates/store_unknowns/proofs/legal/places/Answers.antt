@@ -1,6 +1,5 @@
 -- `store_unknowns::legal::places` meets its contract. Assumes nothing.
 use mathlib.Core.Path.{ap, ◌∙◌}
-use borrow.Author.Rules.{rules}
 use Rattle.graph_envelope.specs.Aheads.{aheads}
 use Rattle.store_unknowns.proofs.Stores.{aheads_asked, aheads_size, order_asked}
 use Rattle.store_unknowns.proofs.legal.places.Goals as goal

@@ -1,13 +1,9 @@
 -- `graph_envelope::legal::unknowns::add_up` meets its contract: the words passed are sums, the others still nodes. Assumes nothing.
-use Prim.Native.Nat.{ℕ, ◌-◌, ◌*◌, ◌≤◌}
-use mathlib.Core.Path.{◌≡◌, refl, sym, ap, ◌∙◌}
-use native.Mathlib.Omega.{arith}
-use borrow.Author.Rules.{rules}
-use lib.ListN.{length, get_or}
-use Rattle.spec.specs.Graph.{of_node}
+use Prim.Native.Nat.{◌-◌, ◌≤◌}
+use mathlib.Core.Path.{◌≡◌}
+use lib.ListN.{length}
 use Rattle.laws.specs.Unknowns.{ahead}
 use Rattle.graph_envelope.specs.Aheads.{Made}
-use Rattle.graph_envelope.proofs.Ahead.{made_none, made_more, listed_most, ahead_most, ahead_none, ahead_more, aheads_made}
 use Rattle.graph_envelope.proofs.legal.unknowns.add_up.Given as goal
 
 abbrev pub invariant-loop-i : goal.invariant-loop-i

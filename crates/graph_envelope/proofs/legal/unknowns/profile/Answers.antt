@@ -1,16 +1,13 @@
 -- `graph_envelope::legal::unknowns::profile` meets its contract: the shares of the nodes passed are summed. Assumes nothing.
-use Prim.Native.Nat.{ℕ, ◌+◌, ◌-◌, ◌*◌, ◌≤◌}
+use Prim.Native.Nat.{◌+◌, ◌≤◌}
 use mathlib.Core.Path.{◌≡◌, refl, ap, ◌∙◌}
-use mathlib.Core.List.{List}
 use native.Mathlib.Omega.{arith}
-use lib.ListN.{length}
-use Rattle.spec.specs.Graph.{Graph, size_of, graph_of}
+use Rattle.spec.specs.Graph.{size_of, graph_of}
 use Rattle.laws.specs.Legal.{Node}
 use Rattle.laws.proofs.Numberings.{numbering_length}
 use Rattle.graph_envelope.proofs.Folds.{sum_more}
 use Rattle.graph_envelope.proofs.InUnknowns.{span_of, shares, span_most, profile_unknowns}
 use Rattle.graph_envelope.proofs.legal.unknowns.profile.Goals as goal
-use Rattle.graph_envelope.proofs.legal.unknowns.profile.Invariants.{Summed}
 
 pub loop-p-init : goal.loop-p-init
 loop-p-init c = record { inside = omega arith; nodes = numbering_length _ _ c.requires.numbering_value; small = omega arith; sum_is = refl }

@@ -1,14 +1,10 @@
 -- `graph_envelope::legal::unknowns::profile` meets its contract: the shares of the nodes passed are summed. Assumes nothing.
-use Prim.Native.Nat.{ℕ, ◌+◌, ◌-◌, ◌*◌, ◌≤◌}
-use mathlib.Core.Path.{◌≡◌, refl, ap, ◌∙◌}
+use Prim.Native.Nat.{ℕ, ◌-◌, ◌*◌, ◌≤◌}
+use mathlib.Core.Path.{◌≡◌}
 use mathlib.Core.List.{List}
-use native.Mathlib.Omega.{arith}
 use lib.ListN.{length}
 use Rattle.spec.specs.Graph.{Graph, size_of, graph_of}
-use Rattle.laws.specs.Legal.{Node}
-use Rattle.laws.proofs.Numberings.{numbering_length}
-use Rattle.graph_envelope.proofs.Folds.{sum_more}
-use Rattle.graph_envelope.proofs.InUnknowns.{span_of, shares, span_most, profile_unknowns}
+use Rattle.graph_envelope.proofs.InUnknowns.{shares}
 use Rattle.graph_envelope.proofs.legal.unknowns.profile.Given as goal
 
 -- after p nodes of the n: the sum of their shares

@@ -1,9 +1,8 @@
 -- `graph_envelope::legal::unknowns::share` meets its contract. Assumes nothing.
-use mathlib.Core.Path.{◌≡◌, sym, ap}
-use Prim.Native.Nat.{ℕ, ◌+◌, ◌-◌, ◌*◌, ◌/◌, ◌≤◌}
+use mathlib.Core.Path.{sym, ap}
+use Prim.Native.Nat.{ℕ, ◌+◌, ◌-◌, ◌*◌, ◌≤◌}
 use native.Mathlib.Nat.{mul-le-mul}
 use native.Mathlib.Omega.{arith}
-use Rattle.laws.specs.Unknowns.{triangle}
 use Rattle.laws.proofs.UnknownMeasures.{triangle_is}
 use Rattle.graph_envelope.proofs.legal.unknowns.share.Goals as goal
 

@@ -14,7 +14,7 @@ use Rattle.graph_envelope.proofs.legal.unknowns.share_of.Goals as goal
 pub number-c-requires : goal.number-c-requires
 number-c-requires c =
     let fit = c.requires.counts_value in
-        omega (arith, counts_size _ _ fit, c.requires.node.low, c.requires.node.high)
+    omega (arith, counts_size _ _ fit, c.requires.node.low, c.requires.node.high)
 
 pub width-requires : goal.width-requires
 width-requires c =

@@ -1,10 +1,9 @@
 -- `graph_envelope::legal::unknowns::width` meets its contract. Assumes nothing.
-use mathlib.Core.Path.{◌≡◌, ap, ap₂, ◌∙◌}
+use mathlib.Core.Path.{ap, ap₂, ◌∙◌}
 use Prim.Native.Nat.{◌-◌, ◌≤◌}
 use native.Mathlib.Omega.{arith}
-use borrow.Author.Rules.{rules}
 use lib.ListN.{length}
-use Rattle.spec.specs.Graph.{size_of, of_node}
+use Rattle.spec.specs.Graph.{of_node}
 use Rattle.laws.proofs.Numberings.{numbering_length}
 use Rattle.laws.proofs.Renumber.{number_node}
 use Rattle.graph_envelope.proofs.Envelope.{first_low, first_most}

@@ -1,8 +1,6 @@
 -- `numbering_order::legal::rooted::befores` meets its contract. The invariant: the levels still to come number as from level 2 on. Assumes nothing.
 use Prim.Native.Nat.{◌-◌}
-use native.Mathlib.Omega.{arith}
-use Rattle.numbering_order.proofs.Walk.{walk_open, walk_far}
-use Rattle.numbering_order.proofs.Rooted.{Rooting, rooting_begin, rooting_inside, rooting_step, rooting_done}
+use Rattle.numbering_order.proofs.Rooted.{Rooting}
 use Rattle.numbering_order.proofs.legal.rooted.befores.Given as goal
 
 abbrev pub invariant-loop-i : goal.invariant-loop-i

@@ -1,11 +1,8 @@
 -- `store_marks::legal::counting::count_bytes` meets its contract: the places of the bytes passed are counted. Assumes nothing.
-use Prim.Native.Nat.{ℕ, ◌+◌, ◌-◌, ◌≤◌}
-use mathlib.Core.Path.{◌≡◌, sym, ap, ap₂, ◌∙◌}
-use native.Mathlib.Omega.{arith}
-use lib.Count as Count
-use lib.ListN.{length, get_or}
+use Prim.Native.Nat.{◌-◌, ◌≤◌}
+use mathlib.Core.Path.{◌≡◌}
+use lib.ListN.{length}
 use Rattle.store_marks.specs.Marks.{ones_in}
-use Rattle.store_marks.proofs.Words.{in_next, in_most, in_none, one_byte}
 use Rattle.store_marks.proofs.legal.counting.count_bytes.Given as goal
 
 abbrev pub invariant-loop-i : goal.invariant-loop-i

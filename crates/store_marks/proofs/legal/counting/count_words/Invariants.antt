@@ -1,10 +1,7 @@
 -- `store_marks::legal::counting::count_words` meets its contract: the places of the bytes passed are counted. Assumes nothing.
-use Prim.Native.Nat.{◌+◌, ◌-◌, ◌%◌, ◌≤◌}
-use mathlib.Core.Path.{◌≡◌, refl, sym, ap, ap₂, ◌∙◌}
-use native.Mathlib.Omega.{arith}
-use lib.Count as Count
+use Prim.Native.Nat.{◌-◌, ◌%◌, ◌≤◌}
+use mathlib.Core.Path.{◌≡◌}
 use Rattle.store_marks.specs.Marks.{ones_in}
-use Rattle.store_marks.proofs.Words.{in_first, in_most, in_none, gathered-ones}
 use Rattle.store_marks.proofs.legal.counting.count_words.Given as goal
 
 abbrev pub invariant-loop-i : goal.invariant-loop-i

@@ -1,7 +1,6 @@
 -- `store_marks::legal::counting::eight` meets its contract: of the two halves the later stands above the earlier. Assumes nothing.
 use mathlib.Core.Path.{ap₂, ◌∙◌}
 use Prim.Native.Nat.{ℕ, ◌+◌, ◌*◌}
-use native.Mathlib.Omega.{arith}
 use Rattle.store_marks.proofs.Words.{gathered-append}
 use Rattle.store_marks.proofs.legal.counting.eight.Goals as goal
 

@@ -1,10 +1,7 @@
 -- `store_spread::legal::bits::copy` meets its contract: i marks are copied. Assumes nothing.
 use mathlib.Core.Path.{◌≡◌, refl}
-use Prim.Native.Nat.{◌-◌, ◌≤◌}
 use native.Mathlib.Omega.{arith}
 use borrow.Author.Rules.{rules}
-use lib.ListN.{length}
-use Rattle.store_spread.specs.Places.{Copied}
 use Rattle.store_spread.proofs.Places.{copied_none, copied_step, copied_ahead}
 use Rattle.store_spread.proofs.legal.bits.copy.Goals as goal
 

@@ -1,10 +1,7 @@
 -- `store_spread::legal::bits::fill` meets its contract: i places are marked. Assumes nothing.
 use mathlib.Core.Path.{◌≡◌, refl}
-use Prim.Native.Nat.{◌-◌, ◌≤◌}
 use native.Mathlib.Omega.{arith}
 use borrow.Author.Rules.{rules}
-use lib.ListN.{length}
-use Rattle.store_spread.specs.Places.{Filled}
 use Rattle.store_spread.proofs.Places.{filled_none, filled-step}
 use Rattle.store_spread.proofs.legal.bits.fill.Goals as goal
 

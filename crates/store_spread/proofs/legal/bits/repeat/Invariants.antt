@@ -1,11 +1,8 @@
 -- `store_spread::legal::bits::repeat` meets its contract: j rows stand, and t is where the next starts. Assumes nothing.
-use mathlib.Core.Path.{◌≡◌, refl}
+use mathlib.Core.Path.{◌≡◌}
 use Prim.Native.Nat.{◌-◌, ◌≤◌}
-use native.Mathlib.Omega.{arith}
-use borrow.Author.Rules.{rules}
 use lib.ListN.{length}
 use Rattle.store_spread.specs.Places.{row_start, Repeated}
-use Rattle.store_spread.proofs.Places.{row_before, row_first, row-second, repeated_one, repeated_step, repeated_ahead}
 use Rattle.store_spread.proofs.legal.bits.repeat.Given as goal
 
 abbrev pub invariant-loop-j : goal.invariant-loop-j

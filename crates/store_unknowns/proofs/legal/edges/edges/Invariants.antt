@@ -1,14 +1,10 @@
 -- `store_unknowns::legal::edges::edges` meets its contract: the pairs of the nodes passed are summed. Assumes nothing.
-use Prim.Native.Nat.{ℕ, ◌+◌, ◌-◌, ◌*◌, ◌≤◌}
-use mathlib.Core.Path.{◌≡◌, refl, ap, ◌∙◌}
+use Prim.Native.Nat.{ℕ, ◌-◌, ◌*◌, ◌≤◌}
+use mathlib.Core.Path.{◌≡◌}
 use mathlib.Core.List.{List}
-use native.Mathlib.Omega.{arith}
 use lib.ListN.{length}
 use Rattle.spec.specs.Graph.{Graph, size_of, graph_of}
-use Rattle.laws.specs.Legal.{Node}
-use Rattle.laws.proofs.Numberings.{numbering_length}
-use Rattle.graph_envelope.proofs.Folds.{sum_more}
-use Rattle.store_unknowns.proofs.Edges.{edges_of, edges_to, node_most, edges_all}
+use Rattle.store_unknowns.proofs.Edges.{edges_to}
 use Rattle.store_unknowns.proofs.legal.edges.edges.Given as goal
 
 -- after p nodes of the n: the sum of their pairs

@@ -1,7 +1,6 @@
 -- `store_unknowns::legal::edges::if_lower` meets its contract. Assumes nothing.
 use mathlib.Core.Path.{◌∙◌}
 use native.Mathlib.Omega.{arith}
-use borrow.Author.Rules.{rules}
 use Rattle.store_unknowns.proofs.Edges.{lower_yes, lower_no}
 use Rattle.store_unknowns.proofs.legal.edges.if_lower.Goals as goal
 

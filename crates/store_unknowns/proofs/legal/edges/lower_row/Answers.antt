@@ -1,10 +1,8 @@
 -- `store_unknowns::legal::edges::lower_row` meets its contract: the sum so far, with what is to come, is the whole. Assumes nothing.
-use Prim.Native.Nat.{ℕ, ◌+◌, ◌-◌, ◌≤◌}
+use Prim.Native.Nat.{ℕ, ◌+◌}
 use mathlib.Core.Path.{◌≡◌, ap, ◌∙◌}
 use native.Mathlib.Omega.{arith}
-use borrow.Author.Rules.{rules}
-use lib.ListN.{length, drop, get_or}
-use Rattle.basis.specs.Lists.{sum}
+use lib.ListN.{drop, get_or}
 use Rattle.store_unknowns.specs.Edges.{lower, lowers}
 use Rattle.store_unknowns.proofs.Edges.{sum_left, sum_done}
 use Rattle.store_unknowns.proofs.legal.edges.lower_row.Goals as goal

@@ -1,12 +1,8 @@
 -- `store_unknowns::legal::edges::lower_row` meets its contract: the sum so far, with what is to come, is the whole. Assumes nothing.
-use Prim.Native.Nat.{ℕ, ◌+◌, ◌-◌, ◌≤◌}
-use mathlib.Core.Path.{◌≡◌, ap, ◌∙◌}
-use native.Mathlib.Omega.{arith}
-use borrow.Author.Rules.{rules}
-use lib.ListN.{length, drop, get_or}
-use Rattle.basis.specs.Lists.{sum}
-use Rattle.store_unknowns.specs.Edges.{lower, lowers}
-use Rattle.store_unknowns.proofs.Edges.{sum_left, sum_done}
+use Prim.Native.Nat.{◌+◌, ◌-◌, ◌≤◌}
+use mathlib.Core.Path.{◌≡◌}
+use lib.ListN.{length, drop}
+use Rattle.store_unknowns.specs.Edges.{lowers}
 use Rattle.store_unknowns.proofs.legal.edges.lower_row.Given as goal
 
 abbrev pub invariant-loop-j : goal.invariant-loop-j
