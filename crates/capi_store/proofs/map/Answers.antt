@@ -1,0 +1,17 @@
+-- `capi_store::map` meets its contract: the call is `store_map::store_map`. Assumes nothing.
+use mathlib.Core.Path.{refl, ap, ◌∙◌}
+use Prim.Native.Nat.{ℕ}
+use borrow.Author.Rules.{rules}
+use borrow.Author.Tests.{lt-ltb, le-ltb}
+use Rattle.spec.specs.Refusal.{◌or_else◌}
+use Rattle.capi_figures.specs.Figures.{answer_c, lent_c, figures_c}
+use Rattle.capi_store.proofs.map.Goals as goal
+
+-- ---- the two ends
+pub returns-then-figures-lt2 : goal.returns-then-figures-lt2
+unfolding answer_c figures_c lent_c
+returns-then-figures-lt2 c = rw (lt-ltb _ 2 c.if-figures-lt2.true) (record { value = c.or_five.ensures ∙ ap (λ (x : ℕ). x or_else 5) c.lists_refusal.ensures; figures_value = refl; scratch_value = refl; first_value = refl; place_value = refl })
+
+pub returns : goal.returns
+unfolding answer_c figures_c lent_c
+returns c = rw (le-ltb _ 2 c.if-figures-lt2.false, ← c.store_map.ensures.result_value) (record { value = c.put_map.ensures.value; figures_value = c.put_map.ensures.list_value; scratch_value = c.store_map.ensures.scratch_value; first_value = c.store_map.ensures.first_value; place_value = c.store_map.ensures.place_value })
