@@ -23,5 +23,7 @@ pub extern "C" fn wagonepoch_reverse_cuthill_mckee(
     ensures passes_value { passes.new ≡ lent_c 7 figures.old passes.old (cuthill_passes starts.now neighbours.now counts.now numbers.old levels.old passes.old scratch.old) }
     ensures scratch_value { scratch.new ≡ lent_c 7 figures.old scratch.old (cuthill_scratch starts.now neighbours.now counts.now numbers.old levels.old passes.old scratch.old) }
 {
-    capi::calls_cuthill::wagonepoch_reverse_cuthill_mckee(starts, neighbours, counts, numbers, levels, passes, scratch, figures)
+    capi::calls_cuthill::wagonepoch_reverse_cuthill_mckee(
+        starts, neighbours, counts, numbers, levels, passes, scratch, figures,
+    )
 }

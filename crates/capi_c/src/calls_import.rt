@@ -20,5 +20,7 @@ pub extern "C" fn wagonepoch_import_numbering(
     ensures numbers_value { numbers.new ≡ import_numbers starts.now neighbours.now counts.now pairs.now (sent_c bandwidth profile front) numbers.old scratch.old }
     ensures scratch_value { scratch.new ≡ import_scratch starts.now neighbours.now counts.now pairs.now (sent_c bandwidth profile front) numbers.old scratch.old }
 {
-    capi::calls_import::wagonepoch_import_numbering(starts, neighbours, counts, pairs, bandwidth, profile, front, numbers, scratch)
+    capi::calls_import::wagonepoch_import_numbering(
+        starts, neighbours, counts, pairs, bandwidth, profile, front, numbers, scratch,
+    )
 }

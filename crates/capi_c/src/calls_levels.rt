@@ -61,5 +61,7 @@ pub extern "C" fn wagonepoch_combined_levels(
     ensures levels_value { levels.new ≡ lent_c 2 figures.old levels.old (combined_levels starts.now neighbours.now node levels.old scratch.old) }
     ensures scratch_value { scratch.new ≡ lent_c 2 figures.old scratch.old (combined_scratch starts.now neighbours.now node levels.old scratch.old) }
 {
-    capi::calls_levels::wagonepoch_combined_levels(starts, neighbours, node, levels, scratch, figures)
+    capi::calls_levels::wagonepoch_combined_levels(
+        starts, neighbours, node, levels, scratch, figures,
+    )
 }

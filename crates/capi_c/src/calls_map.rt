@@ -22,5 +22,7 @@ pub extern "C" fn wagonepoch_store_map(
     ensures first_value { first.new ≡ lent_c 2 figures.old first.old (store_map_first starts.now neighbours.now counts.now numbering.now scratch.old first.old place.old) }
     ensures place_value { place.new ≡ lent_c 2 figures.old place.old (store_map_place starts.now neighbours.now counts.now numbering.now scratch.old first.old place.old) }
 {
-    capi::calls_map::wagonepoch_store_map(starts, neighbours, counts, numbering, scratch, first, place, figures)
+    capi::calls_map::wagonepoch_store_map(
+        starts, neighbours, counts, numbering, scratch, first, place, figures,
+    )
 }

@@ -18,7 +18,9 @@ pub extern "C" fn wagonepoch_measures(
     ensures figures_value { figures.new ≡ figures_c 3 figures.old measures_list (measures_answer starts.now neighbours.now counts.now numbering.now scratch.old) }
     ensures scratch_value { scratch.new ≡ lent_c 3 figures.old scratch.old (measures_scratch starts.now neighbours.now counts.now numbering.now scratch.old) }
 {
-    capi::calls_numbering::wagonepoch_measures(starts, neighbours, counts, numbering, scratch, figures)
+    capi::calls_numbering::wagonepoch_measures(
+        starts, neighbours, counts, numbering, scratch, figures,
+    )
 }
 
 // The report of a part. Figures: v and u as now named, k, width, passes, direction.
@@ -35,7 +37,9 @@ pub extern "C" fn wagonepoch_part_report(
     ensures figures_value { figures.new ≡ figures_c 6 figures.old report_list (report_answer starts.now neighbours.now counts.now node scratch.old) }
     ensures scratch_value { scratch.new ≡ lent_c 6 figures.old scratch.old (report_scratch starts.now neighbours.now counts.now node scratch.old) }
 {
-    capi::calls_numbering::wagonepoch_part_report(starts, neighbours, counts, node, scratch, figures)
+    capi::calls_numbering::wagonepoch_part_report(
+        starts, neighbours, counts, node, scratch, figures,
+    )
 }
 
 // The whole run. Figures: nodes, parts, bandwidth, profile, front, levels, width.
@@ -57,5 +61,7 @@ pub extern "C" fn wagonepoch_run(
     ensures passes_value { passes.new ≡ lent_c 7 figures.old passes.old (run_passes starts.now neighbours.now counts.now numbers.old levels.old passes.old scratch.old) }
     ensures scratch_value { scratch.new ≡ lent_c 7 figures.old scratch.old (run_scratch starts.now neighbours.now counts.now numbers.old levels.old passes.old scratch.old) }
 {
-    capi::calls_numbering::wagonepoch_run(starts, neighbours, counts, numbers, levels, passes, scratch, figures)
+    capi::calls_numbering::wagonepoch_run(
+        starts, neighbours, counts, numbers, levels, passes, scratch, figures,
+    )
 }

@@ -20,5 +20,7 @@ pub extern "C" fn wagonepoch_eliminate(
     ensures scratch_value { scratch.new ≡ lent_c 2 figures.old scratch.old (elimination_scratch starts.now neighbours.now counts.now numbering.now scratch.old bytes.old) }
     ensures bytes_value { bytes.new ≡ lent_c 2 figures.old bytes.old (elimination_bytes starts.now neighbours.now counts.now numbering.now scratch.old bytes.old) }
 {
-    capi::calls_store::wagonepoch_eliminate(starts, neighbours, counts, numbering, scratch, bytes, figures)
+    capi::calls_store::wagonepoch_eliminate(
+        starts, neighbours, counts, numbering, scratch, bytes, figures,
+    )
 }
