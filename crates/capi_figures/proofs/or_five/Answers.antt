@@ -1,7 +1,6 @@
 -- `capi_figures::or_five` meets its contract. Assumes nothing.
 use mathlib.Core.Path.{◌≡◌, refl}
 use Prim.Native.Nat.{ℕ, zero, suc}
-use borrow.Author.Rules.{rules}
 use Rattle.spec.specs.Refusal.{◌or_else◌}
 use Rattle.capi_figures.proofs.or_five.Goals as goal
 

@@ -1,6 +1,5 @@
 -- `store::eliminate_after` meets its contract: the elimination's answer by cases. Assumes nothing.
 use mathlib.Core.Path.{refl}
-use borrow.Author.Rules.{rules}
 use Rattle.store.proofs.Runs.{beside}
 use Rattle.store.proofs.eliminate_after.Goals as goal
 

@@ -2,7 +2,6 @@
 use mathlib.Core.Path.{sym, ap}
 use native.Mathlib.Omega.{arith}
 use lib.Seq.{length-take-le}
-use borrow.Author.Rules.{rules}
 use Rattle.spec.specs.Graph.{size_of}
 use Rattle.numbering.specs.Answer.{meaning}
 use Rattle.store.specs.Answer.{Room}

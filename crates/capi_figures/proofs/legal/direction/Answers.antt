@@ -1,6 +1,5 @@
 -- `capi_figures::legal::direction` meets its contract: 0 or 1, by its name. Assumes nothing.
 use mathlib.Core.Path.{sym, ap}
-use borrow.Author.Rules.{rules}
 use Rattle.numbering_report.specs.Answers.{direction_meaning}
 use Rattle.capi_figures.specs.Figures.{direction_number}
 use Rattle.capi_figures.proofs.legal.direction.Goals as goal

@@ -1,6 +1,5 @@
 -- `capi_figures::legal::put_combined` meets its contract: the answer is a refusal, or has its figures. Assumes nothing.
 use mathlib.Core.Path.{ap}
-use borrow.Author.Rules.{rules}
 use Rattle.levels.specs.Answers.{combined_meaning}
 use Rattle.capi_figures.specs.Figures.{combined_list}
 use Rattle.capi_figures.proofs.Told.{told_refused, told_accepted, next, end}

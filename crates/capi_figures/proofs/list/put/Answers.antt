@@ -1,16 +1,13 @@
 -- `capi_figures::list::put` meets its contract: the figures passed stand in the list, and behind them it is as it was. Assumes nothing.
-use mathlib.Core.Path.{◌≡◌, refl}
-use mathlib.Core.List.{◌++◌}
-use Prim.Native.Nat.{◌-◌, ◌≤◌}
+use mathlib.Core.Path.{refl}
 use native.Mathlib.Omega.{arith}
-use lib.ListN.{length, take, drop, length-set}
+use lib.ListN.{length-set}
 use Rattle.levels.proofs.Copying.{copied_next, copied_all}
 use Rattle.capi_figures.proofs.list.put.Goals as goal
 
 pub loop-i-preserved : goal.loop-i-preserved
 loop-i-preserved c =
-    let i = c.loop-i.i in
-    (
+    let i = c.loop-i.i in (
       omega arith,
       simp length-set (omega arith),
       copied_next c.args.figures.now c.args.list.now i (omega arith) (omega (arith, c.requires)) c.loop-i.invariant.2,

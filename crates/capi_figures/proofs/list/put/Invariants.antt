@@ -1,10 +1,8 @@
 -- `capi_figures::list::put` meets its contract: the figures passed stand in the list, and behind them it is as it was. Assumes nothing.
-use mathlib.Core.Path.{◌≡◌, refl}
+use mathlib.Core.Path.{◌≡◌}
 use mathlib.Core.List.{◌++◌}
 use Prim.Native.Nat.{◌-◌, ◌≤◌}
-use native.Mathlib.Omega.{arith}
-use lib.ListN.{length, take, drop, length-set}
-use Rattle.levels.proofs.Copying.{copied_next, copied_all}
+use lib.ListN.{length, take, drop}
 use Rattle.capi_figures.proofs.list.put.Given as goal
 
 abbrev pub invariant-loop-i : goal.invariant-loop-i

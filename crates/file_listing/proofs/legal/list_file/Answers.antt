@@ -1,11 +1,9 @@
 -- `file_listing::legal::list_file` meets its contract: the file is read, and refused or renumbered. Assumes nothing.
 use mathlib.Core.Path.{◌≡◌, sym, ap, ◌∙◌}
-use mathlib.Core.List.{List}
-use Prim.Native.Nat.{ℕ, ◌+◌, ◌≤◌}
+use Prim.Native.Nat.{◌+◌, ◌≤◌}
 use native.Mathlib.Omega.{arith}
 use lib.ListN.{length, take}
 use lib.Seq.{length-take-le}
-use borrow.Author.Rules.{rules}
 use Rattle.spec.specs.Mesh.{entry_count, start_list, neighbour_list}
 use Rattle.spec.specs.File.{file_counts, file_graph, file_refusal}
 use Rattle.laws.proofs.Lent.{outcome_accepted, outcome_refused}
@@ -18,7 +16,7 @@ use Rattle.file_listing.proofs.legal.list_file.Goals as goal
 pub returns-in-Refused : goal.returns-in-Refused
 returns-in-Refused c =
     let F = (c.args.file.now) in
-        let q = outcome_refused (file_refusal F) c.in-Refused.number (entry_count (file_graph F)) (sym c.read.ensures.result_value ∙ ap meaning c.in-Refused.is) in
+    let q = outcome_refused (file_refusal F) c.in-Refused.number (entry_count (file_graph F)) (sym c.read.ensures.result_value ∙ ap meaning c.in-Refused.is) in
     let W = line_written F q.0 q.1 c.requires.text_room.output_fits c.write_refusal.ensures.value c.write_refusal.ensures.out_value in
     record { value = W.bytes_are; output_value = W.output_is; counts_value = c.read.ensures.counts_value }
 

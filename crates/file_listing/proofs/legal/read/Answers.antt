@@ -1,9 +1,7 @@
 -- `file_listing::legal::read` meets its contract: refused by the header, by the counts, or as the mesh is. Assumes nothing.
 use mathlib.Core.Path.{◌≡◌, sym, ◌∙◌}
-use mathlib.Core.List.{List}
-use Prim.Native.Nat.{ℕ, ◌≤◌}
+use Prim.Native.Nat.{◌≤◌}
 use native.Mathlib.Omega.{arith}
-use borrow.Author.Rules.{rules}
 use Rattle.spec.specs.Lent.{outcome, filled}
 use Rattle.spec.specs.Mesh.{entry_count, start_list, neighbour_list}
 use Rattle.spec.specs.File.{file_graph, file_refusal, header_refusal, counts_refusal}

@@ -1,5 +1,4 @@
 -- `file_reading::header::has_mark` meets its contract. Assumes nothing.
-use borrow.Author.Rules.{rules}
 use borrow.Author.Tests.{eq-eqb, ne_eqb}
 use lib.ListN.{get_or}
 use Rattle.spec.specs.File.{has_mark}

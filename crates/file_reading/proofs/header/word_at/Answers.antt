@@ -1,7 +1,6 @@
 -- `file_reading::header::word_at` meets its contract. Assumes nothing.
 use Prim.Native.Nat.{◌+◌}
 use native.Mathlib.Omega.{arith}
-use borrow.Author.Rules.{rules}
 use Rattle.file_reading.proofs.header.word_at.Goals as goal
 
 pub overflow_cast-low : goal.overflow_cast-low

@@ -3,7 +3,6 @@ use Prim.Native.Nat.{ℕ, ◌-◌}
 use mathlib.Core.Path.{◌≡◌, ap, ap₂, ◌∙◌}
 use mathlib.Core.List.{List}
 use native.Mathlib.Omega.{arith}
-use borrow.Author.Rules.{rules}
 use lib.ListN.{length, take, drop, length-drop}
 use Rattle.basis.specs.Lists.{overwrite}
 use Rattle.spec.specs.File.{body_words, count_words, body}
@@ -30,6 +29,9 @@ unfolding body
 returns c =
     let all : c.size.result - c.count_words-from.result ≡ length (body (c.args.file.now)) = omega (arith, c.size.ensures, c.count_words-from.ensures, length-drop (count_words (c.args.file.now)) (body_words (c.args.file.now))) in
     let ws = body_words (c.args.file.now) in
-    let old = c.args.list.now in record { value = all; list_value = c.copy.ensures
+    let old = c.args.list.now in record {
+      value = all;
+      list_value = c.copy.ensures
           ∙ ap₂ (λ (m k : ℕ). overwrite (take (m - k) (drop k ws)) old) c.size.ensures c.count_words-from.ensures
-          ∙ ap (λ (l : List ℕ). overwrite l old) (tail_part ws (count_words (c.args.file.now))) }
+          ∙ ap (λ (l : List ℕ). overwrite l old) (tail_part ws (count_words (c.args.file.now)));
+    }

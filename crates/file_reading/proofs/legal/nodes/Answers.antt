@@ -1,7 +1,6 @@
 -- `file_reading::legal::nodes` meets its contract. Assumes nothing.
 use mathlib.Core.Path.{sym, ◌∙◌}
 use native.Mathlib.Omega.{arith}
-use borrow.Author.Rules.{rules}
 use Rattle.file_reading.proofs.Bytes.{nodes_is}
 use Rattle.file_reading.proofs.Files.{header_good}
 use Rattle.file_reading.proofs.legal.nodes.Goals as goal

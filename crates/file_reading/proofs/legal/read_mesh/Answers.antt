@@ -3,7 +3,6 @@ use Prim.Native.Nat.{ℕ, ◌≤◌}
 use mathlib.Core.Path.{◌≡◌, refl, sym, ap, ap₂, ◌∙◌}
 use mathlib.Core.List.{List}
 use native.Mathlib.Omega.{arith}
-use borrow.Author.Rules.{rules}
 use lib.ListN.{length, take, drop}
 use lib.Seq.{length-take-le, take_at}
 use Rattle.spec.specs.Refusal.{refuse}
@@ -74,12 +73,18 @@ returns-in-Taken c =
     let g = file_graph W in
     let G = ap₂ graph_of_elements nodes part ∙ sym (words-graph W c.in-Taken.size told) in
     let passed = words_pass W c.in-Taken.size told ∙ ap (λ (h : Graph). refuse (refuses11 h) 11) (sym (words-graph W c.in-Taken.size told)) in
-    let e = sym passed in record { result_value = c.adjacency.ensures.result_value
+    let e = sym passed in record {
+      result_value = c.adjacency.ensures.result_value
           ∙ ap (λ (h : Graph). outcome (refuse (refuses11 h) 11) (entry_count h)) G
-          ∙ ap (λ (n : ℕ). outcome n (entry_count g)) e; list_value = c.read_elements-answer.ensures.list_value; starts_value = c.adjacency.ensures.starts_value
-              ∙ ap (λ (h : Graph). filled (refuse (refuses11 h) 11) (start_list h) c.args.starts.now) G
-              ∙ ap (λ (n : ℕ). filled n (start_list g) c.args.starts.now) e; neighbours_value = c.adjacency.ensures.neighbours_value
-                ∙ ap (λ (h : Graph). filled (refuse (refuses11 h) 11) (neighbour_list h) c.args.neighbours.now) G
-                ∙ ap (λ (n : ℕ). filled n (neighbour_list g) c.args.neighbours.now) e; scratch_value = c.adjacency.ensures.scratch_value
-                ∙ ap (λ (n : ℕ). zeroed n c.args.scratch.now) nodes
-                ∙ scratch_zeroed (body_refusal W) (refuses11 g) (file_nodes W) c.args.scratch.now passed }
+          ∙ ap (λ (n : ℕ). outcome n (entry_count g)) e;
+      list_value = c.read_elements-answer.ensures.list_value;
+      starts_value = c.adjacency.ensures.starts_value
+          ∙ ap (λ (h : Graph). filled (refuse (refuses11 h) 11) (start_list h) c.args.starts.now) G
+          ∙ ap (λ (n : ℕ). filled n (start_list g) c.args.starts.now) e;
+      neighbours_value = c.adjacency.ensures.neighbours_value
+          ∙ ap (λ (h : Graph). filled (refuse (refuses11 h) 11) (neighbour_list h) c.args.neighbours.now) G
+          ∙ ap (λ (n : ℕ). filled n (neighbour_list g) c.args.neighbours.now) e;
+      scratch_value = c.adjacency.ensures.scratch_value
+          ∙ ap (λ (n : ℕ). zeroed n c.args.scratch.now) nodes
+          ∙ scratch_zeroed (body_refusal W) (refuses11 g) (file_nodes W) c.args.scratch.now passed;
+    }

@@ -1,9 +1,7 @@
 -- `file_reading::words::copy` meets its contract: the first i words are copied. Assumes nothing.
 use Prim.Native.Nat.{◌-◌}
-use native.Mathlib.Omega.{arith}
 use Rattle.spec.specs.File.{body_words}
-use Rattle.file_reading.proofs.Bytes.{all_words}
-use Rattle.file_reading.proofs.Copies.{Copied, copied_begin, copied_step, copied_done}
+use Rattle.file_reading.proofs.Copies.{Copied}
 use Rattle.file_reading.proofs.words.copy.Given as goal
 
 abbrev pub invariant-loop-i : goal.invariant-loop-i

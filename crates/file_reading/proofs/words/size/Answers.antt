@@ -1,6 +1,5 @@
 -- `file_reading::words::size` meets its contract. Assumes nothing.
 use mathlib.Core.Path.{sym}
-use borrow.Author.Rules.{rules}
 use Rattle.file_reading.proofs.Bytes.{all_words}
 use Rattle.file_reading.proofs.words.size.Goals as goal
 

@@ -5,7 +5,6 @@ use Prim.Native.Nat.{ℕ, ◌≤◌}
 use native.Mathlib.Omega.{arith}
 use lib.ListN.{length, take, drop}
 use lib.Seq.{length-take-le}
-use borrow.Author.Rules.{rules}
 use Rattle.basis.specs.Lists.{overwrite}
 use Rattle.spec.specs.Graph.{size_of}
 use Rattle.spec.specs.Numbering.{part_results, run}
@@ -57,7 +56,7 @@ number_all-f-requires c =
     let few : size_of c.args.starts.now ≤ 4096 = (starts c.args.starts.now c.args.neighbours.now c.requires.neighbours_value).few in
     let part : (l : List ℕ) → 4096 ≤ length l → length (take (size_of c.args.starts.now) l) ≡ size_of c.args.starts.now = λ l h. front c.args.starts.now c.args.neighbours.now c.requires.neighbours_value l h in
     let ok = c.requires.counts_value in
-        let x = part c.args.numbers.now c.requires.max_nodes_in_bounds.1.numbers_fit in
+    let x = part c.args.numbers.now c.requires.max_nodes_in_bounds.1.numbers_fit in
     let l = part c.args.levels.now c.requires.max_nodes_in_bounds.1.levels-fit in
     let p = part c.args.passes.now c.requires.max_nodes_in_bounds.1.passes_fit in
     record { neighbours_value = c.requires.neighbours_value; counts_value = (ok, unknowns_total (size_of c.args.starts.now) c.args.counts.now ok c.unknowns-total.ensures); numbers_len = (x, l, p); starts_in_bounds = omega (arith, few, c.requires.max_nodes_in_bounds.0) }

@@ -1,7 +1,6 @@
 -- `file_writing::legal::put_last` meets its contract: four items and the line's end, each behind the one before. Assumes nothing.
 use mathlib.Core.List.{List}
 use Prim.Native.Nat.{ℕ}
-use borrow.Author.Rules.{rules}
 use lib.ListN.{drop}
 use Rattle.basis.specs.Lists.{join_all}
 use Rattle.spec.specs.Text.{ascii, newline}

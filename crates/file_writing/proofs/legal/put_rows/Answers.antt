@@ -1,9 +1,6 @@
 -- `file_writing::legal::put_rows` meets its contract: the first i rows are put. Assumes nothing.
-use Prim.Native.Nat.{◌-◌}
-use native.Mathlib.Omega.{arith}
-use lib.ListN.{length}
 use Rattle.file_writing.proofs.Puts.{put_length}
-use Rattle.file_writing.proofs.Rows.{Listing, listing_begin, listing_room, listing_step, listing_done}
+use Rattle.file_writing.proofs.Rows.{listing_begin, listing_room, listing_step, listing_done}
 use Rattle.file_writing.proofs.legal.put_rows.Goals as goal
 
 pub loop-i-init : goal.loop-i-init

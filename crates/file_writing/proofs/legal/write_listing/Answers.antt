@@ -1,7 +1,6 @@
 -- `file_writing::legal::write_listing` meets its contract: both halves of the first line, then the rows. Assumes nothing.
 use mathlib.Core.List.{List}
 use Prim.Native.Nat.{ℕ}
-use borrow.Author.Rules.{rules}
 use lib.ListN.{drop}
 use Rattle.file_writing.specs.Figures.{figures_of}
 use Rattle.file_writing.specs.Listed.{listed_texts, listed}

@@ -1,7 +1,6 @@
 -- `file_writing::legal::write_refusal` meets its contract: the label, the number and the line's end, where they have room. Assumes nothing.
 use Prim.Native.Nat.{◌≤◌}
 use native.Mathlib.Omega.{arith}
-use borrow.Author.Rules.{rules}
 use lib.ListN.{length}
 use Rattle.spec.specs.Text.{ascii, newline}
 use Rattle.spec.specs.File.{item, refused_line}

@@ -1,7 +1,7 @@
 -- `file_writing::text::put_number` meets its contract: the digits before the last one are put by a call of itself at a smaller number.
 -- Assumes nothing.
 use mathlib.Core.Path.{◌∙◌}
-use Prim.Native.Nat.{ℕ, ◌<◌}
+use Prim.Native.Nat.{ℕ}
 use native.Mathlib.Omega.{arith}
 use lib.ListN.{length-set}
 use Rattle.file_writing.proofs.Puts.{Begun, begun_one, begun_more, begun_room, begun_length, begun_done, front_room}
@@ -15,8 +15,8 @@ put_number-last-requires t c = (omega (arith, c.if-x-ge10.true), front_room c.ar
 begun : (t : ℕ) (c : Joined-x-ge10 t) → Begun c.args.x c.args.at c.if-x-ge10.last c.args.out.now c.if-x-ge10.out
 begun t c =
     elim c.if-x-ge10.branch [
-      then-x-ge10 w ↦ rw (w.out-is, w.last-is) (begun_more c.args.x (omega (arith, w.if-x-ge10.true)) w.put_number-last.ensures)
-    | else-x-ge10 w ↦ rw (w.out-is, w.last-is) (begun_one c.args.x c.args.at c.args.out.now (omega (arith, w.if-x-ge10.false)))
+      | then-x-ge10 w ↦ rw (w.out-is, w.last-is) (begun_more c.args.x (omega (arith, w.if-x-ge10.true)) w.put_number-last.ensures)
+      | else-x-ge10 w ↦ rw (w.out-is, w.last-is) (begun_one c.args.x c.args.at c.args.out.now (omega (arith, w.if-x-ge10.false)))
     ]
 
 pub bounds-out-last : goal.bounds-out-last

@@ -1,6 +1,6 @@
 -- `file_writing::text::digits` meets its contract: what is counted, and what is left to count. Assumes nothing.
 use native.Mathlib.Omega.{arith}
-use Rattle.file_writing.proofs.Decimals.{Counted, counted_begin, counted_step, counted_done}
+use Rattle.file_writing.proofs.Decimals.{counted_begin, counted_step, counted_done}
 use Rattle.file_writing.proofs.text.digits.Goals as goal
 
 pub loop-rest-init : goal.loop-rest-init

@@ -1,6 +1,5 @@
 -- `file_writing::text::digits` meets its contract: what is counted, and what is left to count. Assumes nothing.
-use native.Mathlib.Omega.{arith}
-use Rattle.file_writing.proofs.Decimals.{Counted, counted_begin, counted_step, counted_done}
+use Rattle.file_writing.proofs.Decimals.{Counted}
 use Rattle.file_writing.proofs.text.digits.Given as goal
 
 abbrev pub invariant-loop-rest : goal.invariant-loop-rest

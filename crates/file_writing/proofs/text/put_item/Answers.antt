@@ -1,5 +1,4 @@
 -- `file_writing::text::put_item` meets its contract: the label, then the number. Assumes nothing.
-use borrow.Author.Rules.{rules}
 use Rattle.file_writing.proofs.Puts.{put_then, room_front, room_then}
 use Rattle.spec.specs.Text.{decimal}
 use Rattle.file_writing.proofs.text.put_item.Goals as goal

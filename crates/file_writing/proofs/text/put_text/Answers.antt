@@ -1,8 +1,6 @@
 -- `file_writing::text::put_text` meets its contract: the first i bytes are put. Assumes nothing.
-use Prim.Native.Nat.{◌-◌}
 use native.Mathlib.Omega.{arith}
-use lib.ListN.{length}
-use Rattle.file_writing.proofs.Puts.{Copied, copied_begin, copied_step, copied_done, put_length}
+use Rattle.file_writing.proofs.Puts.{copied_begin, copied_step, copied_done, put_length}
 use Rattle.file_writing.proofs.text.put_text.Goals as goal
 
 -- src/text.rt:14:5

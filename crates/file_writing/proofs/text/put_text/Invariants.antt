@@ -1,8 +1,7 @@
 -- `file_writing::text::put_text` meets its contract: the first i bytes are put. Assumes nothing.
 use Prim.Native.Nat.{◌-◌}
-use native.Mathlib.Omega.{arith}
 use lib.ListN.{length}
-use Rattle.file_writing.proofs.Puts.{Copied, copied_begin, copied_step, copied_done, put_length}
+use Rattle.file_writing.proofs.Puts.{Copied}
 use Rattle.file_writing.proofs.text.put_text.Given as goal
 
 abbrev pub invariant-loop-i : goal.invariant-loop-i

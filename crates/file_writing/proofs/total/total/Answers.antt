@@ -1,8 +1,8 @@
 -- `file_writing::total::total` meets its contract: the first i words are summed. Assumes nothing.
-use Prim.Native.Nat.{◌-◌, ◌<◌}
+use Prim.Native.Nat.{◌<◌}
 use native.Mathlib.Omega.{arith}
-use lib.ListN.{length, get_or}
-use Rattle.file_writing.proofs.Totals.{Totalled, totalled_begin, totalled_step, totalled_done}
+use lib.ListN.{get_or}
+use Rattle.file_writing.proofs.Totals.{totalled_begin, totalled_step, totalled_done}
 use Rattle.file_writing.proofs.total.total.Goals as goal
 
 pub loop-i-init : goal.loop-i-init

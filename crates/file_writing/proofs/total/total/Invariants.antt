@@ -1,8 +1,7 @@
 -- `file_writing::total::total` meets its contract: the first i words are summed. Assumes nothing.
-use Prim.Native.Nat.{◌-◌, ◌<◌}
-use native.Mathlib.Omega.{arith}
-use lib.ListN.{length, get_or}
-use Rattle.file_writing.proofs.Totals.{Totalled, totalled_begin, totalled_step, totalled_done}
+use Prim.Native.Nat.{◌-◌}
+use lib.ListN.{length}
+use Rattle.file_writing.proofs.Totals.{Totalled}
 use Rattle.file_writing.proofs.total.total.Given as goal
 
 abbrev pub invariant-loop-i : goal.invariant-loop-i

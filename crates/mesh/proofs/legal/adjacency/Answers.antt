@@ -3,7 +3,6 @@ use Prim.Native.Nat.{ℕ, ◌≤◌}
 use mathlib.Core.Path.{◌≡◌, sym, ap, ap₂, subst, ◌∙◌}
 use mathlib.Core.List.{List}
 use native.Mathlib.Omega.{arith}
-use borrow.Author.Rules.{rules}
 use lib.ListN.{length, take, replicate}
 use lib.Seq.{length-take-le}
 use Rattle.basis.specs.Lists.{overwrite}
@@ -32,13 +31,16 @@ fill-entries-requires c =
     let decided : c.over.result ≡ refuses11 (graph_of_elements c.args.n c.args.elements.now) = c.over.ensures.value ∙ ap (λ (n : ℕ). refuses11 (graph_of_elements n c.args.elements.now)) size in
     let width : length c.over.new.lists ≡ c.args.n = c.over.auto.lists ∙ size in
     let W = c.args.elements.now in
-    let h = few_entries c.args.n W (sym decided ∙ c.if-over.false) in record { elements_value = ap (λ (n : ℕ). elements_refusal (length W) n W) width ∙ c.requires.elements_value; room = subst (λ (n : ℕ). Room (graph_of_elements n W) n c.over.new.starts c.over.new.neighbours) (sym width)
+    let h = few_entries c.args.n W (sym decided ∙ c.if-over.false) in record {
+      elements_value = ap (λ (n : ℕ). elements_refusal (length W) n W) width ∙ c.requires.elements_value;
+      room = subst (λ (n : ℕ). Room (graph_of_elements n W) n c.over.new.starts c.over.new.neighbours) (sym width)
           (record {
             few = c.requires.n_bound.0;
             rows = omega (arith, c.requires.n_bound.1, c.over.auto.starts);
             entries = omega (arith, h, c.requires.n_bound.2, c.over.auto.neighbours);
             small = h;
-          }) }
+          });
+    }
 
 pub returns : goal.returns
 returns c =
@@ -51,9 +53,14 @@ returns c =
     (e, omega (arith, e, h)) in
     let W = c.args.elements.now in
     let g = graph_of_elements c.args.n W in
-    let b = sym decided ∙ c.if-over.false in record { result_value = outcome-within (refuses11 g) (entry_count g) c.fill-entries.result b entries.0; starts_value = filled_within (refuses11 g) (start_list g) c.args.starts.now c.fill-entries.new.starts b
-            (c.fill-entries.ensures.starts_value ∙ ap₂ (λ (n : ℕ) (l : List ℕ). overwrite (start_list (graph_of_elements n W)) l) width c.over.ensures.starts_value); neighbours_value = filled_within (refuses11 g) (neighbour_list g) c.args.neighbours.now c.fill-entries.new.neighbours b
-              (c.fill-entries.ensures.neighbours_value ∙ ap₂ (λ (n : ℕ) (l : List ℕ). overwrite (neighbour_list (graph_of_elements n W)) l) width c.over.ensures.neighbours_value); scratch_value = front_zero c.args.n c.args.scratch.now c.fill-entries.new.lists c.requires.n_bound.3 (c.fill-entries.ensures.lists_value ∙ ap (λ (n : ℕ). replicate n 0) c.over.auto.lists) }
+    let b = sym decided ∙ c.if-over.false in record {
+      result_value = outcome-within (refuses11 g) (entry_count g) c.fill-entries.result b entries.0;
+      starts_value = filled_within (refuses11 g) (start_list g) c.args.starts.now c.fill-entries.new.starts b
+          (c.fill-entries.ensures.starts_value ∙ ap₂ (λ (n : ℕ) (l : List ℕ). overwrite (start_list (graph_of_elements n W)) l) width c.over.ensures.starts_value);
+      neighbours_value = filled_within (refuses11 g) (neighbour_list g) c.args.neighbours.now c.fill-entries.new.neighbours b
+          (c.fill-entries.ensures.neighbours_value ∙ ap₂ (λ (n : ℕ) (l : List ℕ). overwrite (neighbour_list (graph_of_elements n W)) l) width c.over.ensures.neighbours_value);
+      scratch_value = front_zero c.args.n c.args.scratch.now c.fill-entries.new.lists c.requires.n_bound.3 (c.fill-entries.ensures.lists_value ∙ ap (λ (n : ℕ). replicate n 0) c.over.auto.lists);
+    }
 
 pub slice_bounds-lists-end-2 : goal.slice_bounds-lists-end-2
 slice_bounds-lists-end-2 c =

@@ -1,12 +1,10 @@
 -- `mesh_gather::legal::add_element` meets its contract. Assumes nothing.
-use Prim.Native.Nat.{ℕ, suc, ◌+◌, ◌-◌, ◌≤◌, ◌<◌}
+use Prim.Native.Nat.{ℕ, suc, ◌+◌, ◌<◌}
 use mathlib.Core.Path.{◌≡◌, sym, ◌∙◌}
-use mathlib.Core.Logic.{⊎_elim}
 use native.Mathlib.Omega.{arith}
-use borrow.Author.Rules.{rules}
 use lib.ListN.{length, get_or}
 use lib.Dec.{eqb}
-use Rattle.mesh_gather.proofs.Growing.{Towards, towards_begin, towards_step, towards_skip, towards_done, nodes_from, node_next, node_past, node_over}
+use Rattle.mesh_gather.proofs.Growing.{towards_begin, towards_step, towards_skip, towards_done, node_next, node_past, node_over}
 use Rattle.mesh_gather.proofs.legal.add_element.Goals as goal
 use Rattle.mesh_gather.proofs.legal.add_element.Goals.{else-row-lt64, then-row-lt64}
 
@@ -23,8 +21,8 @@ loop-j-preserved c =
       omega arith,
       elim c.if-row-lt64.branch [ then-row-lt64 w ↦ rw w.sets-is (w.add_to.auto.sets ∙ c.loop-j.invariant.1) | else-row-lt64 w ↦ rw w.sets-is c.loop-j.invariant.1 ],
       elim c.if-row-lt64.branch [
-        then-row-lt64 w ↦ rw w.sets-is (towards_step c.loop-j.invariant.2 w.add_to.ensures (node_next c.args.base c.args.nodes.now c.loop-j.j c.row_of-row.result place h))
-      | else-row-lt64 w ↦ rw w.sets-is (towards_skip c.loop-j.invariant.2 (node_past c.args.base c.args.nodes.now c.loop-j.j c.row_of-row.result place h (omega (arith, w.if-row-lt64.false))))
+        | then-row-lt64 w ↦ rw w.sets-is (towards_step c.loop-j.invariant.2 w.add_to.ensures (node_next c.args.base c.args.nodes.now c.loop-j.j c.row_of-row.result place h))
+        | else-row-lt64 w ↦ rw w.sets-is (towards_skip c.loop-j.invariant.2 (node_past c.args.base c.args.nodes.now c.loop-j.j c.row_of-row.result place h (omega (arith, w.if-row-lt64.false))))
       ],
     )
 

@@ -1,12 +1,8 @@
 -- `mesh_gather::legal::add_element` meets its contract. Assumes nothing.
-use Prim.Native.Nat.{ℕ, suc, ◌+◌, ◌-◌, ◌≤◌, ◌<◌}
-use mathlib.Core.Path.{◌≡◌, sym, ◌∙◌}
-use mathlib.Core.Logic.{⊎_elim}
-use native.Mathlib.Omega.{arith}
-use borrow.Author.Rules.{rules}
-use lib.ListN.{length, get_or}
-use lib.Dec.{eqb}
-use Rattle.mesh_gather.proofs.Growing.{Towards, towards_begin, towards_step, towards_skip, towards_done, nodes_from, node_next, node_past, node_over}
+use Prim.Native.Nat.{◌-◌, ◌≤◌}
+use mathlib.Core.Path.{◌≡◌}
+use lib.ListN.{length}
+use Rattle.mesh_gather.proofs.Growing.{Towards, nodes_from}
 use Rattle.mesh_gather.proofs.legal.add_element.Given as goal
 
 abbrev pub invariant-loop-j : goal.invariant-loop-j

@@ -1,5 +1,5 @@
 -- `mesh_rows::legal::fill` meets its contract. Assumes nothing.
-use mathlib.Core.Path.{refl, ◌∙◌}
+use mathlib.Core.Path.{◌∙◌}
 use native.Mathlib.Omega.{arith}
 use lib.ListN.{length, set, length-set}
 use Rattle.laws.proofs.Lent.{zeroed-all}

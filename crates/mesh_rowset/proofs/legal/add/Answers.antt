@@ -2,10 +2,9 @@
 use Prim.Native.Nat.{ℕ, suc, ◌-◌, ◌/◌, ◌%◌, ◌≤◌, ◌<◌}
 use mathlib.Core.Path.{◌≡◌, sym, ◌∙◌}
 use native.Mathlib.Omega.{arith}
-use borrow.Author.Rules.{rules}
 use lib.ListN.{length, get_or}
 use Rattle.mesh_rowset.proofs.Bits.{bit_shifted}
-use Rattle.mesh_rowset.proofs.Sets.{Adding, adding_begin, adding_step, adding_done}
+use Rattle.mesh_rowset.proofs.Sets.{adding_begin, adding_step, adding_done}
 use Rattle.mesh_rowset.proofs.legal.add.Goals as goal
 
 pub loop-j-init : goal.loop-j-init

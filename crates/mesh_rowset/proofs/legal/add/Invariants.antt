@@ -1,11 +1,7 @@
 -- `mesh_rowset::legal::add` meets its contract. Assumes nothing.
-use Prim.Native.Nat.{ℕ, suc, ◌-◌, ◌/◌, ◌%◌, ◌≤◌, ◌<◌}
-use mathlib.Core.Path.{◌≡◌, sym, ◌∙◌}
-use native.Mathlib.Omega.{arith}
-use borrow.Author.Rules.{rules}
-use lib.ListN.{length, get_or}
-use Rattle.mesh_rowset.proofs.Bits.{bit_shifted}
-use Rattle.mesh_rowset.proofs.Sets.{Adding, adding_begin, adding_step, adding_done}
+use Prim.Native.Nat.{◌-◌, ◌≤◌}
+use lib.ListN.{length}
+use Rattle.mesh_rowset.proofs.Sets.{Adding}
 use Rattle.mesh_rowset.proofs.legal.add.Given as goal
 
 abbrev pub invariant-loop-j : goal.invariant-loop-j

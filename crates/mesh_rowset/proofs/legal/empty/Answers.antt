@@ -1,12 +1,11 @@
 -- `mesh_rowset::legal::empty` meets its contract. Assumes nothing.
-use Prim.Native.Nat.{ℕ, ◌+◌, ◌-◌, ◌≤◌, ◌<◌}
-use mathlib.Core.Path.{◌≡◌, refl, sym, subst, ◌∙◌}
+use Prim.Native.Nat.{ℕ, ◌+◌, ◌≤◌, ◌<◌}
+use mathlib.Core.Path.{refl, sym, subst, ◌∙◌}
 use native.Mathlib.Omega.{arith}
-use lib.ListN.{length}
 use lib.Count.{count_trailing_zeros}
 use lib.Pow.{shr_le}
 use Rattle.mesh_rowset.proofs.Bits.{Lowest, lowest}
-use Rattle.mesh_rowset.proofs.Sets.{Emptying, emptying_begin, emptying_list, emptying_end, emptying_bits, in_words, emptying_step}
+use Rattle.mesh_rowset.proofs.Sets.{emptying_begin, emptying_list, emptying_end, emptying_bits, in_words, emptying_step}
 use Rattle.mesh_rowset.proofs.legal.empty.Goals as goal
 
 lt_le : (a b c : ℕ) → a ≤ b → b < c → a < c
@@ -28,8 +27,7 @@ pub loop-rest-preserved : goal.loop-rest-preserved
 loop-rest-preserved c =
     let fits : c.args.mask < 18446744073709551616 = omega (arith, c.ranges.mask) in
     let low : Lowest c.loop-rest.rest (count_trailing_zeros 64 c.loop-rest.rest) = lowest 64 c.loop-rest.rest (omega (arith, c.loop-rest-test.true))
-    (lt_le c.loop-rest.rest c.args.mask 18446744073709551616 (subst (λ (x : ℕ). x ≤ c.args.mask) (sym c.loop-rest.invariant.1.left) (shr_le c.args.mask c.loop-rest.g)) fits) in
-    (
+    (lt_le c.loop-rest.rest c.args.mask 18446744073709551616 (subst (λ (x : ℕ). x ≤ c.args.mask) (sym c.loop-rest.invariant.1.left) (shr_le c.args.mask c.loop-rest.g)) fits) in (
       c.write_word-to.auto.list ∙ c.loop-rest.invariant.0,
       emptying_step c.args.bits.now c.args.mask c.args.p c.args.at c.args.list.now c.requires.covered c.loop-rest.g c.loop-rest.rest c.loop-rest.to c.loop-rest.bits c.loop-rest.list
           c.loop-rest.invariant.1 fits _ low c.write_word-to.result c.write_word-to.new.list c.write_word-to.ensures,
@@ -37,10 +35,14 @@ loop-rest-preserved c =
 
 pub returns : goal.returns
 returns c =
-    let z = c.loop-rest-test.false in record { value = emptying_end c.args.bits.now c.args.mask c.args.p c.args.at c.args.list.now c.requires.covered c.loop-rest.g c.loop-rest.rest c.loop-rest.to c.loop-rest.bits c.loop-rest.list
-          c.loop-rest.invariant.1 z; list_value = emptying_list c.args.bits.now c.args.mask c.args.p c.args.at c.args.list.now c.requires.covered c.loop-rest.g c.loop-rest.rest c.loop-rest.to c.loop-rest.bits c.loop-rest.list
-            c.loop-rest.invariant.1 z; empty = emptying_bits c.args.bits.now c.args.mask c.args.p c.args.at c.args.list.now c.requires.covered c.loop-rest.g c.loop-rest.rest c.loop-rest.to c.loop-rest.bits c.loop-rest.list
-            c.loop-rest.invariant.1 z }
+    let z = c.loop-rest-test.false in record {
+      value = emptying_end c.args.bits.now c.args.mask c.args.p c.args.at c.args.list.now c.requires.covered c.loop-rest.g c.loop-rest.rest c.loop-rest.to c.loop-rest.bits c.loop-rest.list
+          c.loop-rest.invariant.1 z;
+      list_value = emptying_list c.args.bits.now c.args.mask c.args.p c.args.at c.args.list.now c.requires.covered c.loop-rest.g c.loop-rest.rest c.loop-rest.to c.loop-rest.bits c.loop-rest.list
+          c.loop-rest.invariant.1 z;
+      empty = emptying_bits c.args.bits.now c.args.mask c.args.p c.args.at c.args.list.now c.requires.covered c.loop-rest.g c.loop-rest.rest c.loop-rest.to c.loop-rest.bits c.loop-rest.list
+          c.loop-rest.invariant.1 z;
+    }
 
 pub overflow_cast-z : goal.overflow_cast-z
 overflow_cast-z c =

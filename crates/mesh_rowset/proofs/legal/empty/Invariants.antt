@@ -1,12 +1,8 @@
 -- `mesh_rowset::legal::empty` meets its contract. Assumes nothing.
-use Prim.Native.Nat.{ℕ, ◌+◌, ◌-◌, ◌≤◌, ◌<◌}
-use mathlib.Core.Path.{◌≡◌, refl, sym, subst, ◌∙◌}
-use native.Mathlib.Omega.{arith}
+use Prim.Native.Nat.{◌-◌}
+use mathlib.Core.Path.{◌≡◌}
 use lib.ListN.{length}
-use lib.Count.{count_trailing_zeros}
-use lib.Pow.{shr_le}
-use Rattle.mesh_rowset.proofs.Bits.{Lowest, lowest}
-use Rattle.mesh_rowset.proofs.Sets.{Emptying, emptying_begin, emptying_list, emptying_end, emptying_bits, in_words, emptying_step}
+use Rattle.mesh_rowset.proofs.Sets.{Emptying}
 use Rattle.mesh_rowset.proofs.legal.empty.Given as goal
 
 abbrev pub invariant-loop-rest : goal.invariant-loop-rest

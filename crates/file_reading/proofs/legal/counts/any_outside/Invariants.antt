@@ -1,8 +1,7 @@
 -- `file_reading::legal::counts::any_outside` meets its contract: the words that are left are tested as all are. Assumes nothing.
 use Prim.Native.Nat.{◌-◌}
-use native.Mathlib.Omega.{arith}
 use Rattle.spec.specs.File.{body_words}
-use Rattle.file_reading.proofs.Passing.{Passing, passing_begin, passing_none, passing_many, passing_step, passing_done}
+use Rattle.file_reading.proofs.Passing.{Passing}
 use Rattle.file_reading.proofs.legal.counts.any_outside.Given as goal
 
 abbrev pub invariant-loop-i : goal.invariant-loop-i

@@ -1,6 +1,5 @@
 -- `file_reading::legal::counts::count_words` meets its contract. Assumes nothing.
 use mathlib.Core.Path.{sym, ◌∙◌}
-use borrow.Author.Rules.{rules}
 use Rattle.file_reading.proofs.FileCounts.{words-counted, words_none}
 use Rattle.file_reading.proofs.Files.{header_good}
 use Rattle.file_reading.proofs.legal.counts.count_words.Goals as goal

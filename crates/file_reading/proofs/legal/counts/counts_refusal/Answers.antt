@@ -1,9 +1,7 @@
 -- `file_reading::legal::counts::counts_refusal` meets its contract. Assumes nothing.
 use Prim.Native.Nat.{ℕ, ◌+◌, ◌*◌, ◌≤◌}
 use mathlib.Core.Path.{◌≡◌, sym, ap, ◌∙◌}
-use mathlib.Core.List.{List}
 use native.Mathlib.Omega.{arith}
-use borrow.Author.Rules.{rules}
 use lib.ListN.{length, take}
 use Rattle.basis.specs.Lists.{anyb}
 use Rattle.spec.specs.Graph.{outside}

@@ -1,7 +1,6 @@
 -- `file_reading::legal::counts::has_counts` meets its contract. Assumes nothing.
 use Prim.Native.Nat.{ℕ}
 use mathlib.Core.Path.{sym, ap, ◌∙◌}
-use borrow.Author.Rules.{rules}
 use lib.Dec.{eqb}
 use Rattle.spec.specs.File.{has_counts}
 use Rattle.file_reading.proofs.Bytes.{version_is}

@@ -1,10 +1,10 @@
 -- `file_reading::legal::counts::put_ones` meets its contract: the words passed are 1, the others as they were. Assumes nothing.
-use Prim.Native.Nat.{ℕ, ◌-◌, ◌≤◌}
+use Prim.Native.Nat.{ℕ}
 use mathlib.Core.List.{List, ◌++◌}
 use mathlib.Core.Path.{◌≡◌, refl, sym, ◌∙◌, ap}
 use native.Mathlib.Omega.{arith}
 use borrow.Author.Fill.{fill_more}
-use lib.ListN.{length, set, drop, length-set, length-replicate}
+use lib.ListN.{set, drop, length-set, length-replicate}
 use Rattle.spec.specs.Unknowns.{ones}
 use Rattle.file_reading.proofs.legal.counts.put_ones.Goals as goal
 

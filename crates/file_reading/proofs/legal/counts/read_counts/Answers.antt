@@ -1,7 +1,6 @@
 -- `file_reading::legal::counts::read_counts` meets its contract: refused, or written. Assumes nothing.
 use mathlib.Core.Path.{sym, ◌∙◌}
 use native.Mathlib.Omega.{arith}
-use borrow.Author.Rules.{rules}
 use Rattle.spec.specs.File.{file_counts, counts_refusal}
 use Rattle.laws.proofs.Lent.{filled_refused, filled_none}
 use Rattle.file_reading.proofs.legal.counts.read_counts.Goals as goal

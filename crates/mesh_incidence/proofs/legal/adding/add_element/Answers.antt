@@ -1,5 +1,5 @@
 -- `mesh_incidence::legal::adding::add_element` meets its contract. Assumes nothing.
-use Rattle.std.proofs.Common.{◌≡◌, ℕ, ◌+◌, ◌-◌, ◌<◌, ◌≤◌, List, length, get_or, take, drop, sym, ap, subst, arith, rules}
+use Rattle.std.proofs.Common.{◌≡◌, ℕ, ◌+◌, ◌-◌, ◌<◌, ◌≤◌, List, length, get_or, take, drop, sym, ap, subst, arith}
 use Rattle.basis.specs.Lists.{memb}
 use Rattle.spec.specs.Mesh.{node_count}
 use Rattle.mesh_rowset.specs.Set.{Added}

@@ -1,7 +1,7 @@
 -- `mesh_incidence::legal::adding::add_listed` meets its contract. Assumes nothing.
-use Rattle.std.proofs.Common.{ℕ, ◌+◌, ◌*◌, ◌<◌, ◌≤◌, length, sym, ◌∙◌, subst, arith, rules}
+use Rattle.std.proofs.Common.{ℕ, ◌+◌, ◌*◌, ◌<◌, ◌≤◌, length, sym, ◌∙◌, subst, arith}
 use Rattle.mesh_rowset.specs.Set.{Added}
-use Rattle.mesh_incidence.specs.Cells.{Sound, Linked, node_in}
+use Rattle.mesh_incidence.specs.Cells.{Sound, node_in}
 use Rattle.mesh_incidence.proofs.Passes.{Walking, walking_begin, walking_step, walking_done}
 use Rattle.mesh_incidence.proofs.legal.adding.add_listed.Goals as goal
 
@@ -20,8 +20,7 @@ add_element-mask-requires c =
 
 pub loop-cell-preserved : goal.loop-cell-preserved
 loop-cell-preserved c =
-    let within : let cell = c.loop-cell.cell in (1 ≤ cell) × (c.args.rows + 2 * cell + 1 < length c.args.lists.now) × (length c.args.lists.now ≤ 4096) = (omega (arith, c.loop-cell-test.true), omega (arith, c.loop-cell.invariant.0.cells.room, c.loop-cell.invariant.1.low), c.requires.bits_len.1) in
-    (
+    let within : let cell = c.loop-cell.cell in (1 ≤ cell) × (c.args.rows + 2 * cell + 1 < length c.args.lists.now) × (length c.args.lists.now ≤ 4096) = (omega (arith, c.loop-cell-test.true), omega (arith, c.loop-cell.invariant.0.cells.room, c.loop-cell.invariant.1.low), c.requires.bits_len.1) in (
       c.loop-cell.invariant.0,
       subst (λ (k : ℕ). Walking c.args.elements.now c.args.rows c.args.lists.now c.args.row c.args.bits.now c.loop-cell.invariant.0.free k c.add_element-mask.new.bits c.add_element-mask.result) (sym c.wide-cell-in-loop-cell.ensures)
           (walking_step c.args.elements.now c.args.rows c.args.lists.now c.loop-cell.invariant.0 c.args.row c.args.bits.now c.loop-cell.cell c.loop-cell.bits c.loop-cell.mask c.loop-cell.invariant.1 within.0 c.add_element-mask.new.bits c.add_element-mask.result

@@ -1,8 +1,6 @@
 -- `mesh_incidence::legal::adding::add_listed` meets its contract. Assumes nothing.
-use Rattle.std.proofs.Common.{ℕ, ◌+◌, ◌*◌, ◌<◌, ◌≤◌, length, sym, ◌∙◌, subst, arith, rules}
-use Rattle.mesh_rowset.specs.Set.{Added}
-use Rattle.mesh_incidence.specs.Cells.{Sound, Linked, node_in}
-use Rattle.mesh_incidence.proofs.Passes.{Walking, walking_begin, walking_step, walking_done}
+use Rattle.mesh_incidence.specs.Cells.{Linked}
+use Rattle.mesh_incidence.proofs.Passes.{Walking}
 use Rattle.mesh_incidence.proofs.legal.adding.add_listed.Given as goal
 
 abbrev pub invariant-loop-cell : goal.invariant-loop-cell

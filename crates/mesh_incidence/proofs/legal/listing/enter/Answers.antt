@@ -1,6 +1,6 @@
 -- `mesh_incidence::legal::listing::enter` meets its contract. Assumes nothing.
-use Rattle.std.proofs.Common.{◌≡◌, ℕ, suc, ◌+◌, ◌-◌, ◌<◌, ◌≤◌, eqb, length, get_or, refl, ◌∙◌, ⊎_elim, arith, rules}
-use Rattle.mesh_incidence.proofs.Passes.{Entering, entering_begin, entering_step, entering_past, entering_done}
+use Rattle.std.proofs.Common.{◌≡◌, ℕ, suc, ◌+◌, ◌<◌, ◌≤◌, eqb, length, get_or, refl, ◌∙◌, arith}
+use Rattle.mesh_incidence.proofs.Passes.{entering_begin, entering_step, entering_past, entering_done}
 use Rattle.mesh_incidence.proofs.legal.listing.enter.Goals as goal
 use Rattle.mesh_incidence.proofs.legal.listing.enter.Goals.{else-row-rows, then-row-rows+else-free-eq0}
 
@@ -22,9 +22,9 @@ loop-j-preserved c =
       omega arith,
       elim c.if-row-rows.branch [ then-row-rows+else-free-eq0 w ↦ rw w.lists-is (w.enter_row-free.auto.lists ∙ c.loop-j.invariant.1) | else-row-rows w ↦ rw w.lists-is c.loop-j.invariant.1 ],
       elim c.if-row-rows.branch [
-        then-row-rows+else-free-eq0 w ↦ rw (w.lists-is, w.free-is) (entering_step c.args.at c.args.base c.args.rows c.args.nodes.now c.args.lists.now c.args.cell c.loop-j.j c.loop-j.lists c.loop-j.free c.loop-j.invariant.2 h c.row_of-row.result place
-          w.enter_row-free.new.lists w.enter_row-free.result (w.enter_row-free.ensures w.if-free-eq0.false))
-      | else-row-rows w ↦ rw (w.lists-is, w.free-is) (entering_past c.args.at c.args.base c.args.rows c.args.nodes.now c.args.lists.now c.args.cell c.loop-j.j c.loop-j.lists c.loop-j.free c.loop-j.invariant.2 h c.row_of-row.result place w.if-row-rows.false)
+        | then-row-rows+else-free-eq0 w ↦ rw (w.lists-is, w.free-is) (entering_step c.args.at c.args.base c.args.rows c.args.nodes.now c.args.lists.now c.args.cell c.loop-j.j c.loop-j.lists c.loop-j.free c.loop-j.invariant.2 h c.row_of-row.result place
+            w.enter_row-free.new.lists w.enter_row-free.result (w.enter_row-free.ensures w.if-free-eq0.false))
+        | else-row-rows w ↦ rw (w.lists-is, w.free-is) (entering_past c.args.at c.args.base c.args.rows c.args.nodes.now c.args.lists.now c.args.cell c.loop-j.j c.loop-j.lists c.loop-j.free c.loop-j.invariant.2 h c.row_of-row.result place w.if-row-rows.false)
       ],
     )
 

@@ -1,6 +1,6 @@
 -- `mesh_incidence::legal::listing::enter` meets its contract. Assumes nothing.
-use Rattle.std.proofs.Common.{◌≡◌, ℕ, suc, ◌+◌, ◌-◌, ◌<◌, ◌≤◌, eqb, length, get_or, refl, ◌∙◌, ⊎_elim, arith, rules}
-use Rattle.mesh_incidence.proofs.Passes.{Entering, entering_begin, entering_step, entering_past, entering_done}
+use Rattle.std.proofs.Common.{◌≡◌, ◌-◌, ◌≤◌, length}
+use Rattle.mesh_incidence.proofs.Passes.{Entering}
 use Rattle.mesh_incidence.proofs.legal.listing.enter.Given as goal
 
 abbrev pub invariant-loop-j : goal.invariant-loop-j

@@ -1,5 +1,5 @@
 -- `mesh_incidence::legal::listing::list` meets its contract. Assumes nothing.
-use Rattle.std.proofs.Common.{◌≡◌, ℕ, suc, ◌+◌, ◌-◌, ◌≤◌, List, length, get_or, take, drop, sym, refl, ap, ◌∙◌, subst, arith, rules}
+use Rattle.std.proofs.Common.{◌≡◌, ℕ, suc, ◌+◌, ◌-◌, ◌≤◌, List, length, get_or, take, drop, sym, refl, ap, ◌∙◌, subst, arith}
 use Rattle.basis.specs.Lists.{memb}
 use Rattle.basis.proofs.Logic.{clash}
 use Rattle.spec.specs.Mesh.{node_count, elements_refusal}

@@ -1,11 +1,6 @@
 -- `mesh_incidence::legal::listing::list` meets its contract. Assumes nothing.
-use Rattle.std.proofs.Common.{◌≡◌, ℕ, suc, ◌+◌, ◌-◌, ◌≤◌, List, length, get_or, take, drop, sym, refl, ap, ◌∙◌, subst, arith, rules}
-use Rattle.basis.specs.Lists.{memb}
-use Rattle.basis.proofs.Logic.{clash}
-use Rattle.spec.specs.Mesh.{node_count, elements_refusal}
-use Rattle.mesh_incidence.specs.Cells.{Sound, Entered}
-use Rattle.laws.proofs.Lent.{zeroed-at}
-use Rattle.mesh_incidence.proofs.Passes.{sound_of, Listing, listing_begin, listing_step, listing_done}
+use Rattle.std.proofs.Common.{◌≡◌, ◌-◌, ◌≤◌, length}
+use Rattle.mesh_incidence.proofs.Passes.{Listing}
 use Rattle.mesh_incidence.proofs.legal.listing.list.Given as goal
 
 abbrev pub invariant-loop-at : goal.invariant-loop-at

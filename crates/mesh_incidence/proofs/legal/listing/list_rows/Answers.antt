@@ -1,5 +1,5 @@
 -- `mesh_incidence::legal::listing::list_rows` meets its contract. Assumes nothing.
-use Rattle.std.proofs.Common.{◌≡◌, ℕ, ◌≤◌, length, refl, ap, ◌∙◌, arith}
+use Rattle.std.proofs.Common.{ℕ, length, refl, ap, ◌∙◌, arith}
 use Rattle.spec.specs.Mesh.{elements_refusal}
 use Rattle.mesh_incidence.proofs.legal.listing.list_rows.Goals as goal
 

@@ -1,5 +1,5 @@
 -- `mesh_incidence::legal::listing::row_of` meets its contract. Assumes nothing.
-use Rattle.std.proofs.Common.{◌≡◌, ℕ, suc, ◌+◌, ◌%◌, ◌^◌, ◌<◌, min, eqb, sym, ap, ◌∙◌, arith, rules, eq-eqb, ne_eqb, eqb-true}
+use Rattle.std.proofs.Common.{◌≡◌, ℕ, suc, ◌+◌, ◌%◌, ◌^◌, ◌<◌, min, eqb, sym, ap, ◌∙◌, arith, eq-eqb, ne_eqb, eqb-true}
 use borrow.Author.Tests.{eqb-false}
 use Rattle.basis.proofs.Logic.{by_test}
 use Rattle.mesh_incidence.proofs.legal.listing.row_of.Goals as goal

@@ -1,16 +1,14 @@
 -- `mesh_rows::legal::batch::all_rows` meets its contract. Assumes nothing.
-use Prim.Native.Nat.{ℕ, ◌+◌, ◌-◌, ◌≤◌}
+use Prim.Native.Nat.{ℕ, ◌+◌, ◌≤◌}
 use mathlib.Core.Path.{◌≡◌, refl, sym, ap, subst, ◌∙◌}
-use mathlib.Core.List.{List}
 use native.Mathlib.Nat.{zero-add}
 use native.Mathlib.Omega.{arith}
 use lib.ListN.{length}
 use Rattle.spec.specs.Mesh.{elements_refusal}
 use Rattle.spec.specs.CallsMesh.{graph_of_elements}
-use Rattle.mesh_rows.specs.Rows.{entries_to, Laid, Ready, Clean, Goes}
-use Rattle.mesh_rows.proofs.Laying.{to_none, laid_begin, Filling, filling_begin, filling_step}
+use Rattle.mesh_rows.specs.Rows.{entries_to, Laid, Ready, Goes}
+use Rattle.mesh_rows.proofs.Laying.{to_none, laid_begin, filling_begin, filling_step}
 use Rattle.mesh_rows.proofs.legal.batch.all_rows.Goals as goal
-use Rattle.mesh_rows.proofs.legal.batch.all_rows.Invariants.{Laying}
 
 -- few nodes: one group
 pub group_rows-requires : goal.group_rows-requires
@@ -19,8 +17,11 @@ group_rows-requires c = record { ready = (c.requires.0, c.if-n-le64.true, omega 
 pub returns-then-n-le64 : goal.returns-then-n-le64
 returns-then-n-le64 c =
     let g = graph_of_elements (length c.args.lists.now) c.args.elements.now in
-    let e = zero-add (length c.args.lists.now) in record { value = c.group_rows.ensures.end ∙ ap (entries_to g) e; laid = subst (λ (j : ℕ). Laid g c.args.starts.now c.args.neighbours.now j c.group_rows.new.starts c.group_rows.new.neighbours) e
-          (c.group_rows.ensures.goes c.args.starts.now c.args.neighbours.now (laid_begin g c.args.starts.now c.args.neighbours.now)) }
+    let e = zero-add (length c.args.lists.now) in record {
+      value = c.group_rows.ensures.end ∙ ap (entries_to g) e;
+      laid = subst (λ (j : ℕ). Laid g c.args.starts.now c.args.neighbours.now j c.group_rows.new.starts c.group_rows.new.neighbours) e
+          (c.group_rows.ensures.goes c.args.starts.now c.args.neighbours.now (laid_begin g c.args.starts.now c.args.neighbours.now));
+    }
 
 pub loop-base-init : goal.loop-base-init
 loop-base-init c =
@@ -49,7 +50,7 @@ loop-base-preserved c =
     let same : length c.args.lists.now ≡ length c.next_rows-rows.new.lists = sym (c.next_rows-rows.auto.lists ∙ c.loop-base.invariant.size) in
     let within : (1 ≤ c.next_rows-rows.result) × (c.loop-base.base + c.next_rows-rows.result ≤ length c.args.lists.now) = (c.next_rows-rows.ensures.0, omega (arith, c.next_rows-rows.ensures.1, c.loop-base.invariant.size)) in
     let W = c.args.elements.now in
-        record {
+    record {
       nodes = c.loop-base.invariant.nodes;
       within = within.1;
       size = c.next_rows-rows.auto.lists ∙ c.loop-base.invariant.size;
@@ -65,8 +66,11 @@ loop-base-preserved c =
 pub returns : goal.returns
 returns c =
     let g = graph_of_elements (length c.args.lists.now) c.args.elements.now in
-    let e : c.loop-base.base ≡ length c.args.lists.now = omega (arith, c.loop-base.invariant.nodes, c.loop-base.invariant.within, c.loop-base-test.false) in record { value = c.loop-base.invariant.filling.gone.end ∙ ap (entries_to g) e; laid = subst (λ (j : ℕ). Laid g c.args.starts.now c.args.neighbours.now j c.loop-base.starts c.loop-base.neighbours) e
-          (c.loop-base.invariant.filling.gone.goes c.args.starts.now c.args.neighbours.now (laid_begin g c.args.starts.now c.args.neighbours.now)) }
+    let e : c.loop-base.base ≡ length c.args.lists.now = omega (arith, c.loop-base.invariant.nodes, c.loop-base.invariant.within, c.loop-base-test.false) in record {
+      value = c.loop-base.invariant.filling.gone.end ∙ ap (entries_to g) e;
+      laid = subst (λ (j : ℕ). Laid g c.args.starts.now c.args.neighbours.now j c.loop-base.starts c.loop-base.neighbours) e
+          (c.loop-base.invariant.filling.gone.goes c.args.starts.now c.args.neighbours.now (laid_begin g c.args.starts.now c.args.neighbours.now));
+    }
 
 pub shape_of-starts-then-n-le64 : goal.shape_of-starts-then-n-le64
 shape_of-starts-then-n-le64 c = c.group_rows.auto.starts

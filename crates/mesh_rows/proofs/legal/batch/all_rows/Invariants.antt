@@ -1,14 +1,10 @@
 -- `mesh_rows::legal::batch::all_rows` meets its contract. Assumes nothing.
-use Prim.Native.Nat.{ℕ, ◌+◌, ◌-◌, ◌≤◌}
-use mathlib.Core.Path.{◌≡◌, refl, sym, ap, subst, ◌∙◌}
+use Prim.Native.Nat.{ℕ, ◌-◌, ◌≤◌}
+use mathlib.Core.Path.{◌≡◌}
 use mathlib.Core.List.{List}
-use native.Mathlib.Nat.{zero-add}
-use native.Mathlib.Omega.{arith}
 use lib.ListN.{length}
-use Rattle.spec.specs.Mesh.{elements_refusal}
-use Rattle.spec.specs.CallsMesh.{graph_of_elements}
-use Rattle.mesh_rows.specs.Rows.{entries_to, Laid, Ready, Clean, Goes}
-use Rattle.mesh_rows.proofs.Laying.{to_none, laid_begin, Filling, filling_begin, filling_step}
+use Rattle.mesh_rows.specs.Rows.{Clean}
+use Rattle.mesh_rows.proofs.Laying.{Filling}
 use Rattle.mesh_rows.proofs.legal.batch.all_rows.Given as goal
 
 -- the first `base` rows are laid

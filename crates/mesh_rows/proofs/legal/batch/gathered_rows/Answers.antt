@@ -1,7 +1,6 @@
 -- `mesh_rows::legal::batch::gathered_rows` meets its contract. Assumes nothing.
-use Prim.Native.Nat.{ℕ, ◌+◌, ◌-◌, ◌≤◌, ◌<◌}
+use Prim.Native.Nat.{ℕ, ◌+◌, ◌<◌}
 use mathlib.Core.Path.{◌≡◌, sym, ap, subst, ◌∙◌}
-use mathlib.Core.List.{List}
 use native.Mathlib.Nat.{add-zero}
 use native.Mathlib.Omega.{arith}
 use lib.ListN.{length, length-replicate}
@@ -9,9 +8,8 @@ use Rattle.spec.specs.CallsMesh.{graph_of_elements}
 use Rattle.mesh_gather.specs.Sets.{set_at}
 use Rattle.mesh_rows.specs.Rows.{Goes}
 use Rattle.mesh_rows.proofs.Laying.{Filling, filling_begin, filling_step}
-use Rattle.mesh_rows.proofs.Rows.{SetOf, Left, left_begin, left_step, row_room, row_small, row_goes}
+use Rattle.mesh_rows.proofs.Rows.{SetOf, left_begin, left_step, row_room, row_small, row_goes}
 use Rattle.mesh_rows.proofs.legal.batch.gathered_rows.Goals as goal
-use Rattle.mesh_rows.proofs.legal.batch.gathered_rows.Invariants.{Laying}
 
 pub loop-row-init : goal.loop-row-init
 loop-row-init c =
@@ -28,12 +26,15 @@ pub gathered_row-to-requires : goal.gathered_row-to-requires
 gathered_row-to-requires c =
     let inside : let i = c.loop-row.row in (c.args.base + i < c.args.n) × (i < 64) = (omega (arith, c.requires.ready.2), omega (arith, c.requires.ready.1)) in
     let set_is : SetOf c.args.elements.now (c.args.base + c.loop-row.row + 1) (set_at c.loop-row.group c.loop-row.row) = c.loop-row.invariant.sets.at c.loop-row.row (omega arith) inside.1 in
-    record { group_len = (
+    record {
+      group_len = (
         c.loop-row.invariant.size,
         inside.1,
         omega (arith, inside.0, c.loop-row.invariant.filling.ready.few),
         row_room c.args.n c.args.elements.now c.loop-row.starts c.loop-row.invariant.filling.ready (c.args.base + c.loop-row.row) inside.0 c.loop-row.to c.loop-row.invariant.filling.gone.end,
-      ); row_bound = row_small c.args.n c.args.elements.now c.loop-row.starts c.loop-row.invariant.filling.ready (c.args.base + c.loop-row.row) inside.0 c.loop-row.to c.loop-row.invariant.filling.gone.end (set_at c.loop-row.group c.loop-row.row) set_is }
+      );
+      row_bound = row_small c.args.n c.args.elements.now c.loop-row.starts c.loop-row.invariant.filling.ready (c.args.base + c.loop-row.row) inside.0 c.loop-row.to c.loop-row.invariant.filling.gone.end (set_at c.loop-row.group c.loop-row.row) set_is;
+    }
 
 pub loop-row-preserved : goal.loop-row-preserved
 loop-row-preserved c =

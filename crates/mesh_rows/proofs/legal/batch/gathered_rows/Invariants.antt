@@ -1,15 +1,10 @@
 -- `mesh_rows::legal::batch::gathered_rows` meets its contract. Assumes nothing.
-use Prim.Native.Nat.{ℕ, ◌+◌, ◌-◌, ◌≤◌, ◌<◌}
-use mathlib.Core.Path.{◌≡◌, sym, ap, subst, ◌∙◌}
+use Prim.Native.Nat.{ℕ, ◌+◌, ◌-◌, ◌≤◌}
+use mathlib.Core.Path.{◌≡◌}
 use mathlib.Core.List.{List}
-use native.Mathlib.Nat.{add-zero}
-use native.Mathlib.Omega.{arith}
-use lib.ListN.{length, length-replicate}
-use Rattle.spec.specs.CallsMesh.{graph_of_elements}
-use Rattle.mesh_gather.specs.Sets.{set_at}
-use Rattle.mesh_rows.specs.Rows.{Goes}
-use Rattle.mesh_rows.proofs.Laying.{Filling, filling_begin, filling_step}
-use Rattle.mesh_rows.proofs.Rows.{SetOf, Left, left_begin, left_step, row_room, row_small, row_goes}
+use lib.ListN.{length}
+use Rattle.mesh_rows.proofs.Laying.{Filling}
+use Rattle.mesh_rows.proofs.Rows.{Left}
 use Rattle.mesh_rows.proofs.legal.batch.gathered_rows.Given as goal
 
 -- the first `row` of the rows are laid, and the sets of the others are as gathered

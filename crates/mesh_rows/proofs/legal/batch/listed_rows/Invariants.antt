@@ -1,12 +1,8 @@
 -- `mesh_rows::legal::batch::listed_rows` meets its contract. Assumes nothing.
-use Prim.Native.Nat.{ℕ, ◌+◌, ◌-◌, ◌≤◌}
-use mathlib.Core.Path.{◌≡◌, sym, subst, ◌∙◌}
-use native.Mathlib.Nat.{add-zero}
-use native.Mathlib.Omega.{arith}
+use Prim.Native.Nat.{◌+◌, ◌-◌, ◌≤◌}
 use lib.ListN.{length}
-use Rattle.spec.specs.CallsMesh.{graph_of_elements}
-use Rattle.mesh_rows.specs.Rows.{Clean, Goes}
-use Rattle.mesh_rows.proofs.Laying.{Filling, filling_begin, filling_step}
+use Rattle.mesh_rows.specs.Rows.{Clean}
+use Rattle.mesh_rows.proofs.Laying.{Filling}
 use Rattle.mesh_rows.proofs.legal.batch.listed_rows.Given as goal
 
 abbrev pub invariant-loop-row : goal.invariant-loop-row

@@ -2,7 +2,6 @@
 use Prim.Native.Nat.{ℕ, ◌≤◌, ◌<◌, max}
 use mathlib.Core.Path.{◌≡◌, sym, subst}
 use native.Mathlib.Omega.{arith}
-use borrow.Author.Rules.{rules}
 use Rattle.mesh_incidence.specs.Cells.{Listed}
 use Rattle.mesh_rows.proofs.legal.batch.next_rows.Goals as goal
 

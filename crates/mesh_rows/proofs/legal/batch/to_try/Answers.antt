@@ -1,6 +1,5 @@
 -- `mesh_rows::legal::batch::to_try` meets its contract. Assumes nothing.
 use native.Mathlib.Omega.{arith}
-use borrow.Author.Rules.{rules}
 use Rattle.mesh_rows.proofs.legal.batch.to_try.Goals as goal
 
 pub overflow_mul-last : goal.overflow_mul-last

@@ -2,7 +2,6 @@
 use Prim.Native.Nat.{ℕ, ◌+◌, ◌*◌, ◌-◌, ◌≤◌}
 use mathlib.Core.Path.{refl, sym, ap, subst}
 use native.Mathlib.Omega.{arith}
-use borrow.Author.Rules.{rules}
 use lib.ListN.{length, get_or}
 use Rattle.basis.proofs.Logic.{clash}
 use Rattle.mesh_rows.proofs.Bound.{pairs_most, Pairing, pairing_begin, pairing_some, pairing_within, pairing_step, pairing_done}
@@ -13,14 +12,12 @@ loop-at-init c = (omega arith, (c.requires.0, pairing_begin c.requires.0 c.args.
 
 pub loop-at-preserved : goal.loop-at-preserved
 loop-at-preserved c =
-    let element : (1 ≤ c.node_count-count.result) × (c.node_count-count.result * (c.node_count-count.result - 1) ≤ 90) × (c.loop-at.at + 1 + c.node_count-count.result ≤ length c.args.elements.now) = let W = c.args.elements.now in
-    (
+    let element : (1 ≤ c.node_count-count.result) × (c.node_count-count.result * (c.node_count-count.result - 1) ≤ 90) × (c.loop-at.at + 1 + c.node_count-count.result ≤ length c.args.elements.now) = let W = c.args.elements.now in (
       omega (arith, c.node_count-count.ensures, pairing_some c.loop-at.invariant.1.0 W c.loop-at.at c.loop-at.total c.loop-at.invariant.1.1 (omega arith)),
       omega (arith, ap (λ (k : ℕ). k * (k - 1)) c.node_count-count.ensures, pairs_most (get_or W c.loop-at.at 0)),
       omega (arith, c.node_count-count.ensures, pairing_within c.loop-at.invariant.1.0 W c.loop-at.at c.loop-at.total c.loop-at.invariant.1.1 (omega arith)),
     ) in
-    let W = c.args.elements.now in
-    (
+    let W = c.args.elements.now in (
       element.2,
       (
         c.loop-at.invariant.1.0,
@@ -35,8 +32,7 @@ returns c = λ e. pairing_done c.loop-at.invariant.1.0 c.args.elements.now c.loo
 
 pub overflow_sub-total : goal.overflow_sub-total
 overflow_sub-total c =
-    let element : (1 ≤ c.node_count-count.result) × (c.node_count-count.result * (c.node_count-count.result - 1) ≤ 90) × (c.loop-at.at + 1 + c.node_count-count.result ≤ length c.args.elements.now) = let W = c.args.elements.now in
-    (
+    let element : (1 ≤ c.node_count-count.result) × (c.node_count-count.result * (c.node_count-count.result - 1) ≤ 90) × (c.loop-at.at + 1 + c.node_count-count.result ≤ length c.args.elements.now) = let W = c.args.elements.now in (
       omega (arith, c.node_count-count.ensures, pairing_some c.loop-at.invariant.1.0 W c.loop-at.at c.loop-at.total c.loop-at.invariant.1.1 (omega arith)),
       omega (arith, ap (λ (k : ℕ). k * (k - 1)) c.node_count-count.ensures, pairs_most (get_or W c.loop-at.at 0)),
       omega (arith, c.node_count-count.ensures, pairing_within c.loop-at.invariant.1.0 W c.loop-at.at c.loop-at.total c.loop-at.invariant.1.1 (omega arith)),
@@ -45,8 +41,7 @@ overflow_sub-total c =
 
 pub overflow_mul-total : goal.overflow_mul-total
 overflow_mul-total c =
-    let element : (1 ≤ c.node_count-count.result) × (c.node_count-count.result * (c.node_count-count.result - 1) ≤ 90) × (c.loop-at.at + 1 + c.node_count-count.result ≤ length c.args.elements.now) = let W = c.args.elements.now in
-    (
+    let element : (1 ≤ c.node_count-count.result) × (c.node_count-count.result * (c.node_count-count.result - 1) ≤ 90) × (c.loop-at.at + 1 + c.node_count-count.result ≤ length c.args.elements.now) = let W = c.args.elements.now in (
       omega (arith, c.node_count-count.ensures, pairing_some c.loop-at.invariant.1.0 W c.loop-at.at c.loop-at.total c.loop-at.invariant.1.1 (omega arith)),
       omega (arith, ap (λ (k : ℕ). k * (k - 1)) c.node_count-count.ensures, pairs_most (get_or W c.loop-at.at 0)),
       omega (arith, c.node_count-count.ensures, pairing_within c.loop-at.invariant.1.0 W c.loop-at.at c.loop-at.total c.loop-at.invariant.1.1 (omega arith)),
@@ -55,8 +50,7 @@ overflow_mul-total c =
 
 pub overflow_add-total : goal.overflow_add-total
 overflow_add-total c =
-    let element : (1 ≤ c.node_count-count.result) × (c.node_count-count.result * (c.node_count-count.result - 1) ≤ 90) × (c.loop-at.at + 1 + c.node_count-count.result ≤ length c.args.elements.now) = let W = c.args.elements.now in
-    (
+    let element : (1 ≤ c.node_count-count.result) × (c.node_count-count.result * (c.node_count-count.result - 1) ≤ 90) × (c.loop-at.at + 1 + c.node_count-count.result ≤ length c.args.elements.now) = let W = c.args.elements.now in (
       omega (arith, c.node_count-count.ensures, pairing_some c.loop-at.invariant.1.0 W c.loop-at.at c.loop-at.total c.loop-at.invariant.1.1 (omega arith)),
       omega (arith, ap (λ (k : ℕ). k * (k - 1)) c.node_count-count.ensures, pairs_most (get_or W c.loop-at.at 0)),
       omega (arith, c.node_count-count.ensures, pairing_within c.loop-at.invariant.1.0 W c.loop-at.at c.loop-at.total c.loop-at.invariant.1.1 (omega arith)),
@@ -68,8 +62,7 @@ returns-then-total-gt32768 c e = clash e refl
 
 pub overflow_add-at : goal.overflow_add-at
 overflow_add-at c =
-    let element : (1 ≤ c.node_count-count.result) × (c.node_count-count.result * (c.node_count-count.result - 1) ≤ 90) × (c.loop-at.at + 1 + c.node_count-count.result ≤ length c.args.elements.now) = let W = c.args.elements.now in
-    (
+    let element : (1 ≤ c.node_count-count.result) × (c.node_count-count.result * (c.node_count-count.result - 1) ≤ 90) × (c.loop-at.at + 1 + c.node_count-count.result ≤ length c.args.elements.now) = let W = c.args.elements.now in (
       omega (arith, c.node_count-count.ensures, pairing_some c.loop-at.invariant.1.0 W c.loop-at.at c.loop-at.total c.loop-at.invariant.1.1 (omega arith)),
       omega (arith, ap (λ (k : ℕ). k * (k - 1)) c.node_count-count.ensures, pairs_most (get_or W c.loop-at.at 0)),
       omega (arith, c.node_count-count.ensures, pairing_within c.loop-at.invariant.1.0 W c.loop-at.at c.loop-at.total c.loop-at.invariant.1.1 (omega arith)),
@@ -78,8 +71,7 @@ overflow_add-at c =
 
 pub overflow_add-at-in-loop-at : goal.overflow_add-at-in-loop-at
 overflow_add-at-in-loop-at c =
-    let element : (1 ≤ c.node_count-count.result) × (c.node_count-count.result * (c.node_count-count.result - 1) ≤ 90) × (c.loop-at.at + 1 + c.node_count-count.result ≤ length c.args.elements.now) = let W = c.args.elements.now in
-    (
+    let element : (1 ≤ c.node_count-count.result) × (c.node_count-count.result * (c.node_count-count.result - 1) ≤ 90) × (c.loop-at.at + 1 + c.node_count-count.result ≤ length c.args.elements.now) = let W = c.args.elements.now in (
       omega (arith, c.node_count-count.ensures, pairing_some c.loop-at.invariant.1.0 W c.loop-at.at c.loop-at.total c.loop-at.invariant.1.1 (omega arith)),
       omega (arith, ap (λ (k : ℕ). k * (k - 1)) c.node_count-count.ensures, pairs_most (get_or W c.loop-at.at 0)),
       omega (arith, c.node_count-count.ensures, pairing_within c.loop-at.invariant.1.0 W c.loop-at.at c.loop-at.total c.loop-at.invariant.1.1 (omega arith)),
@@ -88,8 +80,7 @@ overflow_add-at-in-loop-at c =
 
 pub loop-at-smaller : goal.loop-at-smaller
 loop-at-smaller c =
-    let element : (1 ≤ c.node_count-count.result) × (c.node_count-count.result * (c.node_count-count.result - 1) ≤ 90) × (c.loop-at.at + 1 + c.node_count-count.result ≤ length c.args.elements.now) = let W = c.args.elements.now in
-    (
+    let element : (1 ≤ c.node_count-count.result) × (c.node_count-count.result * (c.node_count-count.result - 1) ≤ 90) × (c.loop-at.at + 1 + c.node_count-count.result ≤ length c.args.elements.now) = let W = c.args.elements.now in (
       omega (arith, c.node_count-count.ensures, pairing_some c.loop-at.invariant.1.0 W c.loop-at.at c.loop-at.total c.loop-at.invariant.1.1 (omega arith)),
       omega (arith, ap (λ (k : ℕ). k * (k - 1)) c.node_count-count.ensures, pairs_most (get_or W c.loop-at.at 0)),
       omega (arith, c.node_count-count.ensures, pairing_within c.loop-at.invariant.1.0 W c.loop-at.at c.loop-at.total c.loop-at.invariant.1.1 (omega arith)),

@@ -1,11 +1,7 @@
 -- `mesh_rows::legal::bound::few` meets its contract. Assumes nothing.
-use Prim.Native.Nat.{ℕ, ◌+◌, ◌*◌, ◌-◌, ◌≤◌}
-use mathlib.Core.Path.{refl, sym, ap, subst}
-use native.Mathlib.Omega.{arith}
-use borrow.Author.Rules.{rules}
-use lib.ListN.{length, get_or}
-use Rattle.basis.proofs.Logic.{clash}
-use Rattle.mesh_rows.proofs.Bound.{pairs_most, Pairing, pairing_begin, pairing_some, pairing_within, pairing_step, pairing_done}
+use Prim.Native.Nat.{ℕ, ◌-◌, ◌≤◌}
+use lib.ListN.{length}
+use Rattle.mesh_rows.proofs.Bound.{Pairing}
 use Rattle.mesh_rows.proofs.legal.bound.few.Given as goal
 
 abbrev pub invariant-loop-at : goal.invariant-loop-at

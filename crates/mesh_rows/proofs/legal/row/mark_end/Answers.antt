@@ -1,7 +1,6 @@
 -- `mesh_rows::legal::row::mark_end` meets its contract. Assumes nothing.
 use mathlib.Core.Path.{sym}
 use native.Mathlib.Omega.{arith}
-use borrow.Author.Rules.{rules}
 use lib.Seq.{set_out}
 use Rattle.mesh_rows.proofs.legal.row.mark_end.Goals as goal
 
