@@ -10,4 +10,4 @@ LIBRARY = os.path.join('target', 'staticlib', 'libcapi.a')
 
 def build_library():
     """Build it, in the repository's root."""
-    subprocess.run([sys.executable, os.path.join('tools', 'library.py')], check=True, stdout=subprocess.DEVNULL)
+    subprocess.run([sys.executable, os.path.join('tools', 'capi.py')], check=True, stdout=subprocess.DEVNULL)

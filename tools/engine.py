@@ -9,11 +9,11 @@ import subprocess
 import sys
 from array import array
 
-import library
-from library import TOP, older
+import capi
+from capi import TOP, older
 from model import Stop
 
-STATIC = library.STATIC
+STATIC = capi.STATIC
 FOLDER = os.path.dirname(STATIC)
 SHARED = os.path.join(FOLDER, 'libtools.so')
 MOST_ENTRIES = 32768
@@ -33,10 +33,10 @@ def run(why, *words, cwd=TOP):
 
 def build():
     """The shared library, proved and built where it is older than the crates."""
-    if library.is_due(STATIC):
+    if capi.is_due(STATIC):
         print('proving and building the library; what was proved before is not proved again', file=sys.stderr, flush=True)
-        run('it is not built, or older than its sources', *library.COMMAND, cwd=library.CRATE)
-        library.put(STATIC)
+        run('it is not built, or older than its sources', *capi.COMMAND, cwd=capi.CRATE)
+        capi.put(STATIC)
     if older(SHARED, os.path.getmtime(STATIC)):
         # under another name first, so that nobody loads half of it
         part = '%s.%d' % (SHARED, os.getpid())

@@ -1,7 +1,7 @@
 #!/usr/bin/env python3
 """The static library for C, Fortran and Rust: proved and built where it is older than its sources.
 
-  library.py    builds target/staticlib/libcapi.a
+  capi.py    builds target/staticlib/libcapi.a
 
 The crate capi_c exports what crate capi has; `rt lib` there proves it and what it stands on, and what was proved before is not proved again.
 """
