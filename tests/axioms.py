@@ -19,9 +19,9 @@ from staticlib import TOP, build_library
 STATED = {'libc::read', 'libc::write', 'os::c::__xpg_strerror_r', 'os::c::rattle_errno'}
 # Programs that have less.
 LESS = {'test_graph': {'libc::read'}}
-# Programs whose input and output are buffered by std may rest on its memory and its place in a file too.
+# Programs that hold their input and output in buffers of std's, and the C functions that give it memory.
 BUFFERED = ('test_calls', 'test_reading')
-BUFFERS = {'libc::heap::rattle_alloc', 'libc::heap::rattle_dealloc', 'libc::heap::rattle_realloc', 'libc::lseek'}
+BUFFERS = {'libc::heap::rattle_alloc', 'libc::heap::rattle_dealloc', 'libc::heap::rattle_realloc'}
 # The library that the others are linked into for C, and the one that the programs of the gate share, which reads and writes.
 STATIC, SHARED = 'capi_c', 'test_vectors'
 TARGET = 'x86_64-unknown-linux-gnu'
@@ -74,9 +74,10 @@ def code(name):
 
 
 def expected(name):
-    """The functions that a linked crate must rest on, and those that it may."""
-    due = STATED - LESS.get(name, set()) if is_program(name) else set()
-    return due, due | BUFFERS if name in BUFFERED else due
+    """The functions that a linked crate rests on."""
+    if not is_program(name):
+        return set()
+    return (STATED | BUFFERS if name in BUFFERED else STATED) - LESS.get(name, set())
 
 
 def wrong(name, text):
@@ -96,8 +97,7 @@ def wrong(name, text):
         of_crate = [function for function in reached if function.split('::')[0] == crate]
         if crate not in ('libc', 'os', 'std') or len(of_crate) != (0 if count == 'none' else int(count)):
             return '%s: axioms of %s: %s, and %s' % (name, crate, count, ' '.join(of_crate))
-    due, may = expected(name)
-    if not due <= set(reached) <= may or len(set(reached)) < len(reached):
+    if sorted(reached) != sorted(expected(name)):
         return '%s: rests on %s' % (name, ' '.join(reached) or 'nothing')
     return ''
 
