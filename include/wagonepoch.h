@@ -1,6 +1,6 @@
 /* Wagonepoch: Gibbs-Poole-Stockmeyer renumbering, from mesh to store. The C interface of the proved libraries.
 
-   `rt staticlib capi` writes target/staticlib/libcapi.a, for x86-64. It needs no library but C's, allocates nothing, keeps nothing between calls
+   `tools/capi.py` writes target/staticlib/libcapi.a, for x86-64. It needs no library but C's, allocates nothing, keeps nothing between calls
    and writes only to what is lent, so calls on different buffers may run at the same time.
 
    LISTS. A list is a pointer and its length in its elements: uint16_t words, uint32_t row starts, uint64_t figures, uint8_t bytes. Nodes are

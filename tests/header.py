@@ -1,5 +1,5 @@
 #!/usr/bin/env python3
-"""Every exported function of crates/capi stands in include/wagonepoch.h with the same parameters and as many figures, and nothing else does.
+"""Every exported function of crates/capi_c stands in include/wagonepoch.h with the same parameters and as many figures, and nothing else does.
 
 The declarations in examples/rust are compared too, and the names of the parameters in examples/fortran. A slice is a pointer and a length.
 """
@@ -23,11 +23,11 @@ def parameters(text):
 
 
 def exported():
-    """{name: (parameters, figures)} of the crate, the figures as the contract has them."""
+    """{name: (parameters, figures)} of the crates, the figures as the contract has them."""
     found = {}
-    for path in glob.glob(os.path.join(TOP, 'crates', 'capi', 'src', '*.rt')):
+    for path in [path for crate in ('capi', 'capi_c') for path in sorted(glob.glob(os.path.join(TOP, 'crates', crate, 'src', '*.rt')))]:
         for m in re.finditer(r'pub extern "C" fn (\w+)\(([^)]*)\) -> u16\n(.*?)\n}', text_of(path), re.S):
-            figures = re.search(r'answerC (\d+) \(was figures\)', m.group(3))
+            figures = re.search(r'answer_c (\d+) figures\.old', m.group(3))
             found[m.group(1)] = (parameters(m.group(2)), int(figures.group(1)) if figures else 0)
     return found
 

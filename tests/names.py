@@ -28,7 +28,7 @@ def exists(crate, file, name):
     """Whether one of the places where such a name can stand has it."""
     folder = os.path.join(TOP, 'crates', crate)
     word = re.escape(name)
-    theory = r'(?m)^\s*(?:abbrev |unfoldable )?(?:pub )?(?:record |data )?%s(?:\s+\{ℓ\})? [:({]|^\s*(?:pub )?(?:record|data) %s ' % (word, word)
+    theory = r'(?m)^\s*(?:(?:abbrev|unfoldable|pub|record|data) )*%s(?:\s+\{ℓ\})? [:({]|^\s*(?:pub )?(?:record|data) %s ' % (word, word)
     code = r'\b(?:fn|enum|struct) %s\b' % word
     return (any(re.search(theory, text_of(os.path.join(folder, part, file + '.antt'))) for part in ('specs', 'proofs'))
             or re.search(code, text_of(os.path.join(folder, 'src', file + '.rt'))))

@@ -30,7 +30,7 @@ from program import text_for
 from vectors import Draw
 
 # What the script calls, for a path on which no toolchain is.
-COMMANDS = 'awk bash cat chmod dirname env find flock head mkdir mktemp mv python3 readlink rm sleep tail tee touch'.split()
+COMMANDS = 'awk bash cat chmod cp date dirname env find flock grep head mkdir mktemp mv python3 readlink rm sleep tail tee touch'.split()
 
 
 def run(*words, given=b'', path=None, script=SCRIPT):
@@ -291,16 +291,23 @@ def not_written(c, folder):
             c.equal('a closed pipe', (done.returncode, done.stderr), wanted)
 
 
-# A stand-in for the toolchain: it notes that it was called, and its program refuses everything by 12.
+# A stand-in for the toolchain: it notes that it was called, and its program refuses everything by 12. It takes 3 s by the clock beside it.
 RT = """#!/usr/bin/env bash
-echo "$*" >> calls
-if [ -e broken ]; then echo 'error: a fact'; exit 1; fi
-echo 'rt: renumber proved (3 s)'
+echo "$*" >> ../../calls
+if [ -e ../../broken ]; then echo 'error: a fact' >&2; exit 1; fi
+until [ -e ../../looked ]; do sleep 0.02; done
+echo 3 > ../../seconds
+echo 'crate renumber: modules loaded=0 checked=9' >&2
+echo 'logic=proved functions=1' >&2
 sleep 0.2
-mkdir -p target/bin
-printf '#!/bin/sh\\ncat > /dev/null\\necho refused 12\\n' > target/bin/renumber
-chmod +x target/bin/renumber
+mkdir -p out
+printf '#!/bin/sh\\ncat > /dev/null\\necho refused 12\\n' > out/renumber
+chmod +x out/renumber
+rm -f ../../looked ../../seconds
+echo 'rt: running out/renumber; to give it other input, run that file yourself' >&2
+exec out/renumber
 """
+DATE = '#!/bin/sh\nif [ -e seconds ]; then cat seconds; else echo 0; fi\ntouch looked\n'
 
 
 def building(c, folder):
@@ -312,10 +319,11 @@ def building(c, folder):
         os.symlink(shutil.which(name), os.path.join(commands, name))
     script, source, calls = (os.path.join(place, *names) for names in (['renumber'], ['crates', 'renumber', 'src', 'main.rt'], ['calls']))
     shutil.copy(SCRIPT, script)
-    for path, text in ((os.path.join(place, 'crates.txt'), 'renumber: io\n'), (source, ''), (os.path.join(kit, 'rt'), RT)):
+    for path, text in ((os.path.join(place, 'crates.txt'), 'renumber: io\n'), (source, ''), (os.path.join(kit, 'rt'), RT), (os.path.join(kit, 'date'), DATE)):
         with open(path, 'w', encoding='ascii') as file:
             file.write(text)
-    os.chmod(os.path.join(kit, 'rt'), 0o755)
+    for name in ('rt', 'date'):
+        os.chmod(os.path.join(kit, name), 0o755)
 
     status, out, err = run(given=SAMPLE, path=commands, script=script)
     c.equal('no toolchain, nothing built', (status, out), (2, b''))
@@ -326,19 +334,19 @@ def building(c, folder):
     c.holds('what is proved is said: %s' % err, b'renumber: renumber proved in 3 s\n' in err)
     for path in (both, commands):
         c.equal('run again, nothing built', run(given=SAMPLE, path=path, script=script), (1, b'refused 12\n', b''))
-    c.equal('one call of the toolchain', read(calls), b'check renumber\n')
+    c.equal('one call of the toolchain', read(calls), b'run\n')
     later = time.time() + 5
     os.utime(source, (later, later))
     c.equal('a newer source, no toolchain', run(given=SAMPLE, path=commands, script=script)[:2], (2, b''))
     c.equal('a newer source', run(given=SAMPLE, path=both, script=script)[:2], (1, b'refused 12\n'))
-    c.equal('it is built again', read(calls), b'check renumber\n' * 2)
+    c.equal('it is built again', read(calls), b'run\n' * 2)
     if shutil.which('flock'):
         shutil.rmtree(os.path.join(place, 'target'))
         os.utime(source)
         started = [subprocess.Popen([script], stdin=subprocess.DEVNULL, stdout=subprocess.PIPE, stderr=subprocess.DEVNULL,
                                     env=dict(os.environ, PATH=both)) for _ in range(3)]
         c.equal('three at once', [process.communicate()[0] for process in started], [b'refused 12\n'] * 3)
-        c.equal('and one build', read(calls), b'check renumber\n' * 3)
+        c.equal('and one build', read(calls), b'run\n' * 3)
         os.utime(source, (later, later))
     # the source's time is still ahead
     with open(os.path.join(place, 'broken'), 'w', encoding='ascii'):

@@ -16,64 +16,98 @@ sys.path[:0] = [os.path.join(TOP, 'tests', 'tools'), os.path.join(TOP, 'tools', 
 import naming
 from harness import Cases
 
-# What rt dev says where `total` has no file: a note, an error that follows, and the lines to write.
-MISSING = '''note: what antt said of a `search` in the proof that rattle made: src/lib.rt:3:4: `returns`: `search`: no proof of ..
-fn sums::total: no proof: expected `total-spec` in ./crates/sums/proofs/legal/total/Proof.antt; `search` does not close `returns`
-help: write ./crates/sums/proofs/legal/total/Proof.antt with these lines, and check again: each hole asks for a part
-    use borrow.Author.Needs.{needs}
+# What rt check says where `total` has no file: a note, a line that follows, and the lines to write.
+MISSING = '''note: src/legal.rt:9:5: it is not proved that what the function ensures holds when it returns (`returns`)
+note: to see how far a `search` got, write `search rules` in place of that hole in the function's `Answers.antt`
+fn sums::legal::total: no proof: expected answers in ./proofs/legal/total/Answers.antt; `search` did not prove `returns`
+help: write ./proofs/legal/total/Answers.antt with these lines, and check again: each hole's goal is what is left to show there
+    use Rattle.std.proofs.Common.{rules, ◌≡◌}
+    use Rattle.sums.proofs.legal.total.Goals as goal
 
-    -- src/lib.rt:9:5
-    returns : tie.Need-returns
-    returns c = search needs
+    -- src/legal.rt:9:5
+    pub returns : goal.returns
+    returns c = ?
+note: `returns` of proofs/legal/total/Answers.antt must prove: c.loop-i.all ≡ sum (reverse c.args.a.now)
 
-    pub total-spec : {M : Type 1} → statement M
-    total-spec = tie.close (tie.spec returns)
-
-logic=not-proved functions=1
+logic=not-proved
 '''
-SKELETON = '''use borrow.Author.Needs.{needs}
+SKELETON = '''use Rattle.std.proofs.Common.{rules, ◌≡◌}
+use Rattle.sums.proofs.legal.total.Goals as goal
 
--- src/lib.rt:9:5
-returns : tie.Need-returns
-returns c = search needs
-
-pub total-spec : {M : Type 1} → statement M
-total-spec = tie.close (tie.spec returns)
+-- src/legal.rt:9:5
+pub returns : goal.returns
+returns c = ?
 '''
-# where the search of the file's line 5 is refused
-REFUSED = '''crates/sums/proofs/legal/total/Proof.antt:5:13: error: `returns`: `search`: no proof of `Rattle·sums·specs.specs.Sums.Sum 3`
+ANSWERED = SKELETON.replace('= ?', '= search rules')
+# where the search of the file's line 6 is refused
+REFUSED = '''checked sums::legal::total, 1 of 1
+./proofs/legal/total/Answers.antt:6:13: error: `returns`: `search`: no proof of `Rattle.sums.specs.Sums.Sum 3`
       (computed from: lib.ListN.length
-        (now a))
-crates/sums/proofs/legal/total/Proof.antt:8:5: error: `total-spec`: `returns` was not admitted, so this cannot be checked
-fn sums::total: not proved
+        a.now)
+note: antt's advice on a `search` that finds no proof, printed once in this run: what is tried
+./proofs/legal/total/Answers.antt:8:5: error: `other`: `returns` was not admitted, so this cannot be checked
+fn sums::legal::total: not proved
+statements core: modules loaded=222 checked=0
+rt: rt lemma WORD.. finds a lemma by guessed names or words of the goal
 '''
 # where a hole stands in its place
-HOLE = '''crates/sums/proofs/legal/total/Proof.antt:4:1: `returns` is not admitted: has-holes
-crates/sums/proofs/legal/total/Proof.antt:5:13: goal ? in `returns`
-    c : lts.After-loop Inv-loop
-  ⊢ Rattle·sums.specs.Sums.total (c .before .before .before .args .a .now) ≡ lib.ListN.getD (c .loop .sum) 0
+HOLE = '''./proofs/legal/total/Answers.antt:5:5: `returns` is not admitted: has-holes
+./proofs/legal/total/Answers.antt:6:13: goal ? in `returns`
+    c : goal.After-loop-i
+  ⊢ Rattle.sums.specs.Sums.total c.before.before.before.args.a.now ≡ lib.ListN.get_or c.loop-i.all 0
       (computed from: borrow.Fn.Claims.AllOf 3)
-fn sums::total: not proved
+  names you can use, by step:
+    c: .lifetimes, .requires
+    c.loop-i: .all, .i, .invariant
+    Rattle's own names, which may change, so do not cite them: c.items_fit
+  the newest fields, with their types:
+    c.loop-i.all : ℕ
+fn sums::legal::total: depends on a hole in `Rattle.sums.proofs.legal.total.Answers.returns`
 '''
-PLACES = '''        pub record Start : Type 0 where
-          pub args : Args
-        pub record At-loop·own : Type 0 where
-          pub sum : Rows.sc-here
-          pub inv : Inv·0
-      pub record At-loop : Type 0 where
-        pub before : Start
-        pub loop : At-loop·own before
-      Need-returns =
-          (c : At-loop) →
+# two answers of several lines with a helper between them, and what `places` asks
+PROVED = '''use Rattle.sums.proofs.legal.total.Goals as goal
+
+-- the empty list
+abbrev none : List ℕ
+none = []
+
+pub loop-i-init : goal.loop-i-init
+unfolding total
+loop-i-init c =
+    let e : none ≡ [] = refl in
+    (omega arith, e)
+
+helper : ℕ → ℕ
+helper n = n
+
+pub returns : goal.returns
+returns c = record {
+  low = helper 1;
+}
+'''
+HOLED = '''use Rattle.sums.proofs.legal.total.Goals as goal
+
+-- the empty list
+abbrev none : List ℕ
+none = []
+
+pub loop-i-init : goal.loop-i-init
+unfolding total
+loop-i-init c = ?
+
+helper : ℕ → ℕ
+helper n = n
+
+pub returns : goal.returns
+returns c = ?
 '''
 RT = '''#!/bin/sh
 # rt in a test: the report that fits the file as it stands
-proof=crates/sums/proofs/legal/total/Proof.antt
-if [ "$3" = --generated ]; then
-  mkdir -p "$4/proofs/legal/total" && cp places "$4/proofs/legal/total/Lts.antt"
-elif [ ! -e $proof ]; then cat missing
-elif grep -q '= [?]' $proof; then cat hole
-else cat refused
+answers=proofs/legal/total/Answers.antt
+echo "$*" >> ../../calls
+if [ ! -e $answers ]; then cat ../../missing
+elif grep -q '= [?]' $answers; then cp $answers ../../holed; cat ../../hole
+else cat ../../refused
 fi
 '''
 
@@ -83,12 +117,12 @@ class Folder:
 
     def __init__(self, path):
         self.path = path
-        self.proof = os.path.join(path, 'crates', 'sums', 'proofs', 'legal', 'total', 'Proof.antt')
+        self.proof = os.path.join(path, 'crates', 'sums', 'proofs', 'legal', 'total', 'Answers.antt')
         for part in ('bin', os.path.join('tools', 'dev'), os.path.join('crates', 'sums', 'src')):
             os.makedirs(os.path.join(path, part))
         for tool in ('proof', 'naming.py'):
             shutil.copy(os.path.join(TOP, 'tools', 'dev', tool), os.path.join(path, 'tools', 'dev'))
-        for name, text in {'missing': MISSING, 'refused': REFUSED, 'hole': HOLE, 'places': PLACES, 'bin/rt': RT, 'note.txt': 'c^2\n'}.items():
+        for name, text in {'missing': MISSING, 'refused': REFUSED, 'hole': HOLE, 'bin/rt': RT, 'note.txt': 'c^2\n'}.items():
             self.write(os.path.join(path, name), text)
         os.chmod(os.path.join(path, 'bin', 'rt'), 0o755)
 
@@ -112,35 +146,40 @@ def new_cases(c, folder):
     where = os.path.relpath(folder.proof, folder.path)
     c.equal('new writes what does not stand', folder.run('new', 'sums'), (0, 'wrote %s\n' % where))
     c.equal('new writes the lines that are printed', folder.read(folder.proof), SKELETON)
-    mine = SKELETON.replace('search needs', 'mine')
+    mine = SKELETON.replace('?', 'mine')
     folder.write(folder.proof, mine)
     shutil.copy(os.path.join(folder.path, 'missing'), os.path.join(folder.path, 'refused'))
     c.equal('new writes nothing twice', folder.run('new', 'sums'), (0, ''))
     c.equal('new leaves a file that stands', folder.read(folder.proof), mine)
     folder.write(os.path.join(folder.path, 'refused'), REFUSED)
-    folder.write(folder.proof, SKELETON)
+    folder.write(folder.proof, ANSWERED)
 
 
 def view_cases(c, folder):
     c.equal('dev cuts down', folder.run('dev', 'sums'),
-            (0, 'crates/sums/proofs/legal/total/Proof.antt:5:13: error: `returns`: `search`: no proof of `Sum 3`\nfn sums::total: not proved\n\n'))
+            (0, './proofs/legal/total/Answers.antt:6:13: error: `returns`: `search`: no proof of `Sum 3`\nfn sums::legal::total: not proved\n\n'))
     c.equal('dev keeps the report', folder.read(os.path.join(folder.path, 'target', 'dev-sums.txt')), REFUSED)
-    due = ('crates/sums/proofs/legal/total/Proof.antt:5:13: goal ? in `returns`\n    c : lts.After-loop Inv-loop\n'
-           '  ⊢ total (c^3 .args .a .now) ≡ getD (c .loop .sum) 0\n')
+    c.equal('it checks the crate', folder.read(os.path.join(folder.path, 'calls')).splitlines()[-1], 'check')
+    due = ('./proofs/legal/total/Answers.antt:6:13: goal ? in `returns`\n    c : goal.After-loop-i\n'
+           '  ⊢ total c^3.args.a.now ≡ get_or c.loop-i.all 0\n')
     c.equal('goals are short', folder.run('goals', 'sums'), (0, due))
     c.equal('goals of a function', folder.run('goals', 'sums', 'total'), (0, due))
-    c.equal('goals puts the file back', folder.read(folder.proof), SKELETON)
+    c.equal('goals puts the file back', folder.read(folder.proof), ANSWERED)
     c.equal('goals of another function', folder.run('goals', 'sums', 'other'), (0, ''))
-    c.equal('places', folder.run('places', 'sums', 'total'), (0, 'Need-returns\n    c loop{sum,inv}\n    c^1 args\n'))
+    folder.write(folder.proof, PROVED)
+    c.equal('places', folder.run('places', 'sums', 'total'), (0, 'returns\n    c: .lifetimes, .requires\n    c.loop-i: .all, .i, .invariant\n'))
+    c.equal('places asks at each answer', folder.read(os.path.join(folder.path, 'holed')), HOLED)
+    c.equal('places puts the file back', folder.read(folder.proof), PROVED)
     status, text = folder.run('places', 'sums', 'other')
-    c.equal('places of no function', (status, text.startswith('proof: nothing was generated for other')), (2, True))
+    c.equal('places of no function', (status, text.startswith('proof: other has no Answers.antt')), (2, True))
+    folder.write(folder.proof, ANSWERED)
 
 
 def expand_cases(c, folder):
     where = os.path.relpath(folder.proof, folder.path)
-    folder.write(folder.proof, 'returns c = f (c^3 .args) (c^1 .loop) ac^2\n')
+    folder.write(folder.proof, 'returns c = f c^3.args c^1.loop ac^2\n')
     c.equal('expand', folder.run('expand', where), (0, where + ': 2 written out\n'))
-    c.equal('expand writes out', folder.read(folder.proof), 'returns c = f (c .before .before .before .args) (c .before .loop) ac^2\n')
+    c.equal('expand writes out', folder.read(folder.proof), 'returns c = f c.before.before.before.args c.before.loop ac^2\n')
     c.equal('expand has nothing more to do', folder.run('expand', where), (0, ''))
     c.equal('expand leaves other files', folder.run('expand', where, 'note.txt'), (2, 'proof: note.txt: no proof file below crates\n'))
     c.equal('expand left it', folder.read(os.path.join(folder.path, 'note.txt')), 'c^2\n')

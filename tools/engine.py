@@ -9,29 +9,22 @@ import subprocess
 import sys
 from array import array
 
+import capi
+from capi import TOP, older
 from model import Stop
 
-HERE = os.path.dirname(os.path.realpath(__file__))
-TOP = os.path.dirname(HERE)
-FOLDER = os.path.join(TOP, 'target', 'staticlib')
-STATIC, SHARED = os.path.join(FOLDER, 'libcapi.a'), os.path.join(FOLDER, 'libtools.so')
+STATIC = capi.STATIC
+FOLDER = os.path.dirname(STATIC)
+SHARED = os.path.join(FOLDER, 'libtools.so')
 MOST_ENTRIES = 32768
 
 
 # Building.
 
-def newest(folder):
-    return max(os.path.getmtime(os.path.join(at, name)) for at, _, names in os.walk(folder) for name in names)
-
-
-def older(path, time):
-    return not os.path.exists(path) or os.path.getmtime(path) < time
-
-
-def run(why, *words):
+def run(why, *words, cwd=TOP):
     """A command of the build; what it prints is told only where it fails."""
     try:
-        done = subprocess.run(words, cwd=TOP, stdout=subprocess.PIPE, stderr=subprocess.STDOUT, check=False)
+        done = subprocess.run(words, cwd=cwd, stdout=subprocess.PIPE, stderr=subprocess.STDOUT, check=False)
     except FileNotFoundError:
         raise Stop(0, '%s, and %s is not on the path; --independent takes tests/reference' % (why, words[0]), 'the library') from None
     if done.returncode:
@@ -40,9 +33,10 @@ def run(why, *words):
 
 def build():
     """The shared library, proved and built where it is older than the crates."""
-    if older(STATIC, newest(os.path.join(TOP, 'crates'))):
+    if capi.is_due(STATIC):
         print('proving and building the library; what was proved before is not proved again', file=sys.stderr, flush=True)
-        run('it is not built, or older than its sources', 'rt', 'staticlib', 'capi')
+        run('it is not built, or older than its sources', *capi.COMMAND, cwd=capi.CRATE)
+        capi.put(STATIC)
     if older(SHARED, os.path.getmtime(STATIC)):
         # under another name first, so that nobody loads half of it
         part = '%s.%d' % (SHARED, os.getpid())

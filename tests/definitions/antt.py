@@ -1,7 +1,7 @@
 """Values of the reference program as antt terms: lists, records, outcomes."""
 
 LEVEL_FIGURES = ('depth', 'width', 'reached')
-ENDS = ('v', 'u', 'k', 'widthV', 'widthU', 'passes')
+ENDS = ('v', 'u', 'k', 'v_width', 'u_width', 'passes')
 COMBINED_FIGURES = ('k', 'width')
 PART_REPORT = ('v', 'u', 'k', 'width', 'passes', 'direction')
 FIGURES = ('nodes', 'parts', 'bandwidth', 'profile', 'front', 'levels', 'width')

@@ -28,28 +28,28 @@ from expected import of_file, of_graph, of_import, of_mesh, of_store
 HEAD = '''-- Made by compare.py. Assumes nothing.
 use Prim.Native.Nat.{ℕ}
 use mathlib.Core.Bool.{true, false}
-use mathlib.Core.Path.{_≡_, refl}
-use mathlib.Core.List.{List, [], _∷_, _++_}
+use mathlib.Core.Path.{◌≡◌, refl}
+use mathlib.Core.List.{List, [], ◌∷◌, ◌++◌}
 use lib.ListN.{replicate}
-use Rattle·spec.specs.Graph.{graphOf}
-use Rattle·spec.specs.Lent.{refused, accepted}
-use Rattle·spec.specs.Measures.{renumbered}
-use Rattle·spec_claims.specs.NoIdle.{connected, lowerNeighbours, fullBytes, beforeTurning, turnedBack}
-use Rattle·spec.specs.Numbering.{Forward, Reversed}
-use Rattle·spec.specs.CallsLevels.{adjacencyAnswer, rootedAnswer, rootedLevels, rootedSizes, endsAnswer, endsScratch}
-use Rattle·spec.specs.CallsLevels.{combinedAnswer, combinedLevels, combinedScratch}
-use Rattle·spec.specs.CallsNumbering.{reportAnswer, reportScratch, runAnswer, runNumbers, runLevels, runPasses, runScratch}
-use Rattle·spec.specs.CallsNumbering.{measuresAnswer, measuresScratch}
-use Rattle·spec.specs.CallsCuthill.{cuthillAnswer, cuthillNumbers, cuthillLevels, cuthillPasses, cuthillScratch}
-use Rattle·spec.specs.CallsCuthill.{cuthillEliminateAnswer, cuthillEliminateBytes}
-use Rattle·spec.specs.CallsStore.{eliminationAnswer, eliminationScratch, eliminationBytes, runEliminateAnswer, runEliminateBytes}
-use Rattle·spec.specs.CallsMap.{storeMapAnswer, storeMapScratch, storeMapFirst, storeMapPlace}
-use Rattle·spec_import.specs.CallsImport.{importAnswer, importNumbers, importScratch}
-use Rattle·spec.specs.CallsMesh.{meshAnswer, meshStarts, meshNeighbours, meshScratch}
-use Rattle·spec.specs.Mesh.{startList, neighbourList}
-use Rattle·spec.specs.File.{fileCounts, fileGraph, fileRefusal, programOutput}
-use Rattle·spec_claims.proofs.Compute.{computesClaims}
-use Rattle·spec_import.proofs.Compute.{computesImport}
+use Rattle.spec.specs.Graph.{graph_of}
+use Rattle.spec.specs.Lent.{refused, accepted}
+use Rattle.spec.specs.Measures.{renumbered}
+use Rattle.spec_claims.specs.NoIdle.{connected, lower_neighbours, full_bytes, before_turning, turned_back}
+use Rattle.spec.specs.Numbering.{Forward, Reversed}
+use Rattle.spec.specs.CallsLevels.{adjacency_answer, rooted_answer, rooted_levels, rooted_sizes, ends_answer, ends_scratch}
+use Rattle.spec.specs.CallsLevels.{combined_answer, combined_levels, combined_scratch}
+use Rattle.spec.specs.CallsNumbering.{report_answer, report_scratch, run_answer, run_numbers, run_levels, run_passes, run_scratch}
+use Rattle.spec.specs.CallsNumbering.{measures_answer, measures_scratch}
+use Rattle.spec.specs.CallsCuthill.{cuthill_answer, cuthill_numbers, cuthill_levels, cuthill_passes, cuthill_scratch}
+use Rattle.spec.specs.CallsCuthill.{cuthill_eliminate_answer, cuthill_eliminate_bytes}
+use Rattle.spec.specs.CallsStore.{elimination_answer, elimination_scratch, elimination_bytes, run_eliminate_answer, run_eliminate_bytes}
+use Rattle.spec.specs.CallsMap.{store_map_answer, store_map_scratch, store_map_first, store_map_place}
+use Rattle.spec_import.specs.CallsImport.{import_answer, import_numbers, import_scratch}
+use Rattle.spec.specs.CallsMesh.{mesh_answer, mesh_starts, mesh_neighbours, mesh_scratch}
+use Rattle.spec.specs.Mesh.{start_list, neighbour_list}
+use Rattle.spec.specs.File.{file_counts, file_graph, file_refusal, program_output}
+use Rattle.spec_claims.proofs.Compute.{computes_claims}
+use Rattle.spec_import.proofs.Compute.{computes_import}
 '''
 BATCH = 60
 
@@ -59,20 +59,20 @@ def theorems(inputs, equations):
     text, names = [HEAD], {}
     for number, i in enumerate(inputs):
         for part, (left, right) in enumerate(equations(i)):
-            name = 'case-%d-%d' % (number, part)
+            name = 'case_%d_%d' % (number, part)
             names[name] = (left, right)
-            text.append('%s : %s ≡ %s\nunfolding computesClaims computesImport\n%s = refl\n' % (name, left, right, name))
+            text.append('%s : %s ≡ %s\nunfolding computes_claims computes_import\n%s = refl\n' % (name, left, right, name))
     return '\n'.join(text), names
 
 
 def repository(folder):
     """A repository with the definitions and room for one batch."""
     for crate in ('basis', 'spec', 'spec_claims', 'spec_import'):
-        shutil.copytree(os.path.join(TOP, 'crates', crate), os.path.join(folder, 'crates', crate), ignore=shutil.ignore_patterns('must-fail'))
+        shutil.copytree(os.path.join(TOP, 'crates', crate), os.path.join(folder, 'crates', crate), ignore=shutil.ignore_patterns('must-fail', 'out'))
     for part in ('src', 'proofs'):
         os.makedirs(os.path.join(folder, 'crates', 'batch', part))
     write(folder, 'crates.txt', 'basis:\nspec: basis\nspec_claims: basis spec\nspec_import: basis spec\nbatch: basis spec spec_claims spec_import\n')
-    write(folder, 'crates/batch/src/lib.rt', '// Theorems only.\n')
+    write(folder, 'crates/batch/src/lib.rt', '// Theorems only.\n#![tactic(auto)]\n')
     write(folder, 'crates/batch/proofs/Lib.antt', 'pub mod Batch\n')
 
 
@@ -85,9 +85,8 @@ def differences(folder, inputs, equations):
     """How many theorems of the batch there are, and those that the checker refuses."""
     text, names = theorems(inputs, equations)
     write(folder, 'crates/batch/proofs/Batch.antt', text)
-    done = subprocess.run(['rt', 'check', 'batch'], cwd=folder, stdout=subprocess.PIPE, stderr=subprocess.STDOUT,
-                          text=True, env=dict(os.environ, RT_CUT='0'))
-    wrong = sorted(set(re.findall(r'error: `(case-[0-9]+-[0-9]+)`', done.stdout)))
+    done = subprocess.run(['rt', 'check'], cwd=os.path.join(folder, 'crates', 'batch'), stdout=subprocess.PIPE, stderr=subprocess.STDOUT, text=True)
+    wrong = sorted(set(re.findall(r'error: `(case_[0-9]+_[0-9]+)`', done.stdout)))
     if done.returncode and not wrong:
         sys.exit('the batch was not checked:\n' + done.stdout[-3000:])
     return len(names), [names[name] for name in wrong]

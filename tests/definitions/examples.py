@@ -31,7 +31,7 @@ GRAPHS = [
      [(1, 3), (1, 4), (1, 7), (2, 4), (2, 5), (2, 6), (5, 6), (7, 8)]),
     ('passes', 'three passes', 9,
      [(1, 4), (1, 9), (2, 5), (2, 9), (3, 4), (3, 5), (6, 7), (6, 8), (7, 8), (8, 9)]),
-    ('inE', 'S is taken in E, not by number', 7, [(1, 6), (1, 7), (2, 3), (2, 4), (3, 4), (3, 6), (5, 6)]),
+    ('in_e', 'S is taken in E, not by number', 7, [(1, 6), (1, 7), (2, 3), (2, 4), (3, 4), (3, 6), (5, 6)]),
     ('equal', 'several pieces of equal size: the lowest number first, each against the counts as they then are', 6,
      [(1, 2), (1, 4), (1, 5), (1, 6), (2, 3)]),
     ('larger', 'larger pieces first; a second part', 8,
@@ -48,7 +48,7 @@ GRAPHS = [
      [(1, 3), (1, 6), (1, 9), (2, 4), (2, 7), (3, 4), (3, 8), (4, 5), (4, 6), (5, 6), (5, 7), (5, 9), (7, 8), (7, 9)]),
     ('directions', 'three parts, Forward beside Reversed', 7, [(1, 2), (1, 3), (2, 3), (2, 5), (2, 7), (6, 7)]),
     ('profiles', 'equal profiles stay Forward; equal widths of u and v go by first numbers', 4, [(1, 2), (1, 4), (2, 4)]),
-    ('eachPart', 'parts of two, three and one passes: in the order of the parts, neither by size nor by passes', 16,
+    ('each_part', 'parts of two, three and one passes: in the order of the parts, neither by size nor by passes', 16,
      [(1, 12), (2, 8), (2, 16), (4, 6), (4, 12), (5, 10), (5, 16), (7, 8), (7, 10), (9, 12), (9, 14), (11, 13), (11, 15), (13, 15), (15, 16)]),
     ('isolated', 'two isolated nodes: a pass each', 2, []),
 ]
@@ -119,24 +119,24 @@ FILES = [
 HEAD = '''-- A second table by computation: graphs chosen so that each slip of document 01 and each tie rule shows, the passes of each part, reverse
 -- Cuthill-McKee, the order of the refusals, the sizes of levels, and elements that have a node more than once.
 -- Made by tests/definitions/examples.py: every expected value is the independent program's, tests/reference. Assumes nothing.
-use Prim.Native.Nat.{ℕ, _*_}
-use mathlib.Core.Path.{_≡_, refl}
-use mathlib.Core.List.{List, [], _∷_, _++_}
+use Prim.Native.Nat.{ℕ, ◌*◌}
+use mathlib.Core.Path.{◌≡◌, refl}
+use mathlib.Core.List.{List, [], ◌∷◌, ◌++◌}
 use lib.ListN.{replicate}
-use Rattle·spec·specs.specs.Graph.{sizeOf}
-use Rattle·spec·specs.specs.Ends.{Ends}
-use Rattle·spec·specs.specs.Numbering.{Forward, Reversed, PartReport, Figures}
-use Rattle·spec·specs.specs.Lent.{Outcome, accepted}
-use Rattle·spec·specs.specs.Unknowns.{ones}
-use Rattle·spec·specs.specs.Mesh.{startList, neighbourList}
-use Rattle·spec·specs.specs.File.{fileGraph, fileRefusal}
-use Rattle·spec·specs.specs.CallsLevels.{CombinedFigures, adjacencyAnswer, rootedAnswer, rootedSizes, endsAnswer}
-use Rattle·spec·specs.specs.CallsNumbering.{runAnswer, runPasses, measuresAnswer}
-use Rattle·spec·specs.specs.CallsCuthill.{cuthillAnswer, cuthillNumbers, cuthillLevels, cuthillPasses}
-use Rattle·spec·specs.specs.CallsStore.{EliminationFigures, eliminationAnswer}
-use Rattle·spec·proofs.proofs.Compute.{computes}
-use Rattle·spec·proofs.proofs.Called.{Lists, numberOf, numbersFor, levelsFor, passesFor, figuresFor}
-use Rattle·spec·proofs.proofs.Called.{endsFor, combinedFor, thicknessFor, reportFor, eliminationFor, bytesFor}
+use Rattle.spec.specs.Graph.{size_of}
+use Rattle.spec.specs.Ends.{Ends}
+use Rattle.spec.specs.Numbering.{Forward, Reversed, PartReport, Figures}
+use Rattle.spec.specs.Lent.{Outcome, accepted}
+use Rattle.spec.specs.Unknowns.{ones}
+use Rattle.spec.specs.Mesh.{start_list, neighbour_list}
+use Rattle.spec.specs.File.{file_graph, file_refusal}
+use Rattle.spec.specs.CallsLevels.{CombinedFigures, adjacency_answer, rooted_answer, rooted_sizes, ends_answer}
+use Rattle.spec.specs.CallsNumbering.{run_answer, run_passes, measures_answer}
+use Rattle.spec.specs.CallsCuthill.{cuthill_answer, cuthill_numbers, cuthill_levels, cuthill_passes}
+use Rattle.spec.specs.CallsStore.{EliminationFigures, elimination_answer}
+use Rattle.spec.proofs.Compute.{computes}
+use Rattle.spec.proofs.Called.{Lists, number_of, numbers_for, levels_for, passes_for, figures_for}
+use Rattle.spec.proofs.Called.{ends_for, combined_for, thickness_for, report_for, elimination_for, bytes_for}
 
 -- what the calls say of a graph and of the part of node 1; the elimination is handed the run's numbers and four bytes
 record Found : Type 0 where
@@ -153,16 +153,16 @@ record Found : Type 0 where
 
 found : Lists → Found
 found l = record {
-  ends = endsFor l 1;
-  combined = combinedFor l 1;
-  thickness = thicknessFor l 1;
-  report = reportFor l 1;
-  levels = levelsFor l;
-  numbers = numbersFor l;
-  passes = passesFor l;
-  figures = figuresFor l;
-  marks = eliminationFor l (numbersFor l) 4;
-  bytes = bytesFor l (numbersFor l) 4;
+  ends = ends_for l 1;
+  combined = combined_for l 1;
+  thickness = thickness_for l 1;
+  report = report_for l 1;
+  levels = levels_for l;
+  numbers = numbers_for l;
+  passes = passes_for l;
+  figures = figures_for l;
+  marks = elimination_for l (numbers_for l) 4;
+  bytes = bytes_for l (numbers_for l) 4;
 }
 
 -- what reverse Cuthill-McKee says of a graph, with just enough lent
@@ -174,14 +174,14 @@ record Ordered : Type 0 where
 
 ordered : List ℕ → List ℕ → Ordered
 ordered S N =
-    let c : List ℕ = ones (sizeOf S) in
-    let w : List ℕ = replicate (sizeOf S) 9 in
-    let x : List ℕ = replicate (6 * sizeOf S) 9 in
+    let c : List ℕ = ones (size_of S) in
+    let w : List ℕ = replicate (size_of S) 9 in
+    let x : List ℕ = replicate (6 * size_of S) 9 in
     record {
-      levels = cuthillLevels S N c w w w x;
-      numbers = cuthillNumbers S N c w w w x;
-      passes = cuthillPasses S N c w w w x;
-      figures = cuthillAnswer S N c w w w x;
+      levels = cuthill_levels S N c w w w x;
+      numbers = cuthill_numbers S N c w w w x;
+      passes = cuthill_passes S N c w w w x;
+      figures = cuthill_answer S N c w w w x;
     }
 '''
 
@@ -237,6 +237,14 @@ def listed(name, kind, fields):
         name, kind, name, '\n'.join('  %s = %s;' % (field, bare(term)) for field, term in fields))
 
 
+# Graphs that are called as a definition is: a dash joins such a name with another.
+DEFINED = ('deeper', 'larger', 'narrower')
+
+
+def joined(*names):
+    return ('-' if set(names) & set(DEFINED) else '_').join(names)
+
+
 def graph_rows():
     """The lists of each graph and what is found of it, its fields of the table, and their proofs."""
     lists, fields, proofs = [], [], []
@@ -244,11 +252,11 @@ def graph_rows():
         starts, neighbours = from_edges(n, edges)
         lists.append('-- %s\n' % why
                      + listed(name, 'Lists', [('starts', words(starts)), ('neighbours', words(neighbours))]))
-        lists.append(listed(name + '-found', 'Found', found(n, edges)))
-        lists.append(listed(name + '-ordered', 'Ordered', ordered(n, edges)))
-        fields.append('  is-%s : found %s ≡ %s-found' % (name, name, name))
-        fields.append('  order-of-%s : ordered %s %s ≡ %s-ordered' % (name, words(starts), words(neighbours), name))
-        proofs += ['  is-%s = refl;' % name, '  order-of-%s = refl;' % name]
+        lists.append(listed(joined(name, 'found'), 'Found', found(n, edges)))
+        lists.append(listed(joined(name, 'ordered'), 'Ordered', ordered(n, edges)))
+        fields.append('  is_%s : found %s ≡ %s' % (name, name, joined(name, 'found')))
+        fields.append('  %s : ordered %s %s ≡ %s' % (joined('order_of', name), words(starts), words(neighbours), joined(name, 'ordered')))
+        proofs += ['  is_%s = refl;' % name, '  %s = refl;' % joined('order_of', name)]
     return lists, fields, proofs
 
 
@@ -257,10 +265,10 @@ def refusal_rows():
     fields, proofs = [], []
     for number, (why, *given) in enumerate(REFUSALS):
         starts, neighbours, node, numbering, per_node = given
-        fields.append('  -- %s\n  refusals-%d : refusals %s %s %d %s %d ≡ %s' % (
+        fields.append('  -- %s\n  refusals_%d : refusals %s %s %d %s %d ≡ %s' % (
             why, number + 1, words(starts), words(neighbours), node, words(numbering),
             per_node, words(refusals(*given))))
-        proofs.append('  refusals-%d = refl;' % (number + 1))
+        proofs.append('  refusals_%d = refl;' % (number + 1))
     return fields, proofs
 
 
@@ -269,10 +277,10 @@ def size_rows():
     fields, proofs = [], []
     for number, (why, n, edges, root, *lengths) in enumerate(SIZES, 1):
         given, (levels, sizes) = (*from_edges(n, edges), root), map(buffer, lengths)
-        left = 'rootedSizes %s %s %d %s %s' % (*map(words, given[:2]), root, words(levels), words(sizes))
+        left = 'rooted_sizes %s %s %d %s %s' % (*map(words, given[:2]), root, words(levels), words(sizes))
         calls.rooted_levels(*given, levels, sizes)
-        fields.append('  -- %s\n  sizes-%d : %s ≡ %s' % (why, number, left, words(sizes)))
-        proofs.append('  sizes-%d = refl;' % number)
+        fields.append('  -- %s\n  sizes_%d : %s ≡ %s' % (why, number, left, words(sizes)))
+        proofs.append('  sizes_%d = refl;' % number)
     return fields, proofs
 
 
@@ -286,9 +294,9 @@ def pass_rows():
         for name, call in ('run', calls.whole_run), ('cuthill', calls.reverse_cuthill_mckee):
             after = [list(one) for one in lent]
             refusal = refusal_of(call(*given, *after))
-            fields.append('  %s-%d-refusal : numberOf (%sAnswer %s) ≡ %d' % (name, number, name, arguments, refusal))
-            fields.append('  %s-%d-passes : %sPasses %s ≡ %s' % (name, number, name, arguments, words(after[2])))
-            proofs += ['  %s-%d-refusal = refl;' % (name, number), '  %s-%d-passes = refl;' % (name, number)]
+            fields.append('  %s_%d_refusal : number_of (%s_answer %s) ≡ %d' % (name, number, name, arguments, refusal))
+            fields.append('  %s_%d_passes : %s_passes %s ≡ %s' % (name, number, name, arguments, words(after[2])))
+            proofs += ['  %s_%d_refusal = refl;' % (name, number), '  %s_%d_passes = refl;' % (name, number)]
     return fields, proofs
 
 
@@ -303,7 +311,7 @@ def file_lists(file):
     n = listing.nodes_of_file(file)
     starts, neighbours = buffer(n + 1), buffer(MOST_ENTRIES)
     _, (entries,) = calls.mesh(n, listing.words_of_elements(file), starts, neighbours, buffer(n))
-    return [('starts', 'startList', starts), ('neighbours', 'neighbourList', neighbours[:entries])]
+    return [('starts', 'start_list', starts), ('neighbours', 'neighbour_list', neighbours[:entries])]
 
 
 def file_rows():
@@ -312,11 +320,11 @@ def file_rows():
     for number, (why, mark, values, more) in enumerate(FILES, 1):
         file = mark + b''.join(value.to_bytes(2, 'little') for value in values) + more
         refusal = file_refusal(file)
-        fields.append('  -- %s\n  file-%d : fileRefusal %s ≡ %d' % (why, number, words(file), refusal))
-        proofs.append('  file-%d = refl;' % number)
+        fields.append('  -- %s\n  file_%d : file_refusal %s ≡ %d' % (why, number, words(file), refusal))
+        proofs.append('  file_%d = refl;' % number)
         for name, of_graph, due in [] if refusal else file_lists(file):
-            fields.append('  file-%d-%s : %s (fileGraph %s) ≡ %s' % (number, name, of_graph, words(file), words(due)))
-            proofs.append('  file-%d-%s = refl;' % (number, name))
+            fields.append('  file_%d_%s : %s (file_graph %s) ≡ %s' % (number, name, of_graph, words(file), words(due)))
+            proofs.append('  file_%d_%s = refl;' % (number, name))
     return fields, proofs
 
 
@@ -324,15 +332,15 @@ REFUSED = '''-- what the adjacency test, rooted levels, ends, run, reverse Cuthi
 -- node and no mark byte
 refusals : List ℕ → List ℕ → ℕ → List ℕ → ℕ → List ℕ
 refusals S N node x k =
-    let c : List ℕ = ones (sizeOf S) in
-    let w : List ℕ = replicate (k * sizeOf S) 9 in
-    numberOf (adjacencyAnswer S N)
-    ∷ numberOf (rootedAnswer S N node w w)
-    ∷ numberOf (endsAnswer S N node w)
-    ∷ numberOf (runAnswer S N c w w w w)
-    ∷ numberOf (cuthillAnswer S N c w w w w)
-    ∷ numberOf (measuresAnswer S N c x w)
-    ∷ numberOf (eliminationAnswer S N c x w [])
+    let c : List ℕ = ones (size_of S) in
+    let w : List ℕ = replicate (k * size_of S) 9 in
+    number_of (adjacency_answer S N)
+    ∷ number_of (rooted_answer S N node w w)
+    ∷ number_of (ends_answer S N node w)
+    ∷ number_of (run_answer S N c w w w w)
+    ∷ number_of (cuthill_answer S N c w w w w)
+    ∷ number_of (measures_answer S N c x w)
+    ∷ number_of (elimination_answer S N c x w [])
     ∷ []
 '''
 
@@ -343,13 +351,13 @@ def text():
     sizes, sized = size_rows()
     passes, passed = pass_rows()
     files, read = file_rows()
-    names = ' '.join('%s %s-found %s-ordered' % (name, name, name) for name, *_ in GRAPHS)
+    names = ' '.join(' '.join((name, joined(name, 'found'), joined(name, 'ordered'))) for name, *_ in GRAPHS)
     return '\n'.join([
         HEAD,
         REFUSED, *lists, 'record ExampleTable : Type 0 where', *fields, *more, *sizes, *passes, *files,
-        '\n-- the whole table\nexample-table : ExampleTable',
-        'unfolding computes found ordered numberOf refusals ' + names,
-        'example-table = record {', *proofs, *refused, *sized, *passed, *read, '}', ''])
+        '\n-- the whole table\nexample_table : ExampleTable',
+        'unfolding computes found ordered number_of refusals ' + names,
+        'example_table = record {', *proofs, *refused, *sized, *passed, *read, '}', ''])
 
 
 if __name__ == '__main__':

@@ -43,28 +43,28 @@ def of_graph(i):
     counted = lists + (i.counts,)
     run = (i.numbers, i.levels, i.passes, i.scratch)
     return (
-        of_call(calls.adjacency_test, lists, (), 'adjacencyAnswer', nothing, ())
+        of_call(calls.adjacency_test, lists, (), 'adjacency_answer', nothing, ())
         + of_call(calls.rooted_levels, lists + (i.node,), (i.levels, i.sizes),
-                  'rootedAnswer', figures(LEVEL_FIGURES), ('rootedLevels', 'rootedSizes'))
-        + of_call(calls.ends, lists + (i.node,), (i.scratch,), 'endsAnswer', figures(ENDS), ('endsScratch',))
+                  'rooted_answer', figures(LEVEL_FIGURES), ('rooted_levels', 'rooted_sizes'))
+        + of_call(calls.ends, lists + (i.node,), (i.scratch,), 'ends_answer', figures(ENDS), ('ends_scratch',))
         + of_call(calls.combined_levels, lists + (i.node,), (i.levels, i.scratch),
-                  'combinedAnswer', figures(COMBINED_FIGURES), ('combinedLevels', 'combinedScratch'))
+                  'combined_answer', figures(COMBINED_FIGURES), ('combined_levels', 'combined_scratch'))
         + of_call(calls.part_report, counted + (i.node,), (i.scratch,),
-                  'reportAnswer', figures(PART_REPORT), ('reportScratch',))
+                  'report_answer', figures(PART_REPORT), ('report_scratch',))
         + of_call(calls.whole_run, counted, run,
-                  'runAnswer', figures(FIGURES), ('runNumbers', 'runLevels', 'runPasses', 'runScratch'))
+                  'run_answer', figures(FIGURES), ('run_numbers', 'run_levels', 'run_passes', 'run_scratch'))
         + of_call(calls.reverse_cuthill_mckee, counted, run,
-                  'cuthillAnswer', figures(FIGURES), ('cuthillNumbers', 'cuthillLevels', 'cuthillPasses', 'cuthillScratch'))
+                  'cuthill_answer', figures(FIGURES), ('cuthill_numbers', 'cuthill_levels', 'cuthill_passes', 'cuthill_scratch'))
         + of_call(calls.measures, counted + (i.numbering,), (i.words,),
-                  'measuresAnswer', figures(MEASURE_FIGURES), ('measuresScratch',))
+                  'measures_answer', figures(MEASURE_FIGURES), ('measures_scratch',))
         + of_call(calls.elimination, counted + (i.numbering,), (i.words, i.bytes),
-                  'eliminationAnswer', figures(ELIMINATION_FIGURES), ('eliminationScratch', 'eliminationBytes'))
+                  'elimination_answer', figures(ELIMINATION_FIGURES), ('elimination_scratch', 'elimination_bytes'))
         + of_call(calls.store_map, counted + (i.numbering,), (i.words, i.first, i.place),
-                  'storeMapAnswer', figures(MAP_FIGURES), ('storeMapScratch', 'storeMapFirst', 'storeMapPlace'))
+                  'store_map_answer', figures(MAP_FIGURES), ('store_map_scratch', 'store_map_first', 'store_map_place'))
         + of_call(calls.run_and_eliminate, counted, run + (i.bytes,),
-                  'runEliminateAnswer', run_elimination, (None, None, None, None, 'runEliminateBytes'))
+                  'run_eliminate_answer', run_elimination, (None, None, None, None, 'run_eliminate_bytes'))
         + of_call(calls.cuthill_and_eliminate, counted, run + (i.bytes,),
-                  'cuthillEliminateAnswer', run_elimination, (None, None, None, None, 'cuthillEliminateBytes')))
+                  'cuthill_eliminate_answer', run_elimination, (None, None, None, None, 'cuthill_eliminate_bytes')))
 
 
 def of_store(i):
@@ -73,17 +73,17 @@ def of_store(i):
     graph = (i.starts, i.neighbours)
     if calls.adjacency_test(*graph)[0] == 'refused':
         return []
-    n, lists = len(i.starts) - 1, 'graphOf %s' % terms(*graph)
+    n, lists = len(i.starts) - 1, 'graph_of %s' % terms(*graph)
     back = numbers_before_turning(graph)
     places, _, _, bits = store_of(graph, back)
-    rows = [('connected (%s)' % lists, truth(is_connected(graph))), ('beforeTurning (%s)' % lists, words(back)),
-            ('fullBytes %d' % places, words(sum(bit << t for t, bit in enumerate(bits[at:at + 8])) for at in range(0, len(bits), 8)))]
+    rows = [('connected (%s)' % lists, truth(is_connected(graph))), ('before_turning (%s)' % lists, words(back)),
+            ('full_bytes %d' % places, words(sum(bit << t for t, bit in enumerate(bits[at:at + 8])) for at in range(0, len(bits), 8)))]
     for numbers in (back, i.numbering):
         if sorted(numbers) == list(range(1, n + 1)):
-            rows.append(('lowerNeighbours (renumbered (%s) %s)' % (lists, words(numbers)), truth(not without_lower(graph, numbers))))
+            rows.append(('lower_neighbours (renumbered (%s) %s)' % (lists, words(numbers)), truth(not without_lower(graph, numbers))))
     if is_connected(graph):
         turned = called(calls.reverse_cuthill_mckee, graph + (ones(n),), [[9] * n, [9] * n, [9] * n, [9] * calls.scratch_words(n)])[1][0]
-        rows.append(('turnedBack %s' % terms(n, turned), words(back)))
+        rows.append(('turned_back %s' % terms(n, turned), words(back)))
     return rows
 
 
@@ -92,24 +92,24 @@ def of_import(i):
     lists, lent = (i.starts, i.neighbours, i.counts, i.pairs), (i.numbers, i.scratch)
     arguments = '%s %s %s' % (terms(*lists), record(MEASURE_FIGURES, i.figures), terms(*lent))
     answer, after = called(calls.import_numbering, lists + tuple(i.figures), lent)
-    rows = [('importAnswer', outcome(answer, nothing))] + [(name, words(buffer)) for name, buffer in zip(('importNumbers', 'importScratch'), after)]
+    rows = [('import_answer', outcome(answer, nothing))] + [(name, words(buffer)) for name, buffer in zip(('import_numbers', 'import_scratch'), after)]
     return [('%s %s' % (name, arguments), due) for name, due in rows]
 
 
 def of_mesh(i):
     """Equations for the mesh call."""
     return of_call(calls.mesh, (i.n, i.elements), (i.starts, i.neighbours, i.scratch),
-                   'meshAnswer', one_number, ('meshStarts', 'meshNeighbours', 'meshScratch'))
+                   'mesh_answer', one_number, ('mesh_starts', 'mesh_neighbours', 'mesh_scratch'))
 
 
 def of_file(file):
     """Equations for the program on a file: its refusal, what it prints, and the graph and the counts of a file that it accepts."""
     text, given = text_for(file), words(file)
     refused = text.startswith(b'refused ')
-    rows = [('fileRefusal %s' % given, text.split()[1].decode('ascii') if refused else '0'), ('programOutput %s' % given, words(text))]
+    rows = [('file_refusal %s' % given, text.split()[1].decode('ascii') if refused else '0'), ('program_output %s' % given, words(text))]
     if refused:
         return rows
     n = nodes_of_file(file)
     (_, (entries,)), (starts, neighbours, _) = called(calls.mesh, (n, words_of_elements(file)), ([0] * (n + 1), [0] * MOST_ENTRIES, [0] * n))
-    return rows + [('startList (fileGraph %s)' % given, words(starts)), ('neighbourList (fileGraph %s)' % given, words(neighbours[:entries])),
-                   ('fileCounts %s' % given, words(counts_of_file(file)))]
+    return rows + [('start_list (file_graph %s)' % given, words(starts)), ('neighbour_list (file_graph %s)' % given, words(neighbours[:entries])),
+                   ('file_counts %s' % given, words(counts_of_file(file)))]

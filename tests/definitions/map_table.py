@@ -41,13 +41,13 @@ HEAD = '''-- The store map on small graphs: a table by computation. Every value 
 -- worked by hand. Every list is lent full of 9s, so that a word that the call writes shows.
 -- Made by tests/definitions/map_table.py from tests/reference. Assumes nothing.
 use Prim.Native.Nat.{ℕ}
-use mathlib.Core.Path.{_≡_, refl}
-use mathlib.Core.List.{List, [], _∷_, _++_}
+use mathlib.Core.Path.{◌≡◌, refl}
+use mathlib.Core.List.{List, [], ◌∷◌, ◌++◌}
 use lib.ListN.{replicate}
-use Rattle·spec·specs.specs.Lent.{Outcome, accepted, refused}
-use Rattle·spec·specs.specs.CallsMap.{MapFigures, storeMapAnswer, storeMapScratch, storeMapFirst, storeMapPlace}
-use Rattle·spec·proofs.proofs.Compute.{computes}
-use Rattle·spec·proofs.proofs.Called.{Lists}
+use Rattle.spec.specs.Lent.{Outcome, accepted, refused}
+use Rattle.spec.specs.CallsMap.{MapFigures, store_map_answer, store_map_scratch, store_map_first, store_map_place}
+use Rattle.spec.proofs.Compute.{computes}
+use Rattle.spec.proofs.Called.{Lists}
 
 -- ---- what the call answers and leaves, with so much lent
 
@@ -63,10 +63,10 @@ lent k = replicate k 9
 -- a graph, counts, a numbering; the lengths of scratch, first and place
 mapped : Lists → List ℕ → List ℕ → ℕ → ℕ → ℕ → Mapped
 mapped l c x w f p = record {
-  answer = storeMapAnswer (l .starts) (l .neighbours) c x (lent w) (lent f) (lent p);
-  scratch = storeMapScratch (l .starts) (l .neighbours) c x (lent w) (lent f) (lent p);
-  first = storeMapFirst (l .starts) (l .neighbours) c x (lent w) (lent f) (lent p);
-  place = storeMapPlace (l .starts) (l .neighbours) c x (lent w) (lent f) (lent p);
+  answer = store_map_answer l.starts l.neighbours c x (lent w) (lent f) (lent p);
+  scratch = store_map_scratch l.starts l.neighbours c x (lent w) (lent f) (lent p);
+  first = store_map_first l.starts l.neighbours c x (lent w) (lent f) (lent p);
+  place = store_map_place l.starts l.neighbours c x (lent w) (lent f) (lent p);
 }
 
 left : Outcome MapFigures → List ℕ → List ℕ → List ℕ → Mapped
@@ -119,37 +119,37 @@ def room(graph, counts, numbering, more=0):
 ROWS = [
     ('lone', 'a lone node of one has a row without places; of six, rows of 0, 1, .. 5: "Any two of one node .. adjoin"', *room('one', [1], [1])),
     ('six', '', *room('one', [6], [1])),
-    ('six-more', 'longer lists keep their excess', *room('one', [6], [1], 2)),
+    ('six_more', 'longer lists keep their excess', *room('one', [6], [1], 2)),
     ('apart', 'the rows of the second node begin at its own first unknown', *room('two', [2, 3], [1, 2])),
-    ('other-way', 'rows go by new number, counts by old: the three come first', *room('two', [2, 3], [2, 1])),
+    ('other_way', 'rows go by new number, counts by old: the three come first', *room('two', [2, 3], [2, 1])),
     ('pair-map', 'the rows of the later node reach back to the first unknown of the other', *room('pair', [2, 3], [1, 2])),
-    ('pair-turned', '', *room('pair', [2, 3], [2, 1], 1)),
+    ('pair_turned', '', *room('pair', [2, 3], [2, 1], 1)),
     ('ones', '"f_q is the least of q and its neighbours", one unknown each', *room('sample', [1] * 5, [1, 2, 3, 4, 5])),
-    ('sample-map', '', *room('sample', [2, 1, 1, 3, 1], [1, 2, 3, 4, 5])),
+    ('sample_map', '', *room('sample', [2, 1, 1, 3, 1], [1, 2, 3, 4, 5])),
     ('path-map', 'row 2 begins at its own node though a later node reaches past it', *room('path', [2, 1, 3, 1], [1, 2, 3, 4])),
-    ('ring-map', '', *room('ring', [1, 2, 3, 1], [1, 2, 4, 3])),
-    ('star-map', 'rows 2 and 3 begin at the same place: row 2 has none', *room('star', [6, 1, 1, 1], [3, 4, 2, 1])),
+    ('ring_map', '', *room('ring', [1, 2, 3, 1], [1, 2, 4, 3])),
+    ('star_map', 'rows 2 and 3 begin at the same place: row 2 has none', *room('star', [6, 1, 1, 1], [3, 4, 2, 1])),
     ('parts-map', 'several parts', *room('parts', [2, 1, 1, 3, 1, 2, 1, 1], [1, 5, 2, 8, 3, 7, 4, 6])),
-    ('one-due', '1 to 4 come first, whatever else is handed in', 'none', [], [], 0, 0, 0),
-    ('two-due', '', 'falling', [], [], 0, 0, 0),
-    ('three-due', '', 'itself', [], [], 0, 0, 0),
-    ('four-due', '', 'unpaired', [], [], 0, 0, 0),
-    ('four-lent', '', 'unpaired', [1, 1], [1, 2], 2, 12, 13),
-    ('short-scratch', '5, "whatever the counts": a word of scratch, of first or of place too few; before 15 and 7', 'pair', [1, 1], [1, 2], 1, 12, 13),
+    ('one_due', '1 to 4 come first, whatever else is handed in', 'none', [], [], 0, 0, 0),
+    ('two_due', '', 'falling', [], [], 0, 0, 0),
+    ('three_due', '', 'itself', [], [], 0, 0, 0),
+    ('four_due', '', 'unpaired', [], [], 0, 0, 0),
+    ('four_lent', '', 'unpaired', [1, 1], [1, 2], 2, 12, 13),
+    ('short_scratch', '5, "whatever the counts": a word of scratch, of first or of place too few; before 15 and 7', 'pair', [1, 1], [1, 2], 1, 12, 13),
     ('short-first', '', 'pair', [1, 1], [1, 2], 2, 11, 13),
     ('short-place', '', 'pair', [1, 1], [1, 2], 2, 12, 12),
-    ('enough-for-these', '', 'pair', [1, 1], [1, 2], 2, 2, 3),
-    ('five-first', '', 'pair', [0, 7], [1, 1], 2, 12, 12),
-    ('count-zero', '15: a count of 0, a count of 7, a word too few, a word too many; before 7, and nothing is written', *room('pair', [0, 1], [1, 2])),
-    ('count-seven', '', *room('pair', [1, 7], [1, 2])),
-    ('count-few', '', *room('pair', [1], [1, 2])),
-    ('count-many', '', *room('pair', [1, 1, 1], [1, 2])),
-    ('count-first', '', *room('pair', [0, 1], [1, 1])),
+    ('enough_for_these', '', 'pair', [1, 1], [1, 2], 2, 2, 3),
+    ('five_first', '', 'pair', [0, 7], [1, 1], 2, 12, 12),
+    ('count_zero', '15: a count of 0, a count of 7, a word too few, a word too many; before 7, and nothing is written', *room('pair', [0, 1], [1, 2])),
+    ('count_seven', '', *room('pair', [1, 7], [1, 2])),
+    ('count_few', '', *room('pair', [1], [1, 2])),
+    ('count_many', '', *room('pair', [1, 1, 1], [1, 2])),
+    ('count_first', '', *room('pair', [0, 1], [1, 1])),
     ('twice', '7: a number twice, 0, above n, a word too few, a word too many; the n scratch words are 0', *room('pair', [2, 3], [1, 1], 1)),
-    ('number-zero', '', *room('pair', [2, 3], [0, 1])),
+    ('number_zero', '', *room('pair', [2, 3], [0, 1])),
     ('number-above', '', *room('pair', [2, 3], [1, 3])),
-    ('number-few', '', *room('pair', [2, 3], [1])),
-    ('number-many', '', *room('pair', [2, 3], [1, 2, 1], 1)),
+    ('number_few', '', *room('pair', [2, 3], [1])),
+    ('number_many', '', *room('pair', [2, 3], [1, 2, 1], 1)),
 ]
 
 
@@ -170,8 +170,8 @@ def graph(name, why, lists):
 def text():
     return '\n'.join([
         HEAD, *[graph(*one) for one in GRAPHS], '-- ---- the table\n', 'record MapTable : Type 0 where', *[row(*one) for one in ROWS], '',
-        'map-table : MapTable', ' '.join(['unfolding computes lent mapped left fills stays'] + [name for name, *_ in GRAPHS]),
-        'map-table = record {', *['  %s = refl;' % name for name, *_ in ROWS], '}', ''])
+        'map_table : MapTable', ' '.join(['unfolding computes lent mapped left fills stays'] + [name for name, *_ in GRAPHS]),
+        'map_table = record {', *['  %s = refl;' % name for name, *_ in ROWS], '}', ''])
 
 
 if __name__ == '__main__':

@@ -40,18 +40,18 @@ HEAD = '''-- Unknowns per node (document 02, A.6) on small graphs and files: a t
 -- unknowns one by one; a few can be worked by hand. Every buffer is lent full of 9s, so that a word that a call writes shows.
 -- Made by tests/definitions/unknown_table.py from tests/reference. Assumes nothing.
 use Prim.Native.Nat.{ℕ}
-use mathlib.Core.Path.{_≡_, refl}
-use mathlib.Core.List.{List, [], _∷_}
+use mathlib.Core.Path.{◌≡◌, refl}
+use mathlib.Core.List.{List, [], ◌∷◌}
 use lib.ListN.{replicate}
-use Rattle·spec·specs.specs.Numbering.{Forward, Reversed, Direction, PartReport, Figures}
-use Rattle·spec·specs.specs.Text.{ascii}
-use Rattle·spec·specs.specs.File.{fileRefusal, programOutput}
-use Rattle·spec·specs.specs.Lent.{Outcome, accepted}
-use Rattle·spec·specs.specs.CallsNumbering.{MeasureFigures, measuresAnswer, measuresScratch, reportAnswer, reportScratch, runAnswer, runNumbers, runLevels, runPasses, runScratch}
-use Rattle·spec·specs.specs.CallsCuthill.{cuthillAnswer, cuthillNumbers, cuthillLevels, cuthillPasses, cuthillScratch}
-use Rattle·spec·specs.specs.CallsStore.{EliminationFigures, eliminationAnswer, eliminationScratch, eliminationBytes}
-use Rattle·spec·proofs.proofs.Compute.{computes}
-use Rattle·spec·proofs.proofs.Called.{Lists, numberOf, words, seven}
+use Rattle.spec.specs.Numbering.{Forward, Reversed, Direction, PartReport, Figures}
+use Rattle.spec.specs.Text.{ascii}
+use Rattle.spec.specs.File.{file_refusal, program_output}
+use Rattle.spec.specs.Lent.{Outcome, accepted}
+use Rattle.spec.specs.CallsNumbering.{MeasureFigures, measures_answer, measures_scratch, report_answer, report_scratch, run_answer, run_numbers, run_levels, run_passes, run_scratch}
+use Rattle.spec.specs.CallsCuthill.{cuthill_answer, cuthill_numbers, cuthill_levels, cuthill_passes, cuthill_scratch}
+use Rattle.spec.specs.CallsStore.{EliminationFigures, elimination_answer, elimination_scratch, elimination_bytes}
+use Rattle.spec.proofs.Compute.{computes}
+use Rattle.spec.proofs.Called.{Lists, number_of, words, seven}
 
 -- ---- what is found of a graph with these counts
 
@@ -64,10 +64,10 @@ record Found : Type 0 where
 
 found : Lists → List ℕ → Found
 found l c = record {
-  report = reportAnswer (l .starts) (l .neighbours) c 1 (words l 6);
-  levels = runLevels (l .starts) (l .neighbours) c (words l 1) (words l 1) (words l 1) (words l 6);
-  numbers = runNumbers (l .starts) (l .neighbours) c (words l 1) (words l 1) (words l 1) (words l 6);
-  figures = runAnswer (l .starts) (l .neighbours) c (words l 1) (words l 1) (words l 1) (words l 6);
+  report = report_answer l.starts l.neighbours c 1 (words l 6);
+  levels = run_levels l.starts l.neighbours c (words l 1) (words l 1) (words l 1) (words l 6);
+  numbers = run_numbers l.starts l.neighbours c (words l 1) (words l 1) (words l 1) (words l 6);
+  figures = run_answer l.starts l.neighbours c (words l 1) (words l 1) (words l 1) (words l 6);
 }
 
 -- by A.3's call
@@ -78,9 +78,9 @@ record Ordered : Type 0 where
 
 ordered : Lists → List ℕ → Ordered
 ordered l c = record {
-  levels = cuthillLevels (l .starts) (l .neighbours) c (words l 1) (words l 1) (words l 1) (words l 6);
-  numbers = cuthillNumbers (l .starts) (l .neighbours) c (words l 1) (words l 1) (words l 1) (words l 6);
-  figures = cuthillAnswer (l .starts) (l .neighbours) c (words l 1) (words l 1) (words l 1) (words l 6);
+  levels = cuthill_levels l.starts l.neighbours c (words l 1) (words l 1) (words l 1) (words l 6);
+  numbers = cuthill_numbers l.starts l.neighbours c (words l 1) (words l 1) (words l 1) (words l 6);
+  figures = cuthill_answer l.starts l.neighbours c (words l 1) (words l 1) (words l 1) (words l 6);
 }
 
 -- by the measures and the elimination under a numbering, with five bytes lent
@@ -91,14 +91,14 @@ record Stored : Type 0 where
 
 stored : Lists → List ℕ → List ℕ → Stored
 stored l c x = record {
-  measures = measuresAnswer (l .starts) (l .neighbours) c x (words l 1);
-  counts = eliminationAnswer (l .starts) (l .neighbours) c x (words l 1) (replicate 5 9);
-  bytes = eliminationBytes (l .starts) (l .neighbours) c x (words l 1) (replicate 5 9);
+  measures = measures_answer l.starts l.neighbours c x (words l 1);
+  counts = elimination_answer l.starts l.neighbours c x (words l 1) (replicate 5 9);
+  bytes = elimination_bytes l.starts l.neighbours c x (words l 1) (replicate 5 9);
 }
 
 -- bandwidth, profile and front, the marks that are 1 and the newly joined pairs, and the bytes
-with-store : ℕ → ℕ → ℕ → ℕ → ℕ → List ℕ → Stored
-with-store b p f m k bs = record {
+with_store : ℕ → ℕ → ℕ → ℕ → ℕ → List ℕ → Stored
+with_store b p f m k bs = record {
   measures = accepted (record { bandwidth = b; profile = p; front = f });
   counts = accepted (record { marked = m; new = k });
   bytes = bs;
@@ -124,35 +124,35 @@ lent k = replicate k 9
 numbering : Lists → List ℕ → ℕ → ℕ → Left
 numbering l c i k =
     leaves
-    (numberOf (runAnswer (l .starts) (l .neighbours) c (lent i) (lent i) (lent i) (lent k))
-    ∷ numberOf (cuthillAnswer (l .starts) (l .neighbours) c (lent i) (lent i) (lent i) (lent k))
+    (number_of (run_answer l.starts l.neighbours c (lent i) (lent i) (lent i) (lent k))
+    ∷ number_of (cuthill_answer l.starts l.neighbours c (lent i) (lent i) (lent i) (lent k))
     ∷ [])
-    (runNumbers (l .starts) (l .neighbours) c (lent i) (lent i) (lent i) (lent k)
-    ∷ runLevels (l .starts) (l .neighbours) c (lent i) (lent i) (lent i) (lent k)
-    ∷ runPasses (l .starts) (l .neighbours) c (lent i) (lent i) (lent i) (lent k)
-    ∷ runScratch (l .starts) (l .neighbours) c (lent i) (lent i) (lent i) (lent k)
-    ∷ cuthillNumbers (l .starts) (l .neighbours) c (lent i) (lent i) (lent i) (lent k)
-    ∷ cuthillLevels (l .starts) (l .neighbours) c (lent i) (lent i) (lent i) (lent k)
-    ∷ cuthillPasses (l .starts) (l .neighbours) c (lent i) (lent i) (lent i) (lent k)
-    ∷ cuthillScratch (l .starts) (l .neighbours) c (lent i) (lent i) (lent i) (lent k)
+    (run_numbers l.starts l.neighbours c (lent i) (lent i) (lent i) (lent k)
+    ∷ run_levels l.starts l.neighbours c (lent i) (lent i) (lent i) (lent k)
+    ∷ run_passes l.starts l.neighbours c (lent i) (lent i) (lent i) (lent k)
+    ∷ run_scratch l.starts l.neighbours c (lent i) (lent i) (lent i) (lent k)
+    ∷ cuthill_numbers l.starts l.neighbours c (lent i) (lent i) (lent i) (lent k)
+    ∷ cuthill_levels l.starts l.neighbours c (lent i) (lent i) (lent i) (lent k)
+    ∷ cuthill_passes l.starts l.neighbours c (lent i) (lent i) (lent i) (lent k)
+    ∷ cuthill_scratch l.starts l.neighbours c (lent i) (lent i) (lent i) (lent k)
     ∷ [])
 
 -- the report of node z's part
 reporting : Lists → List ℕ → ℕ → ℕ → Left
 reporting l c z k =
-    leaves (numberOf (reportAnswer (l .starts) (l .neighbours) c z (lent k)) ∷ [])
-    (reportScratch (l .starts) (l .neighbours) c z (lent k) ∷ [])
+    leaves (number_of (report_answer l.starts l.neighbours c z (lent k)) ∷ [])
+    (report_scratch l.starts l.neighbours c z (lent k) ∷ [])
 
 -- the measures and the elimination under a numbering, with k words and b bytes lent
 storing : Lists → List ℕ → List ℕ → ℕ → ℕ → Left
 storing l c x k b =
     leaves
-    (numberOf (measuresAnswer (l .starts) (l .neighbours) c x (lent k))
-    ∷ numberOf (eliminationAnswer (l .starts) (l .neighbours) c x (lent k) (lent b))
+    (number_of (measures_answer l.starts l.neighbours c x (lent k))
+    ∷ number_of (elimination_answer l.starts l.neighbours c x (lent k) (lent b))
     ∷ [])
-    (measuresScratch (l .starts) (l .neighbours) c x (lent k)
-    ∷ eliminationScratch (l .starts) (l .neighbours) c x (lent k) (lent b)
-    ∷ eliminationBytes (l .starts) (l .neighbours) c x (lent k) (lent b)
+    (measures_scratch l.starts l.neighbours c x (lent k)
+    ∷ elimination_scratch l.starts l.neighbours c x (lent k) (lent b)
+    ∷ elimination_bytes l.starts l.neighbours c x (lent k) (lent b)
     ∷ [])
 
 -- ---- the graphs
@@ -202,7 +202,7 @@ def stored(graph, counts, numbering):
     n, mark_bytes = len(LISTS[graph][0]) - 1, lent(5)
     figures = numbers_of(calls.measures(*LISTS[graph], counts, numbering, lent(n)))
     figures += numbers_of(calls.elimination(*LISTS[graph], counts, numbering, lent(n), mark_bytes))
-    return '%s %s' % (said('with-store', figures), words(mark_bytes))
+    return '%s %s' % (said('with_store', figures), words(mark_bytes))
 
 
 def left(*called):
@@ -233,83 +233,83 @@ def storing(graph, counts, numbers, k, b):
 
 # Rows: name, what it shows ('' where the row before says it), what is asked, the graph, the counts, what else is given.
 ROWS = [
-    ('six-run', 'a lone node of six: "Any two of one node .. adjoin and are joined from the start", so 5, 6 · 5 / 2 and 6; none of the 15 pairs '
+    ('six_run', 'a lone node of six: "Any two of one node .. adjoin and are joined from the start", so 5, 6 · 5 / 2 and 6; none of the 15 pairs '
      'is new',
      found, 'one', [6]),
-    ('six-store', '', stored, 'one', [6], [1]),
-    ('pair-store', 'a pair of two and three: by numbers 2, 1 the three come first, whatever is their old number', stored, 'pair', [2, 3], [2, 1]),
-    ('ring-run', 'two each on the ring: bandwidth 2 (2 + 1) − 1, front 2 · 3, and the one new pair of nodes is four of unknowns',
+    ('six_store', '', stored, 'one', [6], [1]),
+    ('pair_store', 'a pair of two and three: by numbers 2, 1 the three come first, whatever is their old number', stored, 'pair', [2, 3], [2, 1]),
+    ('ring_run', 'two each on the ring: bandwidth 2 (2 + 1) − 1, front 2 · 3, and the one new pair of nodes is four of unknowns',
      found, 'ring', [2] * 4),
-    ('ring-store', '', stored, 'ring', [2] * 4, [1, 2, 4, 3]),
-    ('path-store', 'a store with idle places: of the path\'s four, that of 2-4 is idle, and node 2 has two unknowns',
+    ('ring_store', '', stored, 'ring', [2] * 4, [1, 2, 4, 3]),
+    ('path_store', 'a store with idle places: of the path\'s four, that of 2-4 is idle, and node 2 has two unknowns',
      stored, 'path', [1, 2, 1, 1], [1, 2, 3, 4]),
-    ('star-one', '"turning is decided by the profile in unknowns": this star is not turned with one unknown each, and is turned with these',
+    ('star_one', '"turning is decided by the profile in unknowns": this star is not turned with one unknown each, and is turned with these',
      found, 'star', [1] * 5),
-    ('star-run', '', found, 'star', [2, 2, 2, 2, 1]),
-    ('star-store', '', stored, 'star', [2, 2, 2, 2, 1], [5, 3, 2, 1, 4]),
-    ('star-ordered', 'A.3\'s order does not depend on the counts; its width does', ordered, 'star', [2, 2, 2, 2, 1]),
-    ('tree-run', 'counts that differ from node to node; the widest level is not the one with most nodes', found, 'tree', [1, 1, 2, 1, 3]),
-    ('tree-store', '', stored, 'tree', [1, 1, 2, 1, 3], [4, 5, 2, 3, 1]),
-    ('tree-ordered', '', ordered, 'tree', [1, 1, 2, 1, 3]),
-    ('names-run', '', found, 'names', [1, 3, 1, 2, 1, 1, 2]),
-    ('names-store', '', stored, 'names', [1, 3, 1, 2, 1, 1, 2], [7, 2, 3, 5, 4, 6, 1]),
-    ('names-ordered', '', ordered, 'names', [1, 3, 1, 2, 1, 1, 2]),
+    ('star_run', '', found, 'star', [2, 2, 2, 2, 1]),
+    ('star_store', '', stored, 'star', [2, 2, 2, 2, 1], [5, 3, 2, 1, 4]),
+    ('star_ordered', 'A.3\'s order does not depend on the counts; its width does', ordered, 'star', [2, 2, 2, 2, 1]),
+    ('tree_run', 'counts that differ from node to node; the widest level is not the one with most nodes', found, 'tree', [1, 1, 2, 1, 3]),
+    ('tree_store', '', stored, 'tree', [1, 1, 2, 1, 3], [4, 5, 2, 3, 1]),
+    ('tree_ordered', '', ordered, 'tree', [1, 1, 2, 1, 3]),
+    ('names_run', '', found, 'names', [1, 3, 1, 2, 1, 1, 2]),
+    ('names_store', '', stored, 'names', [1, 3, 1, 2, 1, 1, 2], [7, 2, 3, 5, 4, 6, 1]),
+    ('names_ordered', '', ordered, 'names', [1, 3, 1, 2, 1, 1, 2]),
     ('parts-run', 'several parts: the width is that of node 4, which is alone with three', found, 'parts', [2, 1, 1, 3, 1, 2, 1, 1]),
-    ('parts-store', '', stored, 'parts', [2, 1, 1, 3, 1, 2, 1, 1], [1, 5, 2, 8, 3, 7, 4, 6]),
+    ('parts_store', '', stored, 'parts', [2, 1, 1, 3, 1, 2, 1, 1], [1, 5, 2, 8, 3, 7, 4, 6]),
     ('parts-ordered', '', ordered, 'parts', [2, 1, 1, 3, 1, 2, 1, 1]),
-    ('zero-numbering', '15, "nothing is written": a count of 0, a count of 7, a word too few, a word too many', numbering, 'pair', [0, 1], 3, 13),
-    ('seven-numbering', '', numbering, 'pair', [1, 7], 3, 13),
-    ('few-numbering', '', numbering, 'pair', [1], 3, 13),
-    ('many-numbering', '', numbering, 'pair', [1, 1, 1], 3, 13),
-    ('six-storing', '', storing, 'pair', [6, 6], [1, 1], 3, 1),
-    ('seven-storing', '', storing, 'pair', [7, 6], [1, 2], 3, 1),
-    ('zero-storing', '', storing, 'pair', [1, 0], [1, 2], 3, 1),
-    ('few-storing', '', storing, 'pair', [1], [1, 2], 3, 1),
-    ('many-storing', '', storing, 'pair', [1, 1, 1], [1, 2], 3, 1),
-    ('zero-reporting', '', reporting, 'pair', [0, 1], 1, 13),
-    ('five-numbering', '"after 5": no count, and a short buffer; and after 4', numbering, 'pair', [], 1, 13),
-    ('five-scratch', '', numbering, 'pair', [], 3, 11),
-    ('five-storing', '', storing, 'pair', [], [1, 2], 1, 1),
-    ('five-reporting', '', reporting, 'pair', [], 1, 11),
-    ('four-numbering', '', numbering, 'unpaired', [], 3, 13),
-    ('four-storing', '', storing, 'unpaired', [], [1, 2], 3, 1),
-    ('four-reporting', '', reporting, 'unpaired', [], 1, 13),
-    ('six-after', '"ahead of 6, 7": node 0; a number twice, which by 7 would clear the scratch; and 8, by the profile in unknowns',
+    ('zero_numbering', '15, "nothing is written": a count of 0, a count of 7, a word too few, a word too many', numbering, 'pair', [0, 1], 3, 13),
+    ('seven_numbering', '', numbering, 'pair', [1, 7], 3, 13),
+    ('few_numbering', '', numbering, 'pair', [1], 3, 13),
+    ('many_numbering', '', numbering, 'pair', [1, 1, 1], 3, 13),
+    ('six_storing', '', storing, 'pair', [6, 6], [1, 1], 3, 1),
+    ('seven_storing', '', storing, 'pair', [7, 6], [1, 2], 3, 1),
+    ('zero_storing', '', storing, 'pair', [1, 0], [1, 2], 3, 1),
+    ('few_storing', '', storing, 'pair', [1], [1, 2], 3, 1),
+    ('many_storing', '', storing, 'pair', [1, 1, 1], [1, 2], 3, 1),
+    ('zero_reporting', '', reporting, 'pair', [0, 1], 1, 13),
+    ('five_numbering', '"after 5": no count, and a short buffer; and after 4', numbering, 'pair', [], 1, 13),
+    ('five_scratch', '', numbering, 'pair', [], 3, 11),
+    ('five_storing', '', storing, 'pair', [], [1, 2], 1, 1),
+    ('five_reporting', '', reporting, 'pair', [], 1, 11),
+    ('four_numbering', '', numbering, 'unpaired', [], 3, 13),
+    ('four_storing', '', storing, 'unpaired', [], [1, 2], 3, 1),
+    ('four_reporting', '', reporting, 'unpaired', [], 1, 13),
+    ('six_after', '"ahead of 6, 7": node 0; a number twice, which by 7 would clear the scratch; and 8, by the profile in unknowns',
      reporting, 'pair', [0, 1], 0, 13),
-    ('six-due', '', reporting, 'pair', [1, 1], 0, 13),
+    ('six_due', '', reporting, 'pair', [1, 1], 0, 13),
     ('seven-after', '', storing, 'pair', [0, 1], [1, 1], 3, 1),
-    ('eight-due', '', storing, 'pair', [2, 3], [1, 2], 3, 1),
+    ('eight_due', '', storing, 'pair', [2, 3], [1, 2], 3, 1),
 ]
 
 
 # Files.
 
 def printed(file):
-    return 'programOutput %s' % words(file), 'ascii "%s"' % text_for(file).decode('ascii').replace('\n', '\\n')
+    return 'program_output %s' % words(file), 'ascii "%s"' % text_for(file).decode('ascii').replace('\n', '\\n')
 
 
 def refusal(file):
     answer = text_for(file).split()
     assert answer[0] == b'refused', answer
-    return 'fileRefusal %s' % words(file), answer[1].decode('ascii')
+    return 'file_refusal %s' % words(file), answer[1].decode('ascii')
 
 
 # name, what it shows, what is asked, the words behind the mark, bytes behind them
 FILES = [
-    ('bar-file', '"file version 2 carries that list as n words after the element count": a bar with counts 2 and 3; '
+    ('bar_file', '"file version 2 carries that list as n words after the element count": a bar with counts 2 and 3; '
      'rows, nodes and levels stay in nodes', printed, [2, 2, 1, 2, 3, 1, 1, 2], b''),
-    ('six-file', '', printed, [2, 1, 0, 6], b''),
-    ('one-file', '"Version 1 means one unknown each"', printed, [1, 2, 1, 1, 1, 2], b''),
-    ('seven-file', 'a count of 7, and of 0, before an unknown kind is seen', refusal, [2, 2, 1, 7, 3, 11], b''),
-    ('zero-file', '', refusal, [2, 2, 1, 1, 0, 11], b''),
-    ('cut-file', '"a file ending within the counts is 12 first", even after a bad one; within a word of them too; and 1 comes before both',
+    ('six_file', '', printed, [2, 1, 0, 6], b''),
+    ('one_file', '"Version 1 means one unknown each"', printed, [1, 2, 1, 1, 1, 2], b''),
+    ('seven_file', 'a count of 7, and of 0, before an unknown kind is seen', refusal, [2, 2, 1, 7, 3, 11], b''),
+    ('zero_file', '', refusal, [2, 2, 1, 1, 0, 11], b''),
+    ('cut_file', '"a file ending within the counts is 12 first", even after a bad one; within a word of them too; and 1 comes before both',
      refusal, [2, 2, 0, 7], b''),
-    ('half-file', '', refusal, [2, 2, 0, 1], b'\1'),
-    ('none-file', '', refusal, [2, 2, 0], b''),
-    ('many-file', '', refusal, [2, 4097, 0], b''),
-    ('left-file', 'bytes left over; the elements stand behind the counts; there is no version 3', refusal, [2, 1, 0, 6], b'\0'),
-    ('kind-file', '', refusal, [2, 2, 1, 1, 1, 11], b''),
-    ('third-file', '', refusal, [3, 1, 0, 6], b''),
+    ('half_file', '', refusal, [2, 2, 0, 1], b'\1'),
+    ('none_file', '', refusal, [2, 2, 0], b''),
+    ('many_file', '', refusal, [2, 4097, 0], b''),
+    ('left_file', 'bytes left over; the elements stand behind the counts; there is no version 3', refusal, [2, 1, 0, 6], b'\0'),
+    ('kind_file', '', refusal, [2, 2, 1, 1, 1, 11], b''),
+    ('third_file', '', refusal, [3, 1, 0, 6], b''),
 ]
 
 
@@ -337,11 +337,11 @@ def graph(name, why, lists):
 
 def text():
     names = [name for name, *_ in ROWS + FILES]
-    unfolded = 'computes numberOf found ordered stored with-store reported leaves lent numbering reporting storing'.split()
+    unfolded = 'computes number_of found ordered stored with_store reported leaves lent numbering reporting storing'.split()
     return '\n'.join([
         HEAD, *[graph(*one) for one in GRAPHS], '-- ---- the table\n', 'record UnknownTable : Type 0 where', *rows(), '',
-        'unknown-table : UnknownTable', ' '.join(['unfolding'] + unfolded + [name for name, *_ in GRAPHS]),
-        'unknown-table = record {', *['  %s = refl;' % name for name in names], '}', ''])
+        'unknown_table : UnknownTable', ' '.join(['unfolding'] + unfolded + [name for name, *_ in GRAPHS]),
+        'unknown_table = record {', *['  %s = refl;' % name for name in names], '}', ''])
 
 
 if __name__ == '__main__':

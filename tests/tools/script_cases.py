@@ -19,7 +19,7 @@ import to_grd
 import to_seqgp
 
 # What the script calls.
-COMMANDS = 'awk bash cat chmod dirname env find flock head mkdir mktemp mv python3 readlink rm sh sleep tail tee touch'.split()
+COMMANDS = 'awk bash cat chmod cp date dirname env find flock grep head mkdir mktemp mv python3 readlink rm sh sleep tail tee touch'.split()
 NOBODY = 65534
 
 
@@ -292,16 +292,34 @@ def stale(c, place):
             (2, b'', none + 'crates.txt does not say what it is made of: nothing is run'))
 
 
+# Stand-ins for the toolchain, which proved `one` before and takes so many seconds for the others, and for the clock beside it.
 RT = """#!/bin/sh
-echo 'rt: one proved (unchanged since it was last proved)'
-echo 'rt: two proved (100 s)'
-echo 'rt: a line of another kind'
-echo 'rt: three proved (90 s)'
-echo 'rt: renumber proved (3 s)'
-mkdir -p target/bin
-printf '#!/bin/sh\\ncat > /dev/null\\necho refused 12\\n' > target/bin/renumber
-chmod +x target/bin/renumber
+now=0 looks=1
+# until the clock has been looked at so often
+seen() {
+  until [ "$(grep -c look ../../looked 2> /dev/null || true)" = $looks ]; do sleep 0.02; done
+  looks=$((looks + 1))
+}
+tell() {
+  now=$((now + $2))
+  echo $now > ../../seconds
+  echo "crate $1: modules loaded=0 checked=9" >&2
+  echo 'logic=proved functions=1' >&2
+  seen
+}
+seen
+tell two 100
+echo 'rt: a line of another kind' >&2
+tell three 90
+tell renumber 3
+rm ../../looked ../../seconds
+mkdir -p out
+printf '#!/bin/sh\\ncat > /dev/null\\necho refused 12\\n' > out/renumber
+chmod +x out/renumber
+echo 'rt: running out/renumber; to give it other input, run that file yourself' >&2
+exec out/renumber
 """
+DATE = '#!/bin/sh\nif [ -e seconds ]; then cat seconds; else echo 0; fi\necho look >> looked\n'
 
 
 def progress(c, place):
@@ -311,11 +329,13 @@ def progress(c, place):
     times = ['| `%s` | %d | 3 |\n' % pair for pair in (('one', 60), ('two', 200), ('three', 180), ('other', 999), ('renumber', 240))]
     place.put('docs/TIMES.md', '# Times\n\n| Crate | check | edits |\n|---|---|---|\n' + ''.join(times))
     place.put('commands/rt', RT, 0o755)
-    # two at a time: one, two beside three, renumber: 60 + 200 + 240 s; later at half the table's times
-    lines = ['proving and building the program: 4 crates, about 8 minutes; what was proved before is not proved again',
+    os.remove(os.path.join(place.path, 'date'))
+    place.put('commands/date', DATE, 0o755)
+    # one after the other: 60 + 200 + 180 + 240 s; later at half the table's times
+    lines = ['proving and building the program: 4 crates, about 11 minutes; what was proved before is not proved again',
              '2 of 4: two proved in 100 s, about 4 minutes left', '3 of 4: three proved in 90 s, about 2 minutes left', 'renumber proved in 3 s',
              '4 of 4 crates proved, 1 of them before']
-    status, out, err = place.run(given=SAMPLE, RT_JOBS='2')
+    status, out, err = place.run(given=SAMPLE)
     c.equal('script: built', (status, out), (1, b'refused 12\n'))
     c.equal('script: progress', err.splitlines()[:-1], ['renumber: ' + line for line in lines])
     c.holds('script: and the end: %s' % err, re.fullmatch('renumber: proved and built in [0-9]+ s', err.splitlines()[-1]))

@@ -4,7 +4,7 @@
   entry_points.py                     write crates/test_calls/stdin and crates/test_calls/stdout: the selection that the gate runs
   entry_points.py --check             say whether the two stand as this script makes them
   entry_points.py --show K            print case K (line K of stdout) and its line
-  entry_points.py --run N --seed S    run target/bin/test_calls on all graphs of up to 5 nodes at every node and under every numbering, N random
+  entry_points.py --run N --seed S    run crates/test_calls/out/test_calls on all graphs of up to 5 nodes at every node and under every numbering, N random
                                       graphs of up to 40 nodes at every node, N of up to 60 nodes, N graphs with several passes or
                                       pieces, N / 10 of up to 1,000 nodes, graphs of full size, N illegal adjacencies, N meshes,
                                       N / 10 stores of each of a few sizes, N graphs of parts with other passes, N / 10 that
@@ -28,7 +28,8 @@ import pair_cases
 from vectors import Draw, differences, keep, options, tally
 
 CRATE = os.path.join(TOP, 'crates', 'test_calls')
-PROGRAM = os.path.join(TOP, 'target', 'bin', 'test_calls')
+# rt run makes it, in the crate's folder.
+PROGRAM = os.path.join(CRATE, 'out', 'test_calls')
 
 
 def selection():

@@ -4,7 +4,7 @@
   files.py            write crates/test_reading/stdin and crates/test_reading/stdout
   files.py --check    say whether the two stand as this script makes them
   files.py --show K   print file K (line K of stdout), its kind and its line
-  files.py --run N --seed S    run target/bin/test_reading on N random files and N damaged ones, and compare
+  files.py --run N --seed S    run crates/test_reading/out/test_reading on N random files and N damaged ones, and compare
 
 The input has for each file its length, four bytes low byte first, and its bytes. A line has 'accepted' and the entry count or 'refused' and the
 number, then for each of the five lent lists (words, starts, neighbours, scratch, counts) its words up to the last that isn't as it was lent. All
@@ -26,7 +26,8 @@ from unknowns import MOST, ones
 from vectors import Draw, answer_text, changed, differences, keep, number, of_words, options, pattern, shown, tally
 
 CRATE = os.path.join(TOP, 'crates', 'test_reading')
-PROGRAM = os.path.join(TOP, 'target', 'bin', 'test_reading')
+# rt run makes it, in the crate's folder.
+PROGRAM = os.path.join(CRATE, 'out', 'test_reading')
 
 # How many words the program lends: some more than any file needs.
 LENT = (35000, 4100, 32780, 4100, 4100)

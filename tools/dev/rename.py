@@ -4,7 +4,7 @@
   tools/dev/rename.py FOLDER
 
 FOLDER is a copy of prepared files, with folders crates/OLD in it or patches of them. Folders are moved, and in every text file each old name
-is replaced where it stands for a crate: in a module's path (Rattle·OLD), in a path of code (OLD::), in a path of files (crates/OLD), in crates.txt, and
+is replaced where it stands for a crate: in a module's path (Rattle.OLD, in files of the older spelling Rattle·OLD), in a path of code (OLD::), in a path of files (crates/OLD), in crates.txt, and
 in the pages where it stands alone in backticks or in bold or before a slash; and a few names within crates. The folder is changed in place, so give a copy. It says how many files it changed, and stops at a crate
 that stands under both names.
 """
@@ -26,7 +26,7 @@ NEW = {'words': 'graph_words', 'envelope': 'graph_envelope',
 # the two crates that became one
 MERGED = ('combining', 'piecing')
 # names within crates that changed besides
-NAMES = {'turn_round': 'reverse', 'turnedAt': 'mirroredAt', 'Turnable': 'Mirrorable'}
+NAMES = {'turn_round': 'reverse', 'turnedAt': 'mirroredAt', 'turned_at': 'mirrored_at', 'Turnable': 'Mirrorable'}
 OLD = '|'.join(sorted(NEW, key=len, reverse=True))
 TEXT = ('.antt', '.rt', '.edit', '.patch', '.md', '.txt', '.py')
 
@@ -38,13 +38,13 @@ def new(match):
 def code(text):
     """Names in modules, code, paths of files."""
     text = re.sub(r'\b(%s)\b' % '|'.join(NAMES), lambda match: NAMES[match.group(1)], text)
-    text = re.sub(r'Rattle·(?P<old>%s)(?=[·.])' % OLD, new, text)
+    text = re.sub(r'Rattle[·.](?P<old>%s)(?=[·.])' % OLD, new, text)
     text = re.sub(r'(?<![\w:.])(?P<old>%s)(?=::)' % OLD, new, text)
     return re.sub(r'crates/(?P<old>%s)\b' % OLD, new, text)
 
 
 def inside(text):
-    """Within the merged crate, a module of its other half is one of its own."""
+    """Within the merged crate, a module of its other half is one of its own, which the older spelling tells apart."""
     text = re.sub(r'Rattle·levels_laws\.specs\.', 'Rattle·levels_laws·specs.specs.', text)
     return re.sub(r'Rattle·levels_laws\.proofs\.', 'Rattle·levels_laws·proofs.proofs.', text)
 
