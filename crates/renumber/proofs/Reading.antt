@@ -4,8 +4,8 @@ use Rattle.std.proofs.Common.{◌≡◌, ℕ, ◌+◌, ◌≤◌, List, ◌++◌
 use Rattle.std.proofs.Math.Seq.{take-add, length-take-le}
 use Rattle.std.proofs.lemmas.List.{take_all, take_at}
 use Rattle.std.specs.declared.option.Option.{Option}
-use Rattle.std.specs.Io.KnownBytes.{Consumes, Keeps, IsAtEnd}
-use Rattle.std.proofs.KnownBytes.{Consumes-trans, Consumes-kept}
+use Rattle.std.specs.Io.KnownBytes.{Consumes, IsAtEnd}
+use Rattle.std.proofs.KnownBytes.{Consumes-trans}
 
 -- a read of m bytes behind the first n
 pub read_on : (a b c : Option (List ℕ)) (n m : ℕ) (old new : List ℕ) → Consumes a b (take n old) → take n new ≡ take n old
@@ -13,10 +13,6 @@ pub read_on : (a b c : Option (List ℕ)) (n m : ℕ) (old new : List ℕ) → C
 read_on a b c n m old new lost front next =
     let e : take n old ++ take m (drop n new) ≡ take (n + m) new = ap (λ (l : List ℕ). l ++ take m (drop n new)) (sym front) ∙ sym (take-add n m new) in
     subst (Consumes a c) e (Consumes-trans a b c (take n old) (take m (drop n new)) lost next)
-
--- a read that failed
-pub read_none : (a b c : Option (List ℕ)) (n : ℕ) (old new : List ℕ) → Consumes a b (take n old) → take n new ≡ take n old → Keeps b c → Consumes a c (take n new)
-read_none a b c n old new lost front kept = subst (Consumes a c) (sym front) (Consumes-kept a b c (take n old) lost kept)
 
 -- no room is left
 pub full : (a b : Option (List ℕ)) (n : ℕ) (bs : List ℕ) → n ≡ length bs → Consumes a b (take n bs) → IfSome a (λ xs. take n bs ≡ take (length bs) xs)

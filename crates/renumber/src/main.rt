@@ -20,50 +20,36 @@ fn read_behind<R: Read>(input: &mut R, bytes: &mut [u8], size: usize) -> io::Res
     input.read(&mut bytes[size..])
 }
 
-// Reads until the bytes are full or the input ends, and returns how many it read. A read that a signal interrupts is tried again.
+// Reads until the bytes are full or the input ends, and returns how many it read.
 fn read_full<R: Read>(input: &mut R, bytes: &mut [u8]) -> io::Result<usize>
     ensures bound { IfOk result (λ n. n ≤ length bytes.new) }
     ensures value { IfOk result (λ n. IfSome (R.remaining input.old) (λ file. take n bytes.new ≡ take (length bytes.new) file)) }
 {
     let mut size = 0;
-    for _ in 0..u64::MAX {
-        if size == bytes.len() {
+    while size < bytes.len() {
+        let n = read_behind(input, bytes, size)?;
+        if n == 0 {
             return Ok(size);
         }
-        match read_behind(input, bytes, size) {
-            Ok(0) => return Ok(size),
-            Ok(n) => size += n,
-            Err(e) => {
-                if e.kind() != ErrorKind::Interrupted {
-                    return Err(e);
-                }
-            }
-        }
+        size += n;
     }
-    Err(io::Error::other("standard input has no end"))
+    Ok(size)
 }
 
-// Writes all the bytes. Where it fails, a front of them has been written. A write that a signal interrupts is tried again.
+// Writes all the bytes. Where it fails, or the output takes no more, a front of them has been written.
 fn write_full<W: Write>(output: &mut W, bytes: &[u8]) -> io::Result<()>
     ensures all { OnOk result (Appends (W.contents output.old) (W.contents output.new) bytes.now) }
     ensures front { (n : ℕ) × Appends (W.contents output.old) (W.contents output.new) (take n bytes.now) }
 {
     let mut size = 0;
-    for _ in 0..u64::MAX {
-        if size == bytes.len() {
-            return Ok(());
+    while size < bytes.len() {
+        let n = output.write(&bytes[size..])?;
+        if n == 0 {
+            return Err(io::Error::from(ErrorKind::WriteZero));
         }
-        match output.write(&bytes[size..]) {
-            Ok(0) => return Err(io::Error::from(ErrorKind::WriteZero)),
-            Ok(n) => size += n,
-            Err(e) => {
-                if e.kind() != ErrorKind::Interrupted {
-                    return Err(e);
-                }
-            }
-        }
+        size += n;
     }
-    Err(io::Error::other("standard output has no room"))
+    Ok(())
 }
 
 // The text of a file, at the front of the output, and its length. There is room for the greatest file.
