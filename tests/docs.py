@@ -81,6 +81,8 @@ def try_command(c, page, command, lines, folder):
 def main():
     c = Cases()
     pages = sorted({os.path.relpath(path, TOP) for pattern in PAGES for path in glob.glob(os.path.join(TOP, pattern))} - set(LEFT_OUT))
+    # the first ./renumber builds the program and says so, which no page shows
+    c.equal('./renumber is built', subprocess.run(['./renumber', 'examples/two_parts.grd'], cwd=TOP, stdout=subprocess.DEVNULL, stderr=subprocess.DEVNULL, check=False).returncode, 0)
     with tempfile.TemporaryDirectory() as folder:
         for name in os.listdir(TOP):
             os.symlink(os.path.join(TOP, name), os.path.join(folder, name))
