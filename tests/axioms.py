@@ -58,9 +58,12 @@ def is_linked(name):
 
 
 def report(name):
-    """What rt says of a program or of the static library."""
-    done = subprocess.run(['rt', 'check', '--list-axioms'], cwd=os.path.join(TOP, 'crates', name), stdin=subprocess.DEVNULL,
-                          stdout=subprocess.PIPE, stderr=subprocess.STDOUT, text=True, check=False)
+    """What rt says of a program or of the static library. Where libraries were built on the way, their verdicts stand before its own: it is asked again."""
+    for _ in range(2):
+        done = subprocess.run(['rt', 'check', '--list-axioms'], cwd=os.path.join(TOP, 'crates', name), stdin=subprocess.DEVNULL,
+                              stdout=subprocess.PIPE, stderr=subprocess.STDOUT, text=True, check=False)
+        if len(re.findall(r'(?m)^logic=', done.stdout)) == 1:
+            break
     return done.stdout
 
 
