@@ -99,6 +99,11 @@ def record_of(names, body):
                 body = two[0].strip()
                 continue
             return None
+        m = re.match(r'rw (?=\()', body)
+        if m and k == 0:
+            j = matched(body, m.end(), '(', ')')
+            inner = record_of(names, body[j + 1:].strip()) if body[j + 1:].strip() else None
+            return None if inner is None else body[:j + 1] + ' (' + inner + ')'
         if re.match(r'(search|omega|simp|rw|cc|grind|elim|let|λ|record)\b', body):
             return None
         let = f'let done = {body} in '
@@ -291,7 +296,7 @@ class Turner:
             while m:
                 if m.group(2) in places:
                     places = places | {m.group(1)}
-                    text = text[:m.start()] + text[m.end():].lstrip(' ') if False else text[:m.start()] + text[m.end():]
+                    text = text[:m.start()] + text[m.end():]
                     changed = True
                     break
                 m = re.compile(r'(?<![^\s(])let (' + WORD + r') = (' + WORD + r')((?:\.before)*) in(?=\s)').search(text, m.end())
@@ -448,7 +453,6 @@ def convert(path, entry, function, clauses, goal_module, said):
     uses = [u for u in uses if not re.search(r'\.(Statement\.\{|Tie as )', u)]
     invs, answers, helpers = [], {}, {}
     order = []
-    helper_uses_inv = {}
     spec = None
     goals_imports = set()
     local = []  # lemmas with no place
@@ -464,7 +468,6 @@ def convert(path, entry, function, clauses, goal_module, said):
             got = invariant(t, d, norm(m.group(2)), m.group(1))
             if got:
                 invs.append((m.group(1), got[0], got[1], d.comment))
-                helper_uses_inv[d.name] = got
             continue
         if re.search(r'→ statement M', ty) or d.name.endswith(('-spec', '_spec')) and 'statement' in ty:
             spec = d
