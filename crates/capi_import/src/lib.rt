@@ -5,7 +5,7 @@ ghost use Rattle.std.specs.Prelude.{◌≡◌};
 ghost use Rattle.spec_import.specs.CallsImport.{import_refusal, import_numbers, import_scratch};
 ghost use Rattle.capi_import.specs.Sent.{sent_c};
 
-use numbering_import::{ImportAnswer, SuppliedFigures};
+use numbering_import::SuppliedFigures;
 
 // A supplier's pairs and figures, tested against our measures. It returns 0 or the number of a refusal, and no figures.
 pub fn import_numbering(
@@ -24,14 +24,14 @@ pub fn import_numbering(
     ensures scratch_value { scratch.new ≡ import_scratch starts.now neighbours.now counts.now pairs.now (sent_c bandwidth profile front) numbers.old scratch.old }
 {
     let sent = SuppliedFigures {
-        bandwidth: bandwidth,
-        profile: profile,
-        front: front,
+        bandwidth,
+        profile,
+        front,
     };
     match numbering_import::import_numbering(
         starts, neighbours, counts, pairs, sent, numbers, scratch,
     ) {
-        ImportAnswer::Accepted => 0,
-        ImportAnswer::Refused(c) => c,
+        Ok(()) => 0,
+        Err(refusal) => u16::from(refusal),
     }
 }

@@ -2,14 +2,12 @@
 ghost use Rattle.std.specs.Prelude.{◌≡◌};
 ghost use Rattle.spec.specs.Graph.{graph_refusal};
 
-use graph::Adjacency;
-
 // The tests 1 to 4 of every call on a graph: the refusal, or 0.
 pub fn lists_refusal(starts: &[u16], neighbours: &[u16]) -> u16
     ensures { result ≡ graph_refusal starts.now neighbours.now }
 {
     match graph::test_adjacency(starts, neighbours) {
-        Adjacency::Refused(c) => c,
-        Adjacency::Legal => 0,
+        Err(refusal) => u16::from(refusal),
+        Ok(()) => 0,
     }
 }

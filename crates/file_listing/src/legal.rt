@@ -11,7 +11,7 @@ ghost use Rattle.file_listing.specs.Counted.{counts_after};
 ghost use Rattle.file_listing.specs.Room.{ReadingRoom};
 
 use file_renumbering::legal::renumber;
-use mesh::Entries;
+use refusals::Refusal;
 
 // The two lists of a file's mesh, and their entry count, or the refusal: the header's tests, those of the counts, then those of the elements. The
 // counts of unknowns, those of the file or ones, stand in front of the list lent for them.
@@ -22,21 +22,15 @@ fn read(
     neighbours: &mut [u16],
     scratch: &mut [u16],
     counts: &mut [u16],
-) -> Entries
+) -> Result<u32, Refusal>
     requires { ReadingRoom words.old starts.old neighbours.old scratch.old counts.old }
     ensures result_value { meaning result ≡ outcome (file_refusal file.now) (entry_count (file_graph file.now)) }
     ensures starts_value { starts.new ≡ filled (file_refusal file.now) (start_list (file_graph file.now)) starts.old }
     ensures neighbours_value { neighbours.new ≡ filled (file_refusal file.now) (neighbour_list (file_graph file.now)) neighbours.old }
     ensures counts_value { counts.new ≡ counts_after file.now counts.old }
 {
-    let header = file_reading::header_refusal(file);
-    if header != 0 {
-        return Entries::Refused(header);
-    }
-    let counted = file_reading::legal::counts::read_counts(file, counts);
-    if counted != 0 {
-        return Entries::Refused(counted);
-    }
+    file_reading::test_header(file)?;
+    file_reading::legal::counts::read_counts(file, counts)?;
     file_reading::legal::read_mesh(file, words, starts, neighbours, scratch)
 }
 
@@ -60,8 +54,8 @@ pub fn list_file(
     ensures counts_value { counts.new ≡ counts_after file.now counts.old }
 {
     match read(file, words, starts, neighbours, scratch, counts) {
-        Entries::Refused(number) => file_writing::legal::write_refusal(number, output),
-        Entries::Accepted(entries) => {
+        Err(refusal) => file_writing::legal::write_refusal(u16::from(refusal), output),
+        Ok(entries) => {
             let n = file_reading::legal::nodes(file);
             renumber(
                 &starts[..n + 1],

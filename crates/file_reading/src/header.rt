@@ -7,8 +7,8 @@ pub(crate) fn word_at(file: &[u8], at: usize) -> u16
     requires { at + 1 < length file.now }
     ensures { result ≡ word (get_or file.now at 0) (get_or file.now (at + 1) 0) }
 {
-    let low = file[at] as u16;
-    let high = file[at + 1] as u16;
+    let low = u16::from(file[at]);
+    let high = u16::from(file[at + 1]);
     low + 256 * high
 }
 
@@ -17,13 +17,13 @@ fn has_mark(file: &[u8]) -> bool
     requires { 3 ≤ length file.now }
     ensures { result ≡ has_mark file.now }
 {
-    if file[0] != 71 {
+    if file[0] != b'G' {
         return false;
     }
-    if file[1] != 82 {
+    if file[1] != b'R' {
         return false;
     }
-    file[2] == 68
+    file[2] == b'D'
 }
 
 // "wrong mark or version, file too long, under 9 bytes"

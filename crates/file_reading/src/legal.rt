@@ -10,38 +10,35 @@ ghost use Rattle.file_reading.specs.Words.{words_refusal};
 
 pub mod counts;
 
-use crate::answer::Tested;
 use crate::legal::counts::count_words;
-use mesh::Entries;
+use refusals::Refusal;
 
 // n, the number of nodes.
 pub fn nodes(file: &[u8]) -> usize
     requires { header_refusal file.now ≡ 0 }
     ensures { result ≡ file_nodes file.now }
 {
-    graph_words::wide(crate::header::word_at(file, 5))
+    usize::from(crate::header::word_at(file, 5))
 }
 
 // Tests `count` elements of a file of n nodes, one by one: how many words they take, or the refusal: 9, 10, or 12 for a record that
 // runs past the file's end.
-fn test_elements(count: usize, n: usize, list: &[u16]) -> Tested
+fn test_elements(count: usize, n: usize, list: &[u16]) -> Result<usize, Refusal>
     ensures { tested result ≡ outcome (counted_refusal count n list.now) (words_taken count list.now) }
 {
     let mut at = 0;
-    let mut left = count;
-    while 0 < left {
+    for i in 0..count {
         if list.len() <= at {
-            return Tested::Refused(12);
+            return Err(Refusal::File);
         }
         let kind = list[at];
-        let refusal = mesh_elements::element_refusal(12, n, kind, &list[at + 1..]);
-        if refusal != 0 {
-            return Tested::Refused(refusal);
+        let number = mesh_elements::element_refusal(12, n, kind, &list[at + 1..]);
+        if let Ok(refusal) = Refusal::try_from(number) {
+            return Err(refusal);
         }
         at = at + 1 + mesh_elements::node_count(kind);
-        left -= 1;
     }
-    Tested::Taken(at)
+    Ok(at)
 }
 
 // Writes the words of the elements, those behind the counts, to the front of the list, and returns how many there are.
@@ -67,24 +64,19 @@ fn left_over(file: &[u8], taken: usize) -> bool
 
 // Decodes the words of the elements and tests the elements in them: how many words there are, all of them taken, or the refusal:
 // "bytes left over once all elements pass" are 12.
-fn read_elements(file: &[u8], list: &mut [u16]) -> Tested
+fn read_elements(file: &[u8], list: &mut [u16]) -> Result<usize, Refusal>
     requires { (header_refusal file.now ≡ 0) × (counts_refusal file.now ≡ 0) × (length (body file.now) ≤ length list.old) }
     ensures result_value { tested result ≡ outcome (words_refusal file.now) (length (body file.now)) }
     ensures list_value { list.new ≡ overwrite (body file.now) list.old }
 {
     let n = nodes(file);
-    let count = graph_words::wide(crate::header::word_at(file, 7));
+    let count = usize::from(crate::header::word_at(file, 7));
     let size = decode(file, list);
-    let answer = test_elements(count, n, &list[..size]);
-    match answer {
-        Tested::Refused(number) => Tested::Refused(number),
-        Tested::Taken(taken) => {
-            if left_over(file, taken) {
-                Tested::Refused(12)
-            } else {
-                Tested::Taken(size)
-            }
-        }
+    let taken = test_elements(count, n, &list[..size])?;
+    if left_over(file, taken) {
+        Err(Refusal::File)
+    } else {
+        Ok(size)
     }
 }
 
@@ -95,7 +87,7 @@ pub fn read_mesh(
     starts: &mut [u16],
     neighbours: &mut [u16],
     scratch: &mut [u16],
-) -> Entries
+) -> Result<u32, Refusal>
     requires file_value { (header_refusal file.now ≡ 0) × (counts_refusal file.now ≡ 0) × (length (body file.now) ≤ length list.old) }
     requires file_in_bounds { (file_nodes file.now < length starts.old) × (32768 ≤ length neighbours.old) × (file_nodes file.now ≤ length scratch.old) }
     ensures result_value { meaning result ≡ outcome (body_refusal file.now) (entry_count (file_graph file.now)) }
@@ -105,15 +97,6 @@ pub fn read_mesh(
     ensures scratch_value { scratch.new ≡ scratch_after (eqb (body_refusal file.now) 0 || eqb (body_refusal file.now) 11) (file_nodes file.now) scratch.old }
 {
     let n = nodes(file);
-    let answer = read_elements(file, list);
-    match answer {
-        Tested::Refused(number) => Entries::Refused(number),
-        Tested::Taken(size) => mesh::legal::adjacency(
-            n,
-            &list[..size],
-            starts,
-            neighbours,
-            scratch,
-        ),
-    }
+    let size = read_elements(file, list)?;
+    mesh::legal::adjacency(n, &list[..size], starts, neighbours, scratch)
 }

@@ -3,25 +3,27 @@
 
 ghost use Rattle.std.specs.Prelude.{◌≡◌};
 ghost use Rattle.spec.specs.File.{header_refusal};
+ghost use Rattle.refusals.specs.Numbers.{number_in};
 
-mod answer;
 mod header;
 pub mod legal;
 mod words;
 
-// What a file is refused by before its counts are looked at, 12 or 1, or 0: "length, mark and version for 12 first, then 1".
-pub fn header_refusal(file: &[u8]) -> u16
-    ensures { result ≡ header_refusal file.now }
+use refusals::Refusal;
+
+// What a file is refused by before its counts are looked at, 12 or 1: "length, mark and version for 12 first, then 1".
+pub fn test_header(file: &[u8]) -> Result<(), Refusal>
+    ensures { number_in result ≡ header_refusal file.now }
 {
     if header::bad_header(file) {
-        return 12;
+        return Err(Refusal::File);
     }
     let n = header::word_at(file, 5);
     if n == 0 {
-        return 1;
+        return Err(Refusal::NodeCount);
     }
     if 4096 < n {
-        return 1;
+        return Err(Refusal::NodeCount);
     }
-    0
+    Ok(())
 }

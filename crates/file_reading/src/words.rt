@@ -26,9 +26,7 @@ pub(crate) fn copy(file: &[u8], from: usize, count: usize, list: &mut [u16])
     requires { (from + count ≤ length (body_words file.now)) × (count ≤ length list.old) }
     ensures { list.new ≡ overwrite (take count (drop from (body_words file.now))) list.old }
 {
-    let mut i = 0;
-    while i < count {
+    for i in 0..count {
         list[i] = word(file, from + i);
-        i += 1;
     }
 }

@@ -23,13 +23,13 @@ fn figures(f: RunFigures) -> Figures
     ensures { figures_of result ≡ seven f }
 {
     Figures {
-        nodes: f.nodes as u32,
-        parts: f.parts as u32,
+        nodes: u32::from(f.nodes),
+        parts: u32::from(f.parts),
         bandwidth: f.bandwidth,
         profile: f.profile,
         front: f.front,
         levels: f.levels,
-        width: f.width as u32,
+        width: u32::from(f.width),
     }
 }
 
@@ -51,7 +51,7 @@ pub fn renumber(
     ensures output_value { output.new ≡ overwrite (listing (graph_was starts neighbours) (run (graph_was starts neighbours) counts.now)) output.old }
 {
     let n = starts.len() - 1;
-    let total = unknowns(counts, n);
+    let total = unknowns(counts, n).unwrap();
     let x = &mut numbers[..n];
     let l = &mut levels[..n];
     let f = number_all(

@@ -1,12 +1,13 @@
 -- Texts put one behind another are the joined text put. Assumes nothing.
+use Rattle.std.proofs.Common.{append_assoc}
 use mathlib.Core.Path.{◌≡◌, refl, sym, ap, ◌∙◌}
 use mathlib.Core.List.{List, [], ◌∷◌, ◌++◌}
-use Prim.Native.Nat.{ℕ, ◌+◌, ◌/◌, ◌%◌, ◌≤◌, ◌<◌}
+use Prim.Native.Nat.{ℕ, ◌+◌, ◌-◌, ◌/◌, ◌%◌, ◌≤◌, ◌<◌}
 use native.Mathlib.Nat.{add-zero}
-use native.Mathlib.Numerals.{add-one}
 use native.Mathlib.Omega.{arith}
-use lib.ListN.{length, get_or, set, take, drop, length-append}
-use lib.Seq.{sets-eq, length-sets, take_all, take-suc}
+use borrow.Rule.Slice.PartMut.{put_mid, Post-is}
+use lib.ListN.{length, set, take, drop, length-append}
+use lib.Seq.{sets-eq, length-sets}
 use Rattle.basis.specs.Lists.{join_all, overwrite}
 use Rattle.basis.proofs.Next.{sets_append}
 use Rattle.spec.specs.Text.{decimal}
@@ -74,24 +75,11 @@ module _ {text s : List ℕ} {ts : List (List ℕ)} {at end : ℕ} {l k : List �
 pub rest_done : {text : List ℕ} {at end : ℕ} {l k : List ℕ} → Rest text [] at end l k → Put text at end l k
 rest_done {text} {at} {end} {l} {k} r = r.goes end k (put_none end k)
 
--- ---- a text copied byte by byte
-
--- the text's first i bytes are put
-pub record Copied (text : List ℕ) (at i : ℕ) (before after : List ℕ) : Type 0 where
-  pub few : i ≤ length text
-  pub put : Put (take i text) at (at + i) before after
-
-pub copied_begin : (text : List ℕ) (at : ℕ) (l : List ℕ) → Copied text at 0 l l
-copied_begin text at l = record { few = omega arith; put = rw (add-zero at) (put_none at l) }
-
-pub copied_step : {text : List ℕ} {at i : ℕ} {l k : List ℕ} → Copied text at i l k → i < length text
-    → Copied text at (i + 1) l (set k (at + i) (get_or text i 0))
-copied_step {text} {at} {i} {l} {k} c h =
-    let e : at + (i + 1) ≡ at + i + 1 = omega arith in
-    record { few = omega arith; put = rw (e, add-one i, take-suc text i 0 h) (put_then c.put (put_byte (get_or text i 0) (at + i) k)) }
-
-pub copied_done : {text : List ℕ} {at i : ℕ} {l k : List ℕ} → Copied text at i l k → length text ≤ i → Put text at (at + i) l k
-copied_done {text} {at} {i} c h = rw (take_all i text h) at c.put
+-- a text copied over the bytes from place `at` on
+pub put_copied : {s : List ℕ} {at : ℕ} {l t : List ℕ} → Room s at l → t ≡ s → Put s at (at + length s) l (put_mid at (at + length s - at) l t)
+put_copied {s} {at} {l} r e =
+    let behind = Post-is at (at + length s) l (omega arith) in
+    record { end_is = refl; after_is = rw (e, behind) (sym (sets-eq s l at r.fits ∙ append_assoc (take at l) s _)) }
 
 -- ---- a number put digit by digit
 

@@ -39,8 +39,8 @@ fn put_row(node: u32, number: u16, level: u16, out: &mut [u8], at: usize) -> usi
     ensures { Put (join_all (row_items node number level)) at result out.old out.new }
 {
     let mut end = put_number(node, out, at);
-    end = put_item(b" ", number as u32, out, end);
-    end = put_item(b" ", level as u32, out, end);
+    end = put_item(b" ", u32::from(number), out, end);
+    end = put_item(b" ", u32::from(level), out, end);
     put_text(b"\n", out, end)
 }
 
@@ -51,10 +51,8 @@ fn put_rows(numbers: &[u16], levels: &[u16], out: &mut [u8], at: usize) -> usize
     ensures { Put (rows numbers.now levels.now (length numbers.now)) at result out.old out.new }
 {
     let mut end = at;
-    let mut i = 0;
-    while i < numbers.len() {
+    for i in 0..numbers.len() {
         end = put_row((i + 1) as u32, numbers[i], levels[i], out, end);
-        i += 1;
     }
     end
 }
@@ -83,7 +81,7 @@ pub fn write_refusal(number: u16, out: &mut [u8]) -> usize
     ensures value { result ≡ cond (leb (length (refused_line number)) (length out.old)) (length (refused_line number)) 0 }
     ensures out_value { out.new ≡ cond (leb (length (refused_line number)) (length out.old)) (overwrite (refused_line number) out.old) out.old }
 {
-    let x = number as u32;
+    let x = u32::from(number);
     if out.len() < 9 + digits(x) {
         return 0;
     }

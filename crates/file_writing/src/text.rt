@@ -8,12 +8,9 @@ pub(crate) fn put_text(text: &[u8], out: &mut [u8], at: usize) -> usize
     requires { Room text.now at out.old }
     ensures { Put text.now at result out.old out.new }
 {
-    let mut i = 0;
-    while i < text.len() {
-        out[at + i] = text[i];
-        i += 1;
-    }
-    at + i
+    let end = at + text.len();
+    out[at..end].copy_from_slice(text);
+    end
 }
 
 // How many digits a number has.
@@ -22,6 +19,7 @@ pub(crate) fn digits(x: u32) -> usize
 {
     let mut count = 1;
     let mut rest = x;
+    // A while: each step takes a digit off.
     while 10 <= rest {
         rest /= 10;
         count += 1;
@@ -34,7 +32,7 @@ fn digit(x: u32) -> u8
     requires { x < 10 }
     ensures { result ≡ 48 + x }
 {
-    48 + x as u8
+    b'0' + x as u8
 }
 
 // A number in decimal, the digits in front of the last one first.

@@ -8,10 +8,8 @@ pub(crate) fn total(passes: &[u16]) -> u32
     ensures { result ≡ sum passes.now }
 {
     let mut sum: u32 = 0;
-    let mut i = 0;
-    while i < passes.len() {
-        sum += passes[i] as u32;
-        i += 1;
+    for &x in passes {
+        sum += u32::from(x);
     }
     sum
 }

@@ -12,8 +12,9 @@ use Rattle.laws.proofs.Lent.{outcome_accepted, outcome_refused}
 use Rattle.laws.proofs.Refused.{or_else_first, passed, starts_of_lem, not_refused}
 use Rattle.graph.specs.Answer.{meaning}
 use Rattle.graph.specs.Facts.{LegalLists, RefusedLists}
-use Rattle.graph.specs.declared.answer.Adjacency.{Adjacency}
-use Rattle.graph.specs.declared.answer.Adjacency.TheVariants.{Legal, Refused}
+use Rattle.std.specs.Prelude.{Result, Ok, Err}
+use Rattle.refusals.specs.Numbers.{number_of}
+use Rattle.refusals.specs.declared.Refusal.{Refusal}
 
 -- ---- the answer by the tests, as the call runs them
 
@@ -44,18 +45,18 @@ module _ (S N : List ℕ) where
 
 -- ---- what a caller learns from the answer
 
--- Legal: the two lists are a legal graph
-pub legal_lists : (S N : List ℕ) {r : Adjacency} → meaning r ≡ adjacency_answer S N → r ≡ Legal → LegalLists S N
+-- `Ok`: the two lists are a legal graph
+pub legal_lists : (S N : List ℕ) {r : Result (Unit {0}) Refusal} {u : Unit {0}} → meaning r ≡ adjacency_answer S N → r ≡ Ok u → LegalLists S N
 unfolding adjacency_answer
 legal_lists S N e h =
     let z : graph_refusal S N ≡ 0 = (outcome_accepted (graph_refusal S N) tt tt (sym e ∙ ap meaning h)).0 in
     record { starts = starts_of_lem (passed S N z); graph = not_refused S N z; refusal = z }
 
--- Refused: by this number, which is not 0
-pub refused_lists : (S N : List ℕ) {r : Adjacency} {c : ℕ} → meaning r ≡ adjacency_answer S N → r ≡ Refused c → RefusedLists S N c
+-- `Err`: by its number, which is not 0
+pub refused_lists : (S N : List ℕ) {r : Result (Unit {0}) Refusal} {c : Refusal} → meaning r ≡ adjacency_answer S N → r ≡ Err c → RefusedLists S N (number_of c)
 unfolding adjacency_answer
 refused_lists S N {r} {c} e h =
-    let w = outcome_refused (graph_refusal S N) c tt (sym e ∙ ap meaning h) in
+    let w = outcome_refused (graph_refusal S N) (number_of c) tt (sym e ∙ ap meaning h) in
     record { refusal = w.0; some = w.1 }
 
 -- so whatever a call tests after the two lists, it is refused by this number

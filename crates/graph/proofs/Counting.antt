@@ -1,8 +1,8 @@
 -- The lower pairs of a row, counted word by word, and those of the first rows. Assumes nothing.
-use mathlib.Core.Path.{◌≡◌, ap, ◌∙◌}
+use mathlib.Core.Path.{◌≡◌, sym, ap, ◌∙◌}
 use mathlib.Core.Bool.{Bool, true, false, ◌&&◌}
 use mathlib.Core.List.{List, [], ◌∷◌, map}
-use Prim.Native.Nat.{ℕ, zero, suc, ◌+◌, ◌≤◌, ◌<◌}
+use Prim.Native.Nat.{ℕ, zero, suc, ◌+◌, ◌-◌, ◌≤◌, ◌<◌}
 use native.Mathlib.Numerals.{add-one}
 use native.Mathlib.Omega.{arith}
 use lib.Dec.{ltb}
@@ -45,22 +45,25 @@ module _ (S N : List ℕ) (p : ℕ) (r : List ℕ) where
   pub count_begin : Counting 0 0
   count_begin = record { most = omega arith; few = omega arith; rest = omega arith }
 
-  -- a word under p, with its partner and without
-  module _ {k j : ℕ} (I : Counting k j) (h : j < length r) (l : get_or r j 0 < p) where
-    pub count_paired : memb p (row_of S N (get_or r j 0)) ≡ true → Counting (k + 1) (j + 1)
+  -- a word q under p, with its partner and without
+  module _ {k j q : ℕ} (I : Counting k j) (h : j < length r) (e : q ≡ get_or r j 0) (l : q < p) where
+    word : bit (under (get_or r j 0)) ≡ bit (under q)
+    word = sym (ap (λ (x : ℕ). bit (under x)) e)
+
+    pub count_paired : memb p (row_of S N q) ≡ true → Counting (k + 1) (j + 1)
     unfolding adjoins
     count_paired m = record {
       most = omega arith;
       few = omega (arith, I.few);
-      rest = omega (arith, I.rest, count_rest under r j h, bit-one (under (get_or r j 0)) (and_make m (lt-ltb (get_or r j 0) p l)));
+      rest = omega (arith, I.rest, count_rest under r j h, word, bit-one (under q) (and_make m (lt-ltb q p l)));
     }
 
-    pub count_alone : memb p (row_of S N (get_or r j 0)) ≡ false → Counting k (j + 1)
+    pub count_alone : memb p (row_of S N q) ≡ false → Counting k (j + 1)
     unfolding adjoins
     count_alone m = record {
       most = omega arith;
       few = omega (arith, I.few);
-      rest = omega (arith, I.rest, count_rest under r j h, bit_none (under (get_or r j 0)) (ap (λ (b : Bool). b && ltb (get_or r j 0) p) m));
+      rest = omega (arith, I.rest, count_rest under r j h, word, bit_none (under q) (ap (λ (b : Bool). b && ltb q p) m));
     }
 
   -- the rest of the row is not under p, or there is none
@@ -78,8 +81,9 @@ module _ (S N : List ℕ) (p : ℕ) (r : List ℕ) where
 abbrev pub first_pairs : List ℕ → List ℕ → ℕ → ℕ
 first_pairs S N k = sum (map (lower_pairs (graph_of S N)) (up_from 1 k))
 
--- with those of one row more
-pub pairs_next : (S N : List ℕ) (k a b : ℕ) → a ≡ first_pairs S N k → b ≡ lower_pairs (graph_of S N) (k + 1) → a + b ≡ first_pairs S N (k + 1)
-pairs_next S N k a b e f =
-    let c : 1 + k ≡ k + 1 = omega arith in
-    omega (arith, sum_next (lower_pairs (graph_of S N)) 1 k, ap (lower_pairs (graph_of S N)) c)
+-- with those of row p too
+pub pairs_next : (S N : List ℕ) {p a b : ℕ} → 1 ≤ p → a ≡ first_pairs S N (p - 1) → b ≡ lower_pairs (graph_of S N) p → a + b ≡ first_pairs S N (p + 1 - 1)
+pairs_next S N {p} {a} {b} h e f =
+    let c : 1 + (p - 1) ≡ p = omega arith in
+    let d : p - 1 + 1 ≡ p + 1 - 1 = omega arith in
+    omega (arith, e, f, sum_next (lower_pairs (graph_of S N)) 1 (p - 1), ap (lower_pairs (graph_of S N)) c, ap (first_pairs S N) d)

@@ -2,17 +2,21 @@
 -- Assumes nothing.
 use mathlib.Core.Path.{◌≡◌, sym, ap, ◌∙◌}
 use mathlib.Core.Logic.{⊎_elim}
-use mathlib.Core.Bool.{true, false, not, ◌||◌}
+use mathlib.Core.Bool.{Bool, true, false, not, ◌||◌}
 use mathlib.Core.List.{List, ◌∷◌}
-use Prim.Native.Nat.{ℕ, zero, suc, ◌-◌, ◌≤◌, ◌<◌}
+use Prim.Native.Nat.{ℕ, zero, suc, ◌+◌, ◌-◌, ◌≤◌, ◌<◌}
 use native.Mathlib.Omega.{arith}
 use lib.ListN.{length, get_or}
 use lib.Dec.{eqb, leb, ltb}
-use borrow.Author.Tests.{eqb-false, ltb-true, eq-eqb, ne_eqb, lt-ltb, le-ltb, le-leb}
+use borrow.Author.Tests.{eqb-false, ltb-true, eq-eqb, ne_eqb, lt-ltb, le-ltb, le-leb, lt-leb}
 use Rattle.basis.specs.Lists.{anyb, chainb, head_or, last_or, memb}
 use Rattle.basis.proofs.Index.{last-at, memb-get_or}
 use Rattle.basis.proofs.Logic.{by_test, or_none, or_left, or_right, or_neither, same, lt_or_le}
 use Rattle.basis.proofs.Rise.{chain_rise}
+use Rattle.std.specs.List.{IsAllAdjacentAnswer}
+use Rattle.std.specs.Ordering.{is_le, is_some_and, nat_cmp}
+use Rattle.std.specs.Prelude.{Some}
+use Rattle.std.proofs.lemmas.List.Sorted.{non_decreasing_from_is_sorted}
 use Rattle.basis.proofs.Walk.{any_at, any_walked, chain_broken, chain_walked, head_at, chain_weaker}
 use Rattle.spec.specs.Graph.{size_of, row_of, graph_of, max_nodes, max_entries, bad_size, outside, refuses1, refuses2, bad_row, refuses3}
 use Rattle.laws.specs.Legal.{Node, Starts}
@@ -69,6 +73,17 @@ module _ (S N : List ℕ) (l : 1 ≤ length S) where
       let f : eqb (last_or 0 S) (length N) ≡ true = eq-eqb (last_or 0 S) (length N) (last-at 0 0 S l ∙ b) in
       let h : ltb max_entries (last_or 0 S) ≡ false = le-ltb max_entries (last_or 0 S) (rw (last-at 0 0 S l) c) in
       by_test (chainb leb S) (λ u. rw (e, f, h, u)) (λ u. rw (e, f, h, u))
+
+-- the starts fall nowhere, as the library tells it
+pub starts_sorted : (S : List ℕ) (r : Bool) → IsAllAdjacentAnswer (λ x y b. is_some_and is_le (Some (nat_cmp x y)) ≡ b) S r → r ≡ chainb leb S
+starts_sorted S true h =
+    sym (chain_walked 0 leb S (λ i b k.
+    let w : get_or S (i - 1) 0 ≤ get_or S i 0 = non_decreasing_from_is_sorted S true h (i - 1) i 0 (omega arith) b in
+    le-leb (get_or S (i - 1) 0) (get_or S i 0) w))
+starts_sorted S false h =
+    let w = non_decreasing_from_is_sorted S false h in
+    let q : w.0 + 1 - 1 ≡ w.0 = omega arith in
+    sym (chain_broken 0 leb S (w.0 + 1) (omega arith) w.1 (rw q (lt-leb (get_or S w.0 0) (get_or S (w.0 + 1) 0) (w.2 0))))
 
 -- ---- one row, word by word; the word before word j is word j of 0 ∷ r
 
@@ -144,5 +159,7 @@ row_parted {p} {r} {lo} T h =
     (λ e. ⊎_elim (λ (l : k < lo). omega (arith, T.under k l)) (λ (l : lo ≤ k). omega (arith, T.over k (omega arith) b)) (lt_or_le k lo)))
 
 -- the entries of row p are nodes
-pub row_node : {S N : List ℕ} → Rows S N → {p : ℕ} → Node (graph_of S N) p → (r : List ℕ) → r ≡ row_of S N p → (j : ℕ) → j < length r → Node (graph_of S N) (get_or r j 0)
-row_node {S} {N} h {p} m r e j b = h.inside p (get_or r j 0) m (ap (memb (get_or r j 0)) (sym e) ∙ memb-get_or r j b)
+pub row_node : {S N : List ℕ} → Rows S N → {p : ℕ} → Node (graph_of S N) p → {r : List ℕ} → r ≡ row_of S N p
+    → {j q : ℕ} → j < length r → q ≡ get_or r j 0 → Node (graph_of S N) q
+row_node {S} {N} h {p} m {r} e {j} {q} b f =
+    h.inside p q m (ap (memb q) (sym e) ∙ ap (λ (x : ℕ). memb x r) f ∙ memb-get_or r j b)

@@ -10,8 +10,8 @@ pub fn row<'a>(starts: &[u16], neighbours: &'a [u16], p: usize) -> &'a [u16]
     requires node { Node (graph_now starts neighbours) p }
     ensures { result.now ≡ row_of starts.now neighbours.now p }
 {
-    let from = starts[p - 1] as usize;
-    let to = starts[p] as usize;
+    let from = usize::from(starts[p - 1]);
+    let to = usize::from(starts[p]);
     &neighbours[from..to]
 }
 
@@ -21,9 +21,7 @@ pub fn degree(starts: &[u16], p: usize) -> usize
     requires le_p { (1 ≤ p) × (p ≤ size_now starts) }
     ensures { (neighbours : List ℕ) → Starts starts.now neighbours → result ≡ degree (graph_of starts.now neighbours) p }
 {
-    let from = starts[p - 1] as usize;
-    let to = starts[p] as usize;
-    to - from
+    usize::from(starts[p] - starts[p - 1])
 }
 
 // "Order E: lower degree first, then lower old number": whether p comes before q.
@@ -34,11 +32,5 @@ pub fn precedes(starts: &[u16], p: usize, q: usize) -> bool
 {
     let a = degree(starts, p);
     let b = degree(starts, q);
-    if a < b {
-        return true;
-    }
-    if a > b {
-        return false;
-    }
-    p < q
+    a < b || a == b && p < q
 }

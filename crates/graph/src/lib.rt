@@ -10,34 +10,19 @@ ghost use Rattle.laws.specs.Legal.{Node, Starts};
 ghost use Rattle.graph.specs.Answer.{meaning};
 ghost use Rattle.graph.specs.Facts.{Rows, lower_pairs};
 
-mod answer;
 pub mod legal;
 
-pub use answer::Adjacency;
+use refusals::Refusal;
+
+// "A neighbour list has at most 32,768" words.
+const MAX_ENTRIES: usize = 32768;
 
 // 1: n is 0 or over 4,096, or the start list is empty. n + 1 words are counted, so that an empty list needs no case of its own.
 fn bad_count(starts: &[u16]) -> bool
     ensures { result ≡ refuses1 starts.now }
 {
     let words = starts.len();
-    if words < 2 {
-        return true;
-    }
-    words > 4097
-}
-
-// Whether the starts fall nowhere.
-fn starts_rise(starts: &[u16]) -> bool
-    ensures { result ≡ chainb leb starts.now }
-{
-    let mut i = 1;
-    while i < starts.len() {
-        if starts[i - 1] > starts[i] {
-            return false;
-        }
-        i += 1;
-    }
-    true
+    words < 2 || words > 4097
 }
 
 // 2: first start not 0, starts fall, last start not the neighbour list's length, or over 32,768. The list is walked last: the rest is cheap.
@@ -45,38 +30,24 @@ fn bad_starts(starts: &[u16], neighbours: &[u16]) -> bool
     requires { 1 ≤ length starts.now }
     ensures { result ≡ refuses2 starts.now neighbours.now }
 {
-    if starts[0] != 0 {
+    let last = usize::from(starts[starts.len() - 1]);
+    if starts[0] != 0 || last != neighbours.len() || last > MAX_ENTRIES {
         return true;
     }
-    let last = starts[starts.len() - 1] as usize;
-    if last != neighbours.len() {
-        return true;
-    }
-    if last > 32768 {
-        return true;
-    }
-    !starts_rise(starts)
+    !starts.is_sorted()
 }
 
 // Whether row p leaves 1..n, holds itself or doesn't rise. Before the first word stands 0, so that a word 0 is one that doesn't rise.
 fn bad_row(row: &[u16], p: usize, n: usize) -> bool
     ensures { result ≡ bad_row n p row.now }
 {
-    let mut last: usize = 0;
-    let mut j = 0;
-    while j < row.len() {
-        let q = row[j] as usize;
-        if q <= last {
-            return true;
-        }
-        if q > n {
-            return true;
-        }
-        if q == p {
+    let mut last = 0;
+    for q in row {
+        let q = usize::from(*q);
+        if q <= last || q > n || q == p {
             return true;
         }
         last = q;
-        j += 1;
     }
     false
 }
@@ -87,9 +58,7 @@ fn bad_rows(starts: &[u16], neighbours: &[u16]) -> bool
     ensures { result ≡ refuses3 (graph_was starts neighbours) }
 {
     let n = starts.len() - 1;
-    let mut p = 0;
-    while p < n {
-        p += 1;
+    for p in 1..=n {
         let row = legal::row(starts, neighbours, p);
         if bad_row(row, p, n) {
             return true;
@@ -98,16 +67,17 @@ fn bad_rows(starts: &[u16], neighbours: &[u16]) -> bool
     false
 }
 
-// Whether a row that rises holds p, by halving: lo..hi is where p may still stand.
+// Whether a row that rises holds p: lo..hi is where p may still stand.
 fn holds(row: &[u16], p: usize) -> bool
     requires { chainb ltb row.now ≡ true }
     ensures { result ≡ memb p row.now }
 {
     let mut lo = 0;
     let mut hi = row.len();
+    // A while: a step halves what is left.
     while lo < hi {
         let mid = lo + (hi - lo) / 2;
-        let word = row[mid] as usize;
+        let word = usize::from(row[mid]);
         if word == p {
             return true;
         }
@@ -128,17 +98,15 @@ fn lower_pairs(starts: &[u16], neighbours: &[u16], p: usize) -> usize
 {
     let row = legal::row(starts, neighbours, p);
     let mut pairs = 0;
-    let mut j = 0;
-    while j < row.len() {
-        let q = row[j] as usize;
+    for q in row {
+        let q = usize::from(*q);
         if q >= p {
-            return pairs;
+            break;
         }
         let partners = legal::row(starts, neighbours, q);
         if holds(partners, p) {
             pairs += 1;
         }
-        j += 1;
     }
     pairs
 }
@@ -148,31 +116,28 @@ fn lacks_partners(starts: &[u16], neighbours: &[u16]) -> bool
     requires { Rows starts.now neighbours.now }
     ensures { result ≡ refuses4 (graph_was starts neighbours) }
 {
-    let n = starts.len() - 1;
     let mut pairs = 0;
-    let mut p = 0;
-    while p < n {
-        p += 1;
+    for p in 1..starts.len() {
         pairs += lower_pairs(starts, neighbours, p);
     }
     2 * pairs < neighbours.len()
 }
 
 // The entry point: "Tests run in that order", and each may lean on those before it.
-pub fn test_adjacency(starts: &[u16], neighbours: &[u16]) -> Adjacency
+pub fn test_adjacency(starts: &[u16], neighbours: &[u16]) -> Result<(), Refusal>
     ensures { meaning result ≡ adjacency_answer starts.now neighbours.now }
 {
     if bad_count(starts) {
-        return Adjacency::Refused(1);
+        return Err(Refusal::NodeCount);
     }
     if bad_starts(starts, neighbours) {
-        return Adjacency::Refused(2);
+        return Err(Refusal::Starts);
     }
     if bad_rows(starts, neighbours) {
-        return Adjacency::Refused(3);
+        return Err(Refusal::Rows);
     }
     if lacks_partners(starts, neighbours) {
-        return Adjacency::Refused(4);
+        return Err(Refusal::Partners);
     }
-    Adjacency::Legal
+    Ok(())
 }

@@ -12,14 +12,13 @@ pub mod unknowns;
 
 use graph::legal::row;
 use graph_words::legal::clear;
-use graph_words::{smaller, wide};
 
 // The number of node p.
 pub fn number(numbering: &[u16], p: usize) -> usize
     requires { (1 ≤ p) × (p ≤ length numbering.now) }
     ensures { result ≡ of_node numbering.now p }
 {
-    wide(numbering[p - 1])
+    usize::from(numbering[p - 1])
 }
 
 // Whether n words are each of 1..n once: each node is put at its number, until a number is none of 1..n or is taken.
@@ -30,20 +29,15 @@ fn settle(numbering: &[u16], order: &mut [u16]) -> bool
     ensures order_value_2 { result ≡ true → order.new ≡ order_of numbering.now }
 {
     let n = numbering.len();
-    let mut i = 0;
-    while i < n {
-        let v = wide(numbering[i]);
-        if v == 0 {
-            return false;
-        }
-        if v > n {
+    for (i, v) in numbering.iter().enumerate() {
+        let v = usize::from(*v);
+        if v == 0 || v > n {
             return false;
         }
         if order[v - 1] != 0 {
             return false;
         }
-        i += 1;
-        order[v - 1] = i as u16;
+        order[v - 1] = (i + 1) as u16;
     }
     true
 }
@@ -82,11 +76,8 @@ pub fn row_first(row: &[u16], numbering: &[u16], own: usize) -> usize
     ensures { result ≡ least own (map (of_node numbering.now) row.now) }
 {
     let mut first = own;
-    let mut j = 0;
-    while j < row.len() {
-        let q = wide(row[j]);
-        first = smaller(first, number(numbering, q));
-        j += 1;
+    for q in row {
+        first = first.min(number(numbering, usize::from(*q)));
     }
     first
 }
@@ -123,11 +114,8 @@ pub fn profile(starts: &[u16], neighbours: &[u16], numbering: &[u16]) -> u32
     requires numbering_value { is_numbering (size_now starts) numbering.now ≡ true }
     ensures { result ≡ profile (renumbered (graph_was starts neighbours) numbering.now) }
 {
-    let n = numbering.len();
     let mut sum: u32 = 0;
-    let mut p = 0;
-    while p < n {
-        p += 1;
+    for p in 1..starts.len() {
         sum += span(starts, neighbours, numbering, p);
     }
     sum

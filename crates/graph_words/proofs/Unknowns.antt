@@ -2,27 +2,32 @@
 use mathlib.Core.Path.{◌≡◌, refl, sym, ap, ap₂, ◌∙◌}
 use mathlib.Core.Bool.{Bool, true, false, not, ◌||◌, cond}
 use mathlib.Core.List.{List, [], ◌∷◌}
-use Prim.Native.Nat.{ℕ, suc, ◌+◌, ◌*◌, ◌≤◌, ◌<◌}
-use native.Mathlib.Numerals.{add-one}
+use Rattle.std.specs.Prelude.{Result, Ok, Err}
+use Prim.Native.Nat.{ℕ, ◌+◌, ◌*◌, ◌≤◌}
 use native.Mathlib.Omega.{arith}
-use lib.ListN.{length, get_or, drop, replicate}
-use lib.Seq.{drop-cons, drop-length}
+use lib.ListN.{length, drop, replicate}
+use lib.Seq.{drop-length}
 use lib.Dec.{eqb}
 use borrow.Author.Tests.{eq-eqb, ne_eqb}
-use Rattle.basis.specs.Lists.{bit, countb, anyb, memb, sum}
-use Rattle.basis.proofs.Count.{bit_most, any_count, none_count}
+use Rattle.basis.specs.Lists.{countb, anyb, memb, sum}
+use Rattle.basis.proofs.Count.{any_count, none_count}
 use Rattle.basis.proofs.Lists.{memb_here}
 use Rattle.basis.proofs.Logic.{by_test, or_left, or_right}
+use Rattle.refusals.specs.declared.Refusal.{Refusal}
+use Rattle.refusals.specs.declared.Refusal.TheVariants.{Counts}
 use Rattle.spec.specs.Graph.{outside}
 use Rattle.spec.specs.Unknowns.{max_count, bad_counts, ones}
 use Rattle.laws.proofs.UnknownBounds.{counts_size, in_range}
 
 -- the answer where the counts are refused, and where they are not
-abbrev pub unknowns_of : ℕ → List ℕ → ℕ
-unknowns_of n K = cond (bad_counts n K) 0 (sum K)
+abbrev answer : Bool → List ℕ → Result ℕ Refusal
+answer b K = cond b (Err Counts) (Ok (sum K))
 
-refused : (n : ℕ) (K : List ℕ) → bad_counts n K ≡ true → 0 ≡ unknowns_of n K
-refused n K e = sym (ap (λ (b : Bool). cond b 0 (sum K)) e)
+abbrev pub unknowns_of : ℕ → List ℕ → Result ℕ Refusal
+unknowns_of n K = answer (bad_counts n K) K
+
+refused : (n : ℕ) (K : List ℕ) → bad_counts n K ≡ true → Err Counts ≡ unknowns_of n K
+refused n K e = sym (ap (λ (b : Bool). answer b K) e)
 
 -- a count each, so no fewer unknowns than nodes; and with no more, one each
 least : (l : List ℕ) → ((x : ℕ) → memb x l ≡ true → 1 ≤ x) → length l ≤ sum l
@@ -40,7 +45,7 @@ counts_least : (n : ℕ) (K : List ℕ) → bad_counts n K ≡ false → n ≤ s
 counts_least n K ok = omega (arith, least K (λ x m. (in_range n K ok x m).0), counts_size n K ok)
 
 -- a list of another length
-pub unknowns_misfit : (n : ℕ) (K : List ℕ) → (length K ≡ n → ⊥) → 0 ≡ unknowns_of n K
+pub unknowns_misfit : (n : ℕ) (K : List ℕ) → (length K ≡ n → ⊥) → Err Counts ≡ unknowns_of n K
 unfolding bad_counts
 unknowns_misfit n K ne = refused n K (or_left (anyb (outside max_count) K) (ap not (ne_eqb (length K) n ne)))
 
@@ -53,26 +58,7 @@ pub record Totalling (n : ℕ) (K : List ℕ) (t b i : ℕ) : Type 0 where
   pub tested : b + countb (outside max_count) (drop i K) ≡ countb (outside max_count) K
   pub added : t + sum (drop i K) ≡ sum K
 
-pub totalling_begin : {n : ℕ} {K : List ℕ} → length K ≡ n → Totalling n K 0 0 0
-totalling_begin e = record { size = e; most = omega arith; few = omega arith; fewer = omega arith; tested = omega arith; added = omega arith }
-
 module _ {n : ℕ} {K : List ℕ} {t b i : ℕ} (I : Totalling n K t b i) where
-  pub strays_few : {s : ℕ} → s ≡ bit (outside max_count (get_or K i 0)) → b + s ≤ i + 1
-  strays_few e = omega (arith, I.fewer, e, bit_most (outside max_count (get_or K i 0)))
-
-  -- one word more
-  pub totalling_step : i < n → get_or K i 0 < 65536 → {s : ℕ} → s ≡ bit (outside max_count (get_or K i 0)) → Totalling n K (t + get_or K i 0) (b + s) (i + 1)
-  totalling_step h l {s} e =
-      let cons : drop i K ≡ get_or K i 0 ∷ drop (suc i) K = drop-cons K i 0 (omega (arith, I.size)) in
-      rw (add-one i) record {
-        size = I.size;
-        most = omega arith;
-        few = omega (arith, I.few);
-        fewer = omega (arith, strays_few e);
-        tested = omega (arith, I.tested, e, ap (countb (outside max_count)) cons);
-        added = omega (arith, I.added, ap sum cons);
-      }
-
   module _ (h : n ≤ i) where
     none : drop i K ≡ []
     none = let z : i ≡ length K = omega (arith, I.most, I.size) in ap (λ (j : ℕ). drop j K) z ∙ drop-length K
@@ -85,37 +71,42 @@ module _ {n : ℕ} {K : List ℕ} {t b i : ℕ} (I : Totalling n K t b i) where
     bad_as {r} a = ap (λ (m : Bool). not m || anyb (outside max_count) K) (eq-eqb (length K) n I.size) ∙ a
 
     -- some word is no count, or every one is
-    pub unknowns_bad : (b ≡ 0 → ⊥) → 0 ≡ unknowns_of n K
+    pub unknowns_bad : (b ≡ 0 → ⊥) → Err Counts ≡ unknowns_of n K
     unknowns_bad some =
         refused n K
         (bad_as (by_test (anyb (outside max_count) K) (λ (y : anyb (outside max_count) K ≡ true). y)
         (λ (f : anyb (outside max_count) K ≡ false). absurd (some (all_tested ∙ none_count (outside max_count) K f)))))
 
-    pub unknowns_good : b ≡ 0 → t ≡ unknowns_of n K
+    pub unknowns_good : b ≡ 0 → Ok t ≡ unknowns_of n K
     unknowns_good zero =
         let good : bad_counts n K ≡ false =
         bad_as (by_test (anyb (outside max_count) K)
         (λ (y : anyb (outside max_count) K ≡ true). absurd (omega (arith, zero, all_tested, any_count (outside max_count) K y)))
         (λ (f : anyb (outside max_count) K ≡ false). f)) in
         let all : t ≡ sum K = omega (arith, I.added, ap sum none) in
-        all ∙ sym (ap (λ (x : Bool). cond x 0 (sum K)) good)
+        ap Ok all ∙ sym (ap (λ (x : Bool). answer x K) good)
 
 -- ---- what the answer tells
 
--- 0 where the counts are refused, and where there is no node
-pub unknowns_refused : (n : ℕ) (K : List ℕ) → 1 ≤ n → unknowns_of n K ≡ 0 → bad_counts n K ≡ true
-unknowns_refused n K some e =
-    by_test (bad_counts n K) (λ b. b)
-    (λ b.
-    let z : sum K ≡ 0 = sym (ap (λ (x : Bool). cond x 0 (sum K)) b) ∙ e in
-    absurd (omega (arith, counts_least n K b, some)))
+-- `Err`: the counts are refused, by this refusal
+pub unknowns_refused : (n : ℕ) (K : List ℕ) {r : Result ℕ Refusal} {e : Refusal} → r ≡ unknowns_of n K → r ≡ Err e → (bad_counts n K ≡ true) × (e ≡ Counts)
+unknowns_refused n K {r} {e} is err = go (bad_counts n K) refl (sym is ∙ err)
+  where
+    go : (b : Bool) → bad_counts n K ≡ b → answer b K ≡ Err e → (bad_counts n K ≡ true) × (e ≡ Counts)
+    go true q h = (q, (cc))
+    go false q h = absurd (cc)
 
-pub unknowns_kept : (n : ℕ) (K : List ℕ) → (unknowns_of n K ≡ 0 → ⊥) → bad_counts n K ≡ false
-unknowns_kept n K some = by_test (bad_counts n K) (λ b. absurd (some (ap (λ (x : Bool). cond x 0 (sum K)) b))) (λ b. b)
+-- `Ok`: they are not, and this is their sum
+pub unknowns_kept : (n : ℕ) (K : List ℕ) {r : Result ℕ Refusal} {t : ℕ} → r ≡ unknowns_of n K → r ≡ Ok t → (bad_counts n K ≡ false) × (t ≡ sum K)
+unknowns_kept n K {r} {t} is ok = go (bad_counts n K) refl (sym is ∙ ok)
+  where
+    go : (b : Bool) → bad_counts n K ≡ b → answer b K ≡ Ok t → (bad_counts n K ≡ false) × (t ≡ sum K)
+    go true q h = absurd (cc)
+    go false q h = (q, (cc))
 
--- and else their sum
-pub unknowns_total : {t : ℕ} (n : ℕ) (K : List ℕ) → bad_counts n K ≡ false → t ≡ unknowns_of n K → t ≡ sum K
-unknowns_total n K ok e = e ∙ ap (λ (b : Bool). cond b 0 (sum K)) ok
+-- counts that are not refused have an answer
+pub unknowns_given : (n : ℕ) (K : List ℕ) {r : Result ℕ Refusal} → bad_counts n K ≡ false → r ≡ unknowns_of n K → r ≡ Ok (sum K)
+unknowns_given n K ok is = is ∙ ap (λ (b : Bool). answer b K) ok
 
 -- as many as nodes: one each
 pub unknowns_ones : (n : ℕ) (K : List ℕ) → bad_counts n K ≡ false → sum K ≡ n → K ≡ ones n

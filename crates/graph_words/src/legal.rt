@@ -1,24 +1,21 @@
 // Functions that ask for room: their callers have tested the lengths.
-ghost use Rattle.std.specs.Prelude.{◌≡◌, cond, ◌≤◌, length};
+ghost use Rattle.std.specs.Prelude.{◌≡◌, cond, ◌≤◌, length, Ok, Err};
 ghost use Rattle.basis.specs.Lists.{bit, sum};
 ghost use Rattle.basis.specs.Stored.{stored, nought};
 ghost use Rattle.spec.specs.Graph.{outside};
 ghost use Rattle.spec.specs.Lent.{zeroed};
 ghost use Rattle.spec.specs.Unknowns.{bad_counts, max_count};
+ghost use Rattle.refusals.specs.declared.Refusal.TheVariants.{Counts};
 ghost use Rattle.graph_words.specs.Erasable.{listed, Erasable};
 
-use crate::wide;
+use refusals::Refusal;
 
 // Sets the first n words to 0.
 pub fn clear(words: &mut [u16], n: usize)
     requires { n ≤ length words.old }
     ensures { words.new ≡ zeroed n words.old }
 {
-    let mut i = 0;
-    while i < n {
-        words[i] = 0;
-        i += 1;
-    }
+    words[..n].fill(0);
 }
 
 // Sets the word of each of the `count` numbers that stand from `at` on to 0: that of v is word base + v - 1.
@@ -26,11 +23,9 @@ pub fn erase(words: &mut [u16], base: usize, at: usize, count: usize)
     requires { Erasable base at count words.old }
     ensures { words.new ≡ stored base nought words.old (listed at count words.old) }
 {
-    let mut i = 0;
-    while i < count {
-        let v = wide(words[at + i]);
+    for i in at..at + count {
+        let v = usize::from(words[i]);
         words[base + v - 1] = 0;
-        i += 1;
     }
 }
 
@@ -38,35 +33,26 @@ pub fn erase(words: &mut [u16], base: usize, at: usize, count: usize)
 fn stray(c: u16) -> u32
     ensures { result ≡ bit (outside max_count c) }
 {
-    if c == 0 {
-        return 1;
-    }
-    if c > 6 {
-        return 1;
-    }
-    0
+    u32::from(c == 0 || c > 6)
 }
 
-// How many unknowns n nodes have: the sum of their counts; 0 where these are none (15), since a list has n words, each of 1 to 6. The loop
-// has no way out before its end and strays are counted, so that the processor takes several words at a time.
-pub fn unknowns(counts: &[u16], n: usize) -> usize
+// How many unknowns n nodes have: the sum of their counts; refused where these are none (15), since a list has n words, each of 1 to 6. The
+// loop has no way out before its end and strays are counted, so that the processor takes several words at a time.
+pub fn unknowns(counts: &[u16], n: usize) -> Result<usize, Refusal>
     requires { n ≤ 4096 }
-    ensures { result ≡ cond (bad_counts n counts.now) 0 (sum counts.now) }
+    ensures { result ≡ cond (bad_counts n counts.now) (Err Counts) (Ok (sum counts.now)) }
 {
     if counts.len() != n {
-        return 0;
+        return Err(Refusal::Counts);
     }
     let mut total: u32 = 0;
     let mut strays: u32 = 0;
-    let mut p = 0;
-    while p < n {
-        let c = counts[p];
-        strays += stray(c);
-        total += c as u32;
-        p += 1;
+    for c in counts {
+        strays += stray(*c);
+        total += u32::from(*c);
     }
     if strays != 0 {
-        return 0;
+        return Err(Refusal::Counts);
     }
-    total as usize
+    Ok(total as usize)
 }

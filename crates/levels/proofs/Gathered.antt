@@ -1,12 +1,11 @@
 -- The members of a part as a search finds them. Assumes nothing.
-use mathlib.Core.Path.{◌≡◌, sym, ap, ◌∙◌}
+use mathlib.Core.Path.{◌≡◌, sym, ap, ◌∙◌, refl}
 use mathlib.Core.List.{List, ◌++◌}
 use Prim.Native.Nat.{ℕ, ◌+◌, ◌-◌, ◌*◌, ◌≤◌}
 use native.Mathlib.Omega.{arith}
 use lib.ListN.{length, get_or, take, drop, replicate, length-append, length-drop, take-append-drop, get_or-append}
 use lib.Seq.{sets, take_at, drop_at, get_or-take}
 use lib.Dec.{ltb}
-use borrow.Rule.Slice.PartMut.{post_of}
 use Rattle.basis.specs.Lists.{up_from}
 use Rattle.basis.proofs.Next.{drop_sets_add}
 use Rattle.basis.proofs.Lists.{filter_cong}
@@ -20,7 +19,6 @@ use Rattle.laws.proofs.Refused.{passed, starts_of_lem}
 use Rattle.levels_search.specs.Answer.{Searched}
 use Rattle.levels_search.specs.Queue.{Queued}
 use Rattle.levels_search.proofs.Stores.{take_sets}
-use Rattle.levels_ends.proofs.Areas.{front-lent, front-back}
 use Rattle.levels.specs.Part.{placed}
 
 -- ---- a search in the first 2n words, and its nodes collected
@@ -39,15 +37,15 @@ module _ (S N : List ℕ) (p : ℕ) (W : List ℕ) (ok : graph_refusal S N ≡ 0
   twice : 2 * n ≡ n + n
   twice = omega arith
 
-  pub search_ask : (graph_refusal S N ≡ 0) × (((1 ≤ p) × (p ≤ size_of S)) × ((length P ≤ n) × (take (2 * n - 0) W ≡ replicate (n + n) 0)))
-  search_ask = (ok, (range, (part_most g p, front-lent (2 * n) W ∙ blank ∙ ap (λ (k : ℕ). replicate k 0) twice)))
+  pub search_ask : (graph_refusal S N ≡ 0) × (((1 ≤ p) × (p ≤ size_of S)) × ((length P ≤ n) × (take (2 * n) W ≡ replicate (n + n) 0)))
+  search_ask = (ok, (range, (part_most g p, blank ∙ ap (λ (k : ℕ). replicate k 0) twice)))
 
   module _ {X : List ℕ} (K : Searched S N p X) where
     abbrev W₁ : List ℕ
-    W₁ = X ++ post_of 0 (2 * n - 0) W
+    W₁ = X ++ drop (2 * n) W
 
     is : W₁ ≡ X ++ drop (2 * n) W
-    is = front-back (2 * n) W X
+    is = refl
 
     X-size : length X ≡ 2 * n
     X-size = K.holds.full ∙ sym twice
@@ -61,7 +59,7 @@ module _ (S N : List ℕ) (p : ℕ) (W : List ℕ) (ok : graph_refusal S N ≡ 0
     level-at : (q : ℕ) → Node g q → of_node W₁ q ≡ level_of (levels g p) q
     level-at q B =
         let ls = levels g p in
-        of_node-at W₁ q B.low ∙ get_or-append X (post_of 0 (2 * n - 0) W) 0 (q - 1) (omega (arith, X-size, B.low, B.high))
+        of_node-at W₁ q B.low ∙ get_or-append X (drop (2 * n) W) 0 (q - 1) (omega (arith, X-size, B.low, B.high))
         ∙ sym (get_or-take n X (q - 1) 0 (omega (arith, B.low, B.high))) ∙ ap (λ (l : List ℕ). get_or l (q - 1) 0) K.listed
         ∙ sym (of_node-at (level_list g ls) q B.low) ∙ level_list-at g ls q B
 
@@ -77,12 +75,12 @@ module _ (S N : List ℕ) (p : ℕ) (W : List ℕ) (ok : graph_refusal S N ≡ 0
       U-is : U ≡ sets W₁ (4 * n) P
       U-is = u ∙ ap (sets W₁ (4 * n)) placed_is
 
-      U-front : take (2 * n - 0) U ≡ X
+      U-front : take (2 * n) U ≡ X
       U-front =
-          front-lent (2 * n) U ∙ ap (take (2 * n)) U-is ∙ take_sets (2 * n) W₁ (4 * n) P (omega arith)
-          ∙ take_at X (post_of 0 (2 * n - 0) W) (2 * n) X-size
+          ap (take (2 * n)) U-is ∙ take_sets (2 * n) W₁ (4 * n) P (omega arith)
+          ∙ take_at X (drop (2 * n) W) (2 * n) X-size
 
-      pub wipe_ask : {r : ℕ} → r ≡ reached (levels g p) → Queued n r (take (2 * n - 0) U)
+      pub wipe_ask : {r : ℕ} → r ≡ reached (levels g p) → Queued n r (take (2 * n) U)
       wipe_ask {r} e = rw (e, U-front) K.holds
 
       behind : drop (2 * n) U ≡ drop (2 * n) (sets W (4 * n) P)
@@ -92,8 +90,8 @@ module _ (S N : List ℕ) (p : ℕ) (W : List ℕ) (ok : graph_refusal S N ≡ 0
           ∙ ap (λ (l : List ℕ). sets l (2 * n) P) (ap (drop (2 * n)) is ∙ drop_at X (drop (2 * n) W) (2 * n) X-size)
           ∙ sym (drop_sets_add (2 * n) W (2 * n) P) ∙ ap (λ (t : ℕ). drop (2 * n) (sets W t P)) (sym h)
 
-      pub gathered-words : {R : List ℕ} → R ≡ replicate (n + n) 0 → R ++ post_of 0 (2 * n - 0) U ≡ sets W (4 * n) P
+      pub gathered-words : {R : List ℕ} → R ≡ replicate (n + n) 0 → R ++ drop (2 * n) U ≡ sets W (4 * n) P
       gathered-words {R} v =
           let f : R ≡ take (2 * n) (sets W (4 * n) P) =
           v ∙ ap (λ (k : ℕ). replicate k 0) (sym twice) ∙ sym blank ∙ sym (take_sets (2 * n) W (4 * n) P (omega arith)) in
-          front-back (2 * n) U R ∙ (λ i. f i ++ behind i) ∙ take-append-drop (2 * n) (sets W (4 * n) P)
+          (λ i. f i ++ behind i) ∙ take-append-drop (2 * n) (sets W (4 * n) P)

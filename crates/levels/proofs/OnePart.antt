@@ -1,12 +1,11 @@
 -- One part: from its members to the searches from its ends, and from those to what `combine` asks. Assumes nothing.
-use mathlib.Core.Path.{◌≡◌, sym, ap, ◌∙◌, subst}
+use mathlib.Core.Path.{◌≡◌, sym, ap, ◌∙◌, subst, refl}
 use mathlib.Core.Bool.{true}
 use mathlib.Core.List.{List, ◌++◌}
 use Prim.Native.Nat.{ℕ, ◌+◌, ◌-◌, ◌*◌, ◌≤◌, ◌<◌}
 use native.Mathlib.Omega.{arith}
 use lib.ListN.{length, get_or, take, drop, replicate, length-append, length-take, length-drop, length-map, length-replicate, take-append-drop, get_or-append}
 use lib.Seq.{slice, length-slice, ext_get_or, take-append-le, take-take, get_or-take, get_or-drop}
-use borrow.Rule.Slice.PartMut.{post_of}
 use Rattle.basis.specs.Lists.{memb, up_from}
 use Rattle.basis.proofs.Index.{zeros-at}
 use Rattle.basis.proofs.Lists.{map_cong, up_from_in, length-up_from}
@@ -29,7 +28,7 @@ use Rattle.levels_sort.specs.Nodes.{Nodes}
 use Rattle.levels_ends.specs.Answer.{found_of, Ended}
 use Rattle.levels_ends.specs.Passes.{half}
 use Rattle.levels_ends.specs.declared.shape.Found.{Found}
-use Rattle.levels_ends.proofs.Areas.{front-lent, front-back, slice_shift}
+use Rattle.levels_ends.proofs.Areas.{slice_shift}
 use Rattle.levels_laws.specs.Areas.{words_of}
 use Rattle.levels_laws.specs.Given.{Given, first_of, ends_of, merged}
 use Rattle.levels_laws.specs.Starts.{members_of}
@@ -114,12 +113,12 @@ module _ (S N : List ℕ) (ok : graph_refusal S N ≡ 0) {from to : ℕ} (X : Li
 
     -- ---- the ends
 
-    front : take (4 * n - 0) X ≡ replicate (half S + half S) 0
+    front : take (4 * n) X ≡ replicate (half S + half S) 0
     front =
         let e : 4 * n ≡ half S + half S = omega arith in
-        front-lent (4 * n) X ∙ sym (take-take (4 * n) (5 * n) X (omega arith)) ∙ A.blank ∙ ap (λ (j : ℕ). replicate j 0) e
+        sym (take-take (4 * n) (5 * n) X (omega arith)) ∙ A.blank ∙ ap (λ (j : ℕ). replicate j 0) e
 
-    pub ends_ask : (graph_refusal S N ≡ 0) × (((1 ≤ v) × (v ≤ size_of S)) × ((v ≡ first_in_e g (part g v)) × (take (4 * n - 0) X ≡ replicate (half S + half S) 0)))
+    pub ends_ask : (graph_refusal S N ≡ 0) × (((1 ≤ v) × (v ≤ size_of S)) × ((v ≡ first_in_e g (part g v)) × (take (4 * n) X ≡ replicate (half S + half S) 0)))
     ends_ask = (ok, (first_range S N ok z_node v-first, (first-own S N ok z_node v-first, front)))
 
     module _ {f : Found} (found : f ≡ found_of g (ends g v)) {Y : List ℕ} (ended : Ended S N (ends g v) Y) where
@@ -128,7 +127,7 @@ module _ (S N : List ℕ) (ok : graph_refusal S N ≡ 0) {from to : ℕ} (X : Li
 
       -- the slice as it comes back
       abbrev X₁ : List ℕ
-      X₁ = Y ++ post_of 0 (4 * n - 0) X
+      X₁ = Y ++ drop (4 * n) X
 
       abbrev W₁ : List ℕ
       W₁ = words_of n X₁
@@ -141,13 +140,13 @@ module _ (S N : List ℕ) (ok : graph_refusal S N ≡ 0) {from to : ℕ} (X : Li
       both_ended = subst (λ (x : Ends). Ended S N x Y) same ended
 
       pub comes_back : X₁ ≡ Y ++ drop (4 * n) X
-      comes_back = front-back (4 * n) X Y
+      comes_back = refl
 
       Y-size : length Y ≡ 4 * n
       Y-size = both_ended.full ∙ omega arith
 
       in_front_lem : (i : ℕ) → i < 4 * n → get_or W₁ i 0 ≡ get_or Y i 0
-      in_front_lem i h = get_or-take (5 * n) X₁ i 0 (omega arith) ∙ get_or-append Y (post_of 0 (4 * n - 0) X) 0 i (omega (arith, Y-size))
+      in_front_lem i h = get_or-take (5 * n) X₁ i 0 (omega arith) ∙ get_or-append Y (drop (4 * n) X) 0 i (omega (arith, Y-size))
 
       behind : drop (4 * n) X₁ ≡ drop (4 * n) X
       behind = ap (drop (4 * n)) comes_back ∙ behind_front (4 * n) (4 * n) Y X Y-size (omega arith)
@@ -214,13 +213,13 @@ module _ (S N : List ℕ) (ok : graph_refusal S N ≡ 0) {from to : ℕ} (X : Li
         width-v = at-v ∙ ap (λ (x : Ends). x.v_width) (sym ends_same);
         width_u = at-u ∙ ap (λ (x : Ends). x.u_width) (sym ends_same);
         firsts =
-            take-take n (5 * n) X₁ (omega arith) ∙ take-append-le n Y (post_of 0 (4 * n - 0) X) (omega (arith, Y-size))
+            take-take n (5 * n) X₁ (omega arith) ∙ take-append-le n Y (drop (4 * n) X) (omega (arith, Y-size))
             ∙ sym (take-take n (half S) Y (omega arith)) ∙ both_ended.first.listed ∙ ap (λ (x : Ends). level_list g (levels g x.v)) (sym ends_same);
         seconds =
             let a : 2 * n ≡ half S + 0 = omega arith in
             let b : 3 * n ≡ half S + n = omega arith in
             ap (drop (2 * n)) (take-take (3 * n) (5 * n) X₁ (omega arith))
-            ∙ slice_front (2 * n) (3 * n) Y (post_of 0 (4 * n - 0) X) (omega (arith, Y-size)) ∙ (λ i. slice (a i) (b i) Y)
+            ∙ slice_front (2 * n) (3 * n) Y (drop (4 * n) X) (omega (arith, Y-size)) ∙ (λ i. slice (a i) (b i) Y)
             ∙ slice_shift (half S) 0 n Y ∙ both_ended.second.listed ∙ ap (λ (x : Ends). level_list g (levels g x.u)) (sym ends_same);
         queue_v = λ i l h.
             in_front_lem i (omega arith) ∙ sym (get_or-take (half S) Y i 0 (omega arith))

@@ -6,7 +6,6 @@ use Prim.Native.Nat.{ℕ, ◌+◌, ◌-◌, ◌*◌, ◌≤◌}
 use native.Mathlib.Omega.{arith}
 use lib.ListN.{length, take, drop, replicate, length-append, length-drop}
 use lib.Seq.{slice, take_all}
-use borrow.Rule.Slice.PartMut.{post_of}
 use Rattle.basis.specs.Lists.{memb}
 use Rattle.basis.proofs.Walk.{part_slice, slice_front}
 use Rattle.spec.specs.Combined.{width_of}
@@ -27,7 +26,7 @@ use Rattle.levels_search.proofs.Stores.{drop-replicate}
 use Rattle.levels_ends.specs.Answer.{found_of, Ended}
 use Rattle.levels_ends.specs.Passes.{half}
 use Rattle.levels_ends.specs.declared.shape.Found.{Found}
-use Rattle.levels_ends.proofs.Areas.{front-back, slice_shift}
+use Rattle.levels_ends.proofs.Areas.{slice_shift}
 use Rattle.levels_sizes.specs.Sizes.{levels_at, Listable}
 use Rattle.levels_sizes.proofs.Searches.{search_at, searched_listable, searched_width}
 use Rattle.levels_sizes.specs.declared.shape.Widths.{Widths}
@@ -125,10 +124,10 @@ module _ (S N : List ℕ) (ok : graph_refusal S N ≡ 0) {p : ℕ} (M : Node (gr
   h = half S + half S
 
   abbrev X₁ : List ℕ
-  X₁ = Y ++ post_of 0 (h - 0) U
+  X₁ = Y ++ drop h U
 
   back : X₁ ≡ Y ++ drop h U
-  back = front-back h U Y
+  back = refl
 
   same : ends (graph_of S N) v ≡ ends (graph_of S N) p
   same = same_ends S N ok M first

@@ -14,7 +14,6 @@ ghost use Rattle.levels.specs.Part.{placed, PartGiven, part_levels_of};
 
 use crate::shape::PartLevels;
 use graph_words::areas::{MEMBERS, SECOND};
-use graph_words::wide;
 use levels_combine::legal::combine;
 use levels_ends::legal::{ends_from, first_in_e};
 use levels_search::legal::{search, wipe};
@@ -27,10 +26,7 @@ pub const WORDS_PER_NODE: usize = 6;
 pub fn no_node(n: usize, p: u16) -> bool
     ensures { result ≡ outside n p }
 {
-    if p == 0 {
-        return true;
-    }
-    n < wide(p)
+    p == 0 || n < usize::from(p)
 }
 
 // Puts the nodes that have a level in the first n words into MEMBERS, rising. Returns how many there are.
@@ -40,14 +36,11 @@ fn collect(scratch: &mut [u16], n: usize) -> usize
     ensures scratch_value { scratch.new ≡ sets scratch.old (members_area n) (placed n scratch.old) }
 {
     let mut count = 0;
-    let mut p = 0;
-    while p < n {
+    for p in 0..n {
         if scratch[p] != 0 {
-            let q = p + 1;
-            scratch[MEMBERS * n + count] = q as u16;
+            scratch[MEMBERS * n + count] = (p + 1) as u16;
             count += 1;
         }
-        p += 1;
     }
     count
 }
@@ -62,9 +55,9 @@ pub fn gather_part(starts: &[u16], neighbours: &[u16], node: u16, scratch: &mut 
     ensures scratch_value_2 { scratch.new ≡ sets scratch.old (members_area (size_was starts)) (part (graph_was starts neighbours) node) }
 {
     let n = starts.len() - 1;
-    let s = search(starts, neighbours, node, n, &mut scratch[0..SECOND * n]);
+    let s = search(starts, neighbours, node, n, &mut scratch[..SECOND * n]);
     let count = collect(scratch, n);
-    wipe(&mut scratch[0..SECOND * n], n, wide(s.reached));
+    wipe(&mut scratch[..SECOND * n], n, usize::from(s.reached));
     count
 }
 
@@ -83,7 +76,7 @@ pub fn combine_part(
 {
     let n = starts.len() - 1;
     let first = first_in_e(starts, &scratch[MEMBERS * n + from..MEMBERS * n + to]);
-    let f = ends_from(starts, neighbours, first, &mut scratch[0..MEMBERS * n]);
+    let f = ends_from(starts, neighbours, first, &mut scratch[..MEMBERS * n]);
     let w = end_widths(scratch, n, f.reached, f.k);
     let width = combine(starts, neighbours, scratch, from, to, f.k, w.v, w.u);
     PartLevels {

@@ -30,8 +30,8 @@ pub(crate) fn find_ends(
     let n = starts.len() - 1;
     let half = n + n;
     clear(scratch, WORDS_PER_NODE * n);
-    let v = first_of_part(starts, neighbours, node, &mut scratch[0..half]);
-    let f = ends_from(starts, neighbours, v, &mut scratch[0..half + half]);
+    let v = first_of_part(starts, neighbours, node, &mut scratch[..half]);
+    let f = ends_from(starts, neighbours, v, &mut scratch[..half + half]);
     let w = end_widths(scratch, n, f.reached, f.k);
     clear(scratch, WORDS_PER_NODE * n);
     PartEnds {
@@ -41,18 +41,6 @@ pub(crate) fn find_ends(
         widthv: w.v,
         widthu: w.u,
         passes: f.passes,
-    }
-}
-
-// Copies the words of `from` over those of `to`, which are as many.
-fn copy(to: &mut [u16], from: &[u16])
-    requires { length to.old ≡ length from.now }
-    ensures { to.new ≡ from.now }
-{
-    let mut i = 0;
-    while i < from.len() {
-        to[i] = from[i];
-        i += 1;
     }
 }
 
@@ -76,7 +64,7 @@ pub(crate) fn find_levels(
     clear(scratch, WORDS_PER_NODE * n);
     let count = gather_part(starts, neighbours, node, scratch);
     let f = combine_part(starts, neighbours, scratch, 0, count);
-    copy(levels, &scratch[TALLY * n..AREAS * n]);
+    levels.copy_from_slice(&scratch[TALLY * n..AREAS * n]);
     clear(scratch, WORDS_PER_NODE * n);
     f
 }

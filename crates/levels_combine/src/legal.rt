@@ -20,7 +20,6 @@ ghost use Rattle.levels_laws.specs.Members.{Members, Mirrorable, Clearable, Mova
 ghost use Rattle.levels_laws.specs.Slices.{ends_in, work_ends, EntryIn, LevelledIn, with_levels};
 
 use graph_words::areas::{AREAS, MEMBERS, MERGED, SECOND, TALLY};
-use graph_words::wide;
 use levels_pieces::legal::{find, size_at};
 use levels_place::legal::{place, settle, widest};
 
@@ -29,11 +28,9 @@ fn mirror(scratch: &mut [u16], n: usize, from: usize, to: usize, k: u16)
     requires { Mirrorable n from to k scratch.old }
     ensures { scratch.new ≡ stored (second_area n) (mirrored_at n k scratch.old) scratch.old (members_of n from to scratch.old) }
 {
-    let mut i = from;
-    while i < to {
-        let at = SECOND * n + wide(scratch[MEMBERS * n + i]) - 1;
+    for i in from..to {
+        let at = SECOND * n + usize::from(scratch[MEMBERS * n + i]) - 1;
         scratch[at] = k + 1 - scratch[at];
-        i += 1;
     }
 }
 
@@ -44,15 +41,13 @@ fn gather(scratch: &mut [u16], n: usize, from: usize, to: usize) -> usize
     ensures scratch_value { scratch.new ≡ sets scratch.old n (filterb (settled_at n scratch.old) (members_of n from to scratch.old)) }
 {
     let mut t = 0;
-    let mut i = from;
-    while i < to {
+    for i in from..to {
         let z = scratch[MEMBERS * n + i];
-        let at = wide(z);
+        let at = usize::from(z);
         if scratch[at - 1] == scratch[SECOND * n + at - 1] {
             scratch[n + t] = z;
             t += 1;
         }
-        i += 1;
     }
     t
 }
@@ -64,12 +59,10 @@ fn place_all(scratch: &mut [u16], n: usize, m: usize, narrow: bool)
     ensures scratch_value { work_of n scratch.new ≡ words_after n narrow (starts_of n m (work_of n scratch.old)) (work_of n scratch.old) (held_of n scratch.old) }
     ensures scratch_value_2 { held_of n scratch.new ≡ levels_after n narrow (starts_of n m (work_of n scratch.old)) (work_of n scratch.old) (held_of n scratch.old) }
 {
-    let mut i = 0;
-    while i < m {
-        let s = wide(scratch[TALLY * n + i]);
+    for i in 0..m {
+        let s = usize::from(scratch[TALLY * n + i]);
         let t = s + size_at(scratch, n, s);
         place(scratch, n, s, t, narrow);
-        i += 1;
     }
 }
 
@@ -111,11 +104,7 @@ fn blank(scratch: &mut [u16], a: usize, count: usize)
     requires { a + count ≤ length scratch.old }
     ensures { scratch.new ≡ sets scratch.old a (replicate count 0) }
 {
-    let mut i = 0;
-    while i < count {
-        scratch[a + i] = 0;
-        i += 1;
-    }
+    scratch[a..a + count].fill(0);
 }
 
 // Sets the words of a part to 0 but for its levels, in the time of the part.
@@ -139,11 +128,9 @@ pub fn copy_levels(scratch: &mut [u16], n: usize, base: usize, from: usize, to: 
     requires members { Members n from to scratch.old }
     ensures { scratch.new ≡ stored (tally_area n) (number_at base scratch.old) scratch.old (members_of n from to scratch.old) }
 {
-    let mut i = from;
-    while i < to {
-        let z = wide(scratch[MEMBERS * n + i]);
+    for i in from..to {
+        let z = usize::from(scratch[MEMBERS * n + i]);
         scratch[TALLY * n + z - 1] = scratch[base + z - 1];
-        i += 1;
     }
 }
 
@@ -185,8 +172,8 @@ pub fn combine(
         k,
         width_u < width_v,
     );
-    let w = widest(scratch, n, wide(k));
-    tidy(scratch, n, from, to, wide(k));
+    let w = widest(scratch, n, usize::from(k));
+    tidy(scratch, n, from, to, usize::from(k));
     move_levels(scratch, n, from, to);
     w as u16
 }

@@ -4,14 +4,12 @@ use mathlib.Core.Logic.{⊎_elim}
 use mathlib.Core.List.{List, ◌++◌}
 use Prim.Native.Nat.{ℕ, ◌+◌, ◌-◌, ◌≤◌, ◌<◌}
 use native.Mathlib.Omega.{arith}
-use lib.ListN.{length, take, drop, get_or, set, get_or-append, length-append}
+use lib.ListN.{length, drop, get_or, set, get_or-append, length-append}
 use lib.Seq.{get_or-take, get_or-drop, get_or-append-add}
-use borrow.Rule.Slice.PartMut.{put_mid}
 use Rattle.basis.proofs.Logic.{lt_or_le}
 use Rattle.levels_search.proofs.Ahead.{Ahead, ahead_none, ahead-front, toward_pass, queued_node, unmet}
 use Rattle.levels_search.proofs.Toward.{Toward, toward_done}
 use Rattle.levels_ends.specs.Passes.{OnePart}
-use Rattle.levels_ends.proofs.Areas.{second-lent, second_back, first-half, second-half}
 
 -- ---- one list twice
 
@@ -24,17 +22,6 @@ module _ (B : List ℕ) {h : ℕ} (l : length B ≡ h) where
 
   twice_second : (j : ℕ) → get_or (B ++ B) (h + j) 0 ≡ get_or B j 0
   twice_second j = ap (λ (k : ℕ). get_or (B ++ B) (k + j) 0) (sym l) ∙ get_or-append-add B B j 0
-
-  -- lent from the middle on, and handed back
-  module _ {Z : List ℕ} (e : Z ≡ B ++ B) where
-    Z-size : length Z ≡ h + h
-    Z-size = ap length e ∙ twice_size
-
-    pub twice_lent : take (length Z - h) (drop h Z) ≡ B
-    twice_lent = second-lent h Z Z-size ∙ ap (drop h) e ∙ second-half h B B l
-
-    pub twice_back : {X Y : List ℕ} → X ≡ Y → put_mid h (length Z - h) Z X ≡ B ++ Y
-    twice_back {X} f = second_back h Z Z-size X ∙ (λ i. (ap (take h) e ∙ first-half h B B l) i ++ f i)
 
 -- ---- the loop
 
@@ -80,9 +67,6 @@ module _ {n count : ℕ} {W₀ W : List ℕ} {i : ℕ} (I : Copying n count W₀
   read j = I.toward.there (n + n + j) (λ a. omega (arith, ahead-front I.asked.second a)) ∙ twice_second B B-size j
 
   module _ (h : i < count) where
-    pub i_fits : n + n + n + i < length W
-    i_fits = omega (arith, copy_size, I.asked.second.most)
-
     -- the node at i of its queue
     node_is : get_or W (n + n + n + i) 0 ≡ get_or B (n + i) 0
     node_is = let e : n + n + n + i ≡ n + n + (n + i) = omega arith in ap (λ (k : ℕ). get_or W k 0) e ∙ read (n + i)

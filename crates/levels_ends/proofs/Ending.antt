@@ -1,11 +1,12 @@
 -- The loop of `ends_from` over lists: the values that v takes. Assumes nothing.
 use mathlib.Core.Path.{◌≡◌, refl, sym, ap, ◌∙◌, subst}
-use mathlib.Core.Bool.{Bool, true, false}
+use mathlib.Core.Bool.{true, false}
 use mathlib.Core.List.{List, [], ◌∷◌, ◌++◌}
 use Prim.Native.Nat.{ℕ, zero, suc, ◌+◌, ◌-◌, ◌≤◌, ◌<◌}
 use native.Mathlib.Omega.{arith}
 use lib.ListN.{length, take, drop, replicate, length-append, length-replicate}
 use lib.Dec.{ltb}
+use borrow.Rule.Slice.PartMut.{post_of}
 use Rattle.basis.specs.Lists.{last_or, memb}
 use Rattle.basis.proofs.Lists.{memb_here}
 use Rattle.spec.specs.Ends.{depth_at, farthest, roots_from, roots, ends_at, ends}
@@ -25,16 +26,15 @@ use Rattle.levels_ends.specs.Answer.{found_of, Ended}
 use Rattle.levels_ends.specs.Passes.{half, At, Onward, Over, Passed, OnePart}
 use Rattle.levels_ends.specs.declared.shape.Found.{Found}
 use Rattle.levels_ends.specs.declared.shape.Tried.{Tried}
-use Rattle.levels_ends.proofs.Areas.{first-half, second-half}
+use Rattle.levels_ends.proofs.Areas.{front-back, first-half, second-half}
 
 -- v is the value of this pass, and t what it gave; the values from v on are what is left of all of them
-pub record Going (S N : List ℕ) (z v : ℕ) (r : Rooted) (t : Tried) (passes : ℕ) (deep : Bool) (W : List ℕ) : Type 0 where
+pub record Going (S N : List ℕ) (z v : ℕ) (r : Rooted) (t : Tried) (passes : ℕ) (W : List ℕ) : Type 0 where
   pub legal : graph_refusal S N ≡ 0
   pub first : Node (graph_of S N) z
   pub in_part : memb v (part (graph_of S N) z) ≡ true
   pub found : r ≡ rooted_of (levels (graph_of S N) v)
   pub gave : Passed S N v t W
-  pub test : deep ≡ t.deeper
   pub fuel : ℕ
   pub base : ℕ
   pub enough : size_of S ≤ fuel + depth_at (graph_of S N) v
@@ -55,21 +55,19 @@ module _ (S N : List ℕ) {z : ℕ} {W : List ℕ} (legal : graph_refusal S N �
   pub first_blank : take (half S) W ≡ replicate (half S) 0
   first_blank = ap (take (half S)) blank ∙ (blank_halves (half S)).0
 
-  pub first_full : length W ≡ half S + half S
-  first_full = ap length blank ∙ length-replicate (half S + half S) 0
-
-  pub first-at : {r : Rooted} {X : List ℕ} → r ≡ rooted_of (levels (graph_of S N) z) → Searched S N z X → At S N z r (X ++ drop (half S) W)
+  -- with the words behind that were not lent
+  pub first-at : {r : Rooted} {X : List ℕ} → r ≡ rooted_of (levels (graph_of S N) z) → Searched S N z X → At S N z r (X ++ post_of 0 (half S - 0) W)
   first-at {X = X} e K =
       let b : drop (half S) W ≡ replicate (half S) 0 = ap (drop (half S)) blank ∙ (blank_halves (half S)).1 in
       let x = K.holds.full in
-      record {
+      rw (front-back (half S) W X) record {
         full = omega (arith, length-append X (drop (half S) W), x, ap length b, length-replicate {A = ℕ} (half S) 0);
         area = record { legal = legal; node = M; found = e; kept = rw (first-half (half S) X (drop (half S) W) x) K };
         blank = second-half (half S) X (drop (half S) W) x ∙ b;
       }
 
   pub going_begin : z ≡ first_in_e (graph_of S N) (part (graph_of S N) z) → {r : Rooted} {t : Tried} {Z : List ℕ} → r ≡ rooted_of (levels (graph_of S N) z) → Passed S N z t Z
-      → Going S N z z r t 1 t.deeper Z
+      → Going S N z z r t 1 Z
   unfolding roots depth_at
   going_begin f {t = t} e P = record {
     legal = legal;
@@ -77,7 +75,6 @@ module _ (S N : List ℕ) {z : ℕ} {W : List ℕ} (legal : graph_refusal S N �
     in_part = part_self (not_refused S N legal) M;
     found = e;
     gave = P;
-    test = refl;
     fuel = size_of S;
     base = z;
     enough = omega arith;
@@ -89,7 +86,7 @@ module _ (S N : List ℕ) {z : ℕ} {W : List ℕ} (legal : graph_refusal S N �
 
 -- ---- a round
 
-module _ {S N : List ℕ} {z v : ℕ} {r : Rooted} {t : Tried} {passes : ℕ} {deep : Bool} {W : List ℕ} (I : Going S N z v r t passes deep W) where
+module _ {S N : List ℕ} {z v : ℕ} {r : Rooted} {t : Tried} {passes : ℕ} {W : List ℕ} (I : Going S N z v r t passes W) where
   G : LegalGraph (graph_of S N)
   G = not_refused S N I.legal
 
@@ -101,9 +98,9 @@ module _ {S N : List ℕ} {z v : ℕ} {r : Rooted} {t : Tried} {passes : ℕ} {d
   small = omega (arith, depth_most (graph_of S N) v, (starts_of_lem (passed S N I.legal)).few)
 
   -- s is deeper
-  module _ (d : deep ≡ true) where
+  module _ (d : t.deeper ≡ true) where
     on : Onward S N v W t
-    on = I.gave.deep (sym I.test ∙ d)
+    on = I.gave.deep d
 
     abbrev s : ℕ
     s = t.node
@@ -159,13 +156,13 @@ module _ {S N : List ℕ} {z v : ℕ} {r : Rooted} {t : Tried} {passes : ℕ} {d
     pub less : t.search.depth ≤ size_of S
     less = omega (arith, depth_most (graph_of S N) s, ap (λ x. x.depth) on.found)
 
-    pub going_next : {t' : Tried} {Z : List ℕ} → Passed S N s t' Z → Going S N z s t.search t' (passes + 1) t'.deeper Z
+    pub going_next : {t' : Tried} {Z : List ℕ} → Passed S N s t' Z → Going S N z s t.search t' (passes + 1) Z
     unfolding depth_at
     going_next {t'} {Z} P = go I.fuel I.enough I.values I.count
       where
         go : (f : ℕ) → size_of S ≤ f + depth_at (graph_of S N) v → last_or z (roots (graph_of S N) z) ≡ last_or I.base (roots_from f (graph_of S N) v)
             → length (roots (graph_of S N) z) + 1 ≡ passes + length (roots_from f (graph_of S N) v)
-            → Going S N z s t.search t' (passes + 1) t'.deeper Z
+            → Going S N z s t.search t' (passes + 1) Z
         go zero e p q = absurd (omega (arith, far.1, depth_most (graph_of S N) s))
         go (suc f) e p q =
             let w = roots_on f (graph_of S N) v s on.others on.is in
@@ -175,7 +172,6 @@ module _ {S N : List ℕ} {z v : ℕ} {r : Rooted} {t : Tried} {passes : ℕ} {d
               in_part = s_in;
               found = on.found;
               gave = P;
-              test = refl;
               fuel = f;
               base = v;
               enough = omega (arith, far.1);
@@ -187,9 +183,9 @@ module _ {S N : List ℕ} {z v : ℕ} {r : Rooted} {t : Tried} {passes : ℕ} {d
 
   -- ---- the end: none is deeper
 
-  module _ (d : deep ≡ false) where
+  module _ (d : t.deeper ≡ false) where
     over : Over S N v W t
-    over = I.gave.flat (sym I.test ∙ d)
+    over = I.gave.flat d
 
     alone : roots_from I.fuel (graph_of S N) v ≡ v ∷ []
     unfolding roots_from

@@ -3,11 +3,11 @@ use mathlib.Core.Path.{◌≡◌, refl, sym, ap, ◌∙◌}
 use mathlib.Core.Logic.{⊎_elim}
 use mathlib.Core.Bool.{Bool, true, false}
 use mathlib.Core.List.{List, [], ◌∷◌, ◌++◌}
-use Prim.Native.Nat.{ℕ, ◌+◌, ◌≤◌, ◌<◌}
+use Prim.Native.Nat.{ℕ, ◌+◌, ◌-◌, ◌≤◌, ◌<◌}
 use native.Mathlib.Numerals.{add-one}
 use native.Mathlib.Omega.{arith}
-use lib.ListN.{length, take, get_or}
-use lib.Seq.{take-suc, take_all}
+use lib.ListN.{length, take, drop, get_or, length-drop}
+use lib.Seq.{take-suc, take_all, get_or-drop}
 use lib.Dec.{eqb, ltb}
 use borrow.Author.Tests.{eqb-true, eqb-false}
 use Rattle.basis.specs.Lists.{chainb, head_or, memb}
@@ -76,6 +76,19 @@ narrower_later g m s e =
 
 -- ---- the loop over nodes: `first` is the first in E of the first i
 
+-- the loop goes over those behind the first one
+module _ (l : List ℕ) where
+  behind : take (length l - 1) (drop 1 l) ≡ drop 1 l
+  behind = take_all (length l - 1) (drop 1 l) (omega (arith, length-drop 1 l))
+
+  pub behind_size : length (take (length l - 1) (drop 1 l)) ≡ length l - 1
+  behind_size = ap length behind ∙ length-drop 1 l
+
+  pub behind_at : (i : ℕ) → get_or (take (length l - 1) (drop 1 l)) i 0 ≡ get_or l (i + 1) 0
+  behind_at i =
+      let e : 1 + i ≡ i + 1 = omega arith in
+      ap (λ (m : List ℕ). get_or m i 0) behind ∙ get_or-drop 1 l i 0 ∙ ap (λ (k : ℕ). get_or l k 0) e
+
 pub record Running (S nodes : List ℕ) (first i : ℕ) : Type 0 where
   pub some : (N : List ℕ) × Starts S N
   pub inside : Nodes (size_of S) nodes
@@ -84,14 +97,6 @@ pub record Running (S nodes : List ℕ) (first i : ℕ) : Type 0 where
 
 take_more : (i : ℕ) (l : List ℕ) → i < length l → take (i + 1) l ≡ take i l ++ (get_or l i 0 ∷ [])
 take_more i l h = ap (λ (m : ℕ). take m l) (add-one i) ∙ take-suc l i 0 h
-
-pub running_begin : {S nodes : List ℕ} → (N : List ℕ) × Starts S N → Nodes (size_of S) nodes → 1 ≤ length nodes → Running S nodes (get_or nodes 0 0) 1
-running_begin {S} {nodes} N n l = record {
-  some = N;
-  inside = n;
-  most = l;
-  on = λ N A. rw (take-suc nodes 0 0 l) (least-one (before_e (graph_of S N)) (get_or nodes 0 0));
-}
 
 module _ {S nodes : List ℕ} {first i : ℕ} (I : Running S nodes first i) where
   pub first_node : (1 ≤ first) × (first ≤ size_of S)

@@ -229,15 +229,6 @@ module _ {S N W₀ : List ℕ} {a b depth : ℕ} {W : List ℕ} {best : Tried} {
         let e : i ≡ b = omega (arith, I.to) in
         ⊎_elim (λ p. absurd (omega (arith, p.0, I.given.some))) (λ p. (rw e at p.0, p.1, p.2)) I.least
 
-    pub end_node : (1 ≤ best.node) × (best.node ≤ size_of S)
-    end_node = I.given.nodes best.node at-end.0.member
-
-    pub end_few : length (part (graph_of S N) best.node) ≤ b - size_of S
-    end_few = I.given.few best.node at-end.0.member
-
-    pub end-lent : Searched S N s lent
-    end-lent = rw lent_is at-end.2
-
     pub trying_done : {X : List ℕ} → Searched S N best.node X
         → Tries S N (slice a b W₀) depth W₀ (put_mid (half S) (length W - half S) W X) best
     trying_done {X} P =

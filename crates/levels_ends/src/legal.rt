@@ -15,7 +15,6 @@ ghost use Rattle.levels_ends.specs.Passes.{Candidates, narrower_of, Tries, Area,
 
 use crate::shape::{Found, Tried};
 use graph::legal::precedes;
-use graph_words::wide;
 use levels_search::legal::{search, wipe};
 use levels_search::shape::Rooted;
 use levels_sort::legal::by_e;
@@ -28,13 +27,10 @@ pub fn first_in_e(starts: &[u16], nodes: &[u16]) -> u16
     ensures { (neighbours : List ℕ) → Starts starts.now neighbours → result ≡ first_in_e (graph_of starts.now neighbours) nodes.now }
 {
     let mut first = nodes[0];
-    let mut i = 1;
-    while i < nodes.len() {
-        let p = nodes[i];
-        if precedes(starts, wide(p), wide(first)) {
+    for &p in &nodes[1..] {
+        if precedes(starts, usize::from(p), usize::from(first)) {
             first = p;
         }
-        i += 1;
     }
     first
 }
@@ -49,7 +45,7 @@ pub fn first_of_part(starts: &[u16], neighbours: &[u16], node: u16, work: &mut [
 {
     let n = starts.len() - 1;
     let r = search(starts, neighbours, node, n, work);
-    let count = wide(r.reached);
+    let count = usize::from(r.reached);
     let v = first_in_e(starts, &work[n..n + count]);
     wipe(work, n, count);
     v
@@ -146,8 +142,7 @@ fn try_each(
     let mut best = NONE_YET;
     let mut s = 0;
     let mut held = 0;
-    let mut i = a;
-    while i < b {
+    for i in a..b {
         s = work[i];
         let r = probe(starts, neighbours, s, most, held, &mut work[half..]);
         if depth < r.depth {
@@ -157,9 +152,8 @@ fn try_each(
                 search: r,
             };
         }
-        held = wide(r.reached);
+        held = usize::from(r.reached);
         best = narrower(best, s, r);
-        i += 1;
     }
     let u = best.node;
     probe_other(starts, neighbours, s, u, most, held, &mut work[half..]);
@@ -172,8 +166,8 @@ fn sort_last(starts: &[u16], r: Rooted, work: &mut [u16])
     ensures { (neighbours : List ℕ) (v : ℕ) → Area starts.now neighbours v r work.old → Sorted starts.now neighbours v r work.new }
 {
     let n = starts.len() - 1;
-    let a = n + wide(r.last);
-    let b = n + wide(r.reached);
+    let a = n + usize::from(r.last);
+    let b = n + usize::from(r.reached);
     by_e(starts, &mut work[a..b]);
 }
 
@@ -188,8 +182,8 @@ fn pass(starts: &[u16], neighbours: &[u16], r: Rooted, work: &mut [u16]) -> Trie
         starts,
         neighbours,
         work,
-        n + wide(r.last),
-        n + wide(r.reached),
+        n + usize::from(r.last),
+        n + usize::from(r.reached),
         r.depth,
     )
 }
@@ -200,13 +194,11 @@ fn copy_over(work: &mut [u16], n: usize, count: usize)
     ensures { work.new ≡ drop (n + n) work.old ++ drop (n + n) work.old }
 {
     let half = n + n;
-    let mut i = 0;
-    while i < count {
+    for i in 0..count {
         let p = work[half + n + i];
-        let at = wide(p) - 1;
+        let at = usize::from(p) - 1;
         work[at] = work[half + at];
         work[n + i] = p;
-        i += 1;
     }
 }
 
@@ -233,14 +225,13 @@ pub fn ends_from(starts: &[u16], neighbours: &[u16], first: u16, work: &mut [u16
     let mut r = search(starts, neighbours, first, n, &mut work[0..n + n]);
     let mut t = pass(starts, neighbours, r, work);
     let mut passes: u16 = 1;
-    let mut deeper = t.deeper;
-    while deeper {
+    // A while: each pass says whether there is another.
+    while t.deeper {
         v = t.node;
         r = t.search;
-        take_over(work, n, wide(r.reached));
+        take_over(work, n, usize::from(r.reached));
         passes += 1;
         t = pass(starts, neighbours, r, work);
-        deeper = t.deeper;
     }
     Found {
         v,

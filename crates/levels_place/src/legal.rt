@@ -9,7 +9,6 @@ ghost use Rattle.levels_laws.specs.Tally.{tally, untally};
 ghost use Rattle.levels_laws.specs.Model.{slot_at, count_of, slots, peak_of, words_by, levels_by, goes_second, chosen, Readable, Countable, Full, Placeable};
 
 use graph_words::areas::{AREAS, MERGED, SECOND};
-use graph_words::{larger, wide};
 
 // The count word of the p-th node of the queue, by the numbers that start at base.
 fn slot(scratch: &[u16], n: usize, base: usize, s: usize, t: usize, p: usize) -> usize
@@ -18,8 +17,8 @@ fn slot(scratch: &[u16], n: usize, base: usize, s: usize, t: usize, p: usize) ->
     requires s_le_p { (s ≤ p) × (p < t) }
     ensures { result ≡ 2 * n + slot_at n base (work_of n scratch.now) p }
 {
-    let z = wide(scratch[n + p]);
-    let i = wide(scratch[base + z - 1]);
+    let z = usize::from(scratch[n + p]);
+    let i = usize::from(scratch[base + z - 1]);
     AREAS * n - i
 }
 
@@ -32,14 +31,12 @@ fn raise(scratch: &mut [u16], n: usize, base: usize, s: usize, t: usize) -> usiz
     ensures scratch_value { work_of n scratch.new ≡ tally (work_of n scratch.old) (slots n base s t (work_of n scratch.old)) }
     ensures scratch_value_2 { held_of n scratch.new ≡ held_of n scratch.old }
 {
-    let mut top = 0;
-    let mut p = s;
-    while p < t {
+    let mut top: usize = 0;
+    for p in s..t {
         let at = slot(scratch, n, base, s, t, p);
         let c = scratch[at] + 1;
         scratch[at] = c;
-        top = larger(top, wide(c));
-        p += 1;
+        top = top.max(usize::from(c));
     }
     top
 }
@@ -51,12 +48,9 @@ fn lower(scratch: &mut [u16], n: usize, base: usize, s: usize, t: usize)
     ensures scratch_value { work_of n scratch.new ≡ untally (work_of n scratch.old) (slots n base s t (work_of n scratch.old)) }
     ensures scratch_value_2 { held_of n scratch.new ≡ held_of n scratch.old }
 {
-    let mut p = s;
-    while p < t {
+    for p in s..t {
         let at = slot(scratch, n, base, s, t, p);
-        let c = scratch[at] - 1;
-        scratch[at] = c;
-        p += 1;
+        scratch[at] -= 1;
     }
 }
 
@@ -80,11 +74,9 @@ fn put(scratch: &mut [u16], n: usize, base: usize, s: usize, t: usize)
     ensures scratch_value { work_of n scratch.new ≡ work_of n scratch.old }
     ensures scratch_value_2 { held_of n scratch.new ≡ levels_by n base s t (work_of n scratch.old) (held_of n scratch.old) }
 {
-    let mut p = s;
-    while p < t {
-        let z = wide(scratch[n + p]);
+    for p in s..t {
+        let z = usize::from(scratch[n + p]);
         scratch[MERGED * n + z - 1] = scratch[base + z - 1];
-        p += 1;
     }
 }
 
@@ -131,11 +123,9 @@ pub fn widest(scratch: &[u16], n: usize, k: usize) -> usize
     requires { (n ≤ 4096) × (k ≤ n) × (areas_end n ≤ length scratch.now) }
     ensures { result ≡ greatest (map (count_of n (work_of n scratch.now)) (up_from 1 k)) }
 {
-    let mut top = 0;
-    let mut i = 0;
-    while i < k {
-        i += 1;
-        top = larger(top, wide(scratch[AREAS * n - i]));
+    let mut top: usize = 0;
+    for i in 1..=k {
+        top = top.max(usize::from(scratch[AREAS * n - i]));
     }
     top
 }

@@ -11,7 +11,6 @@ ghost use Rattle.levels_rooted.specs.Answer.{figures_of, list_of, counts_of, siz
 use crate::shape::Figures;
 use graph::legal::row;
 use graph_words::legal::clear;
-use graph_words::{larger, wide};
 
 // Gives level j to each node of `row` that has none, and puts it into the queue at `tail`. Returns where the queue ends then.
 fn visit(row: &[u16], levels: &mut [u16], queue: &mut [u16], tail: usize, j: u16) -> usize
@@ -20,16 +19,13 @@ fn visit(row: &[u16], levels: &mut [u16], queue: &mut [u16], tail: usize, j: u16
     ensures { Pushed row.now j levels.old queue.old tail levels.new queue.new result }
 {
     let mut t = tail;
-    let mut k = 0;
-    while k < row.len() {
-        let v = row[k];
-        let at = wide(v) - 1;
+    for &v in row {
+        let at = usize::from(v) - 1;
         if levels[at] == 0 {
             levels[at] = j;
             queue[t] = v;
             t += 1;
         }
-        k += 1;
     }
     t
 }
@@ -49,7 +45,13 @@ fn visit_node(
     requires le_p { (1 ≤ p) × (p ≤ length levels.old) }
     ensures { Pushed (row_of starts.now neighbours.now p) j levels.old queue.old tail levels.new queue.new result }
 {
-    visit(row(starts, neighbours, wide(p)), levels, queue, tail, j)
+    visit(
+        row(starts, neighbours, usize::from(p)),
+        levels,
+        queue,
+        tail,
+        j,
+    )
 }
 
 // Visits the rows of the nodes that stand in the queue from a up to b, not including b, where the queue ends. Returns where it ends then.
@@ -69,11 +71,9 @@ fn expand(
     ensures { Pushed (rows starts.now neighbours.now (slice a b queue.old)) j levels.old queue.old b levels.new queue.new result }
 {
     let mut tail = b;
-    let mut h = a;
-    while h < b {
+    for h in a..b {
         let p = queue[h];
         tail = visit_node(starts, neighbours, levels, queue, tail, p, j);
-        h += 1;
     }
     tail
 }
@@ -94,17 +94,18 @@ fn search(
     ensures levels_value_2 { levels.new ≡ list_of (graph_was starts neighbours) root }
     ensures sizes_value { take result.depth sizes.new ≡ counts_of (graph_was starts neighbours) root }
 {
-    let at = wide(root) - 1;
+    let at = usize::from(root) - 1;
     levels[at] = 1;
     sizes[0] = root;
     let mut a = 0;
     let mut b = 1;
     let mut depth: u16 = 0;
-    let mut width = 0;
+    let mut width: usize = 0;
+    // A while: the queue grows while it is walked.
     while a < b {
-        width = larger(width, b - a);
+        width = width.max(b - a);
         let t = expand(starts, neighbours, levels, sizes, a, b, depth + 2);
-        sizes[wide(depth)] = (b - a) as u16;
+        sizes[usize::from(depth)] = (b - a) as u16;
         depth += 1;
         a = b;
         b = t;
@@ -135,7 +136,7 @@ pub fn rooted(
     let n = levels.len();
     clear(levels, n);
     let f = search(starts, neighbours, root, levels, sizes);
-    let d = wide(f.depth);
+    let d = usize::from(f.depth);
     clear(&mut sizes[d..n], n - d);
     f
 }

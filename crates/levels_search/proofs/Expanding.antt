@@ -10,8 +10,8 @@ use lib.ListN.{length, take, drop, get_or}
 use lib.Seq.{slice, slice-cons, slice_empty, get_or-take, get_or-drop}
 use Rattle.spec.specs.Graph.{row_of}
 use Rattle.levels_search.specs.Marks.{within, found, rows}
-use Rattle.levels_search.specs.Queue.{Readable, Ready, Pushed, Lent}
-use Rattle.levels_search.proofs.Halves.{front_length, behind_length}
+use Rattle.levels_search.specs.Queue.{Readable, Ready, Pushed}
+use Rattle.levels_search.proofs.Halves.{front_length}
 use Rattle.levels_search.proofs.Pushed.{pushed_none, pushed_count, pushed-append, pushed_size, pushed_past, pushed_ready, pushed_window}
 
 -- at the loop's head: the window from h on is still to be expanded
@@ -108,18 +108,7 @@ pub record Inside (S N : List ℕ) (n : ℕ) (W₀ : List ℕ) (bound a b j : �
   pub size : length W ≡ n + n
   pub on : Expanding S N (take n W₀) (drop n W₀) bound a b j (take n W) (drop n W) tail h
 
-pub inside_begin : {S N W : List ℕ} {n bound a b j : ℕ} → Lent n W b j → Readable n S N → a ≤ b → within n (slice a b (drop n W))
-    → b + length (found j (take n W) (rows S N (slice a b (drop n W)))) ≤ bound → Inside S N n W bound a b j W b a
-inside_begin {W = W} {n} R G le w f = record {
-  legal = G;
-  size = R.size;
-  on = expand_begin R.ready (rw (front_length n W R.size) G) le (rw (front_length n W R.size) w) f;
-}
-
 module _ {S N W₀ : List ℕ} {n bound a b j : ℕ} {W : List ℕ} {tail h : ℕ} (I : Inside S N n W₀ bound a b j W tail h) (l : h < b) where
-  pub h_in : n + h < length W
-  h_in = omega (arith, head_in I.on l, behind_length n W I.size, I.size)
-
   p_is : get_or (drop n W) h 0 ≡ get_or W (n + h) 0
   p_is = get_or-drop n W h 0
 

@@ -54,12 +54,6 @@ module _ {S N : List ℕ} {root : ℕ} {W₀ : List ℕ} (A : Start S N root W�
     pub W-size : length W₀ ≡ size_of S + size_of S
     W-size = ap length A.zero ∙ length-replicate (size_of S + size_of S) 0
 
-    pub at_low : 1 ≤ at
-    at_low = omega (arith, e, A.node.low)
-
-    pub at_in : at - 1 < length W₀
-    at_in = omega (arith, e, A.node.low, A.node.high, W-size)
-
     pub begins : Inside S N root (length S - 1) (set (set W₀ (at - 1) 1) (length S - 1) root) 0 0 1 0 0
     begins =
         let h : root - 1 < size_of S = omega (arith, A.node.low, A.node.high) in

@@ -13,14 +13,6 @@ ghost use Rattle.levels_search.specs.Answer.{rooted_of, Searched};
 use crate::shape::Rooted;
 use graph::legal::row;
 use graph_words::legal::clear;
-use graph_words::{larger, wide};
-
-// 1 where w is 0, else 0.
-fn none(w: u16) -> usize
-    ensures { result ≡ bit (eqb w 0) }
-{
-    if w == 0 { 1 } else { 0 }
-}
 
 // The level of a node that had w, which is 0 for none, once level j is given to it.
 fn level(w: u16, j: u16) -> u16
@@ -35,7 +27,7 @@ fn visit_one(work: &mut [u16], n: usize, tail: usize, v: u16, j: u16) -> usize
     requires within { within n (v ∷ []) }
     ensures { Moved n (v ∷ []) j work.old tail work.new result }
 {
-    let at = wide(v) - 1;
+    let at = usize::from(v) - 1;
     if work[at] != 0 {
         return tail;
     }
@@ -53,16 +45,16 @@ fn visit_two(work: &mut [u16], n: usize, tail: usize, u: u16, v: u16, j: u16) ->
     requires tail_bound { tail + 1 < n }
     ensures { Moved n (u ∷ v ∷ []) j work.old tail work.new result }
 {
-    let a = wide(u) - 1;
-    let b = wide(v) - 1;
+    let a = usize::from(u) - 1;
+    let b = usize::from(v) - 1;
     let x = work[a];
     let y = work[b];
-    let t = tail + none(x);
+    let t = tail + usize::from(x == 0);
     work[n + tail] = u;
     work[n + t] = v;
     work[a] = level(x, j);
     work[b] = level(y, j);
-    t + none(y)
+    t + usize::from(y == 0)
 }
 
 // Visits the nodes of `row`, which rise.
@@ -74,6 +66,7 @@ fn visit(row: &[u16], work: &mut [u16], n: usize, tail: usize, j: u16) -> usize
 {
     let mut t = tail;
     let mut k = 0;
+    // A while: a step takes two nodes or one.
     while k < row.len() {
         if k + 1 < row.len() && t + 1 < n {
             t = visit_two(work, n, t, row[k], row[k + 1], j);
@@ -101,7 +94,7 @@ fn visit_node(
     requires le_p { (1 ≤ p) × (p ≤ n) }
     ensures { Moved n (row_of starts.now neighbours.now p) j work.old tail work.new result }
 {
-    visit(row(starts, neighbours, wide(p)), work, n, tail, j)
+    visit(row(starts, neighbours, usize::from(p)), work, n, tail, j)
 }
 
 // Visits the rows of the nodes that stand in the queue from a up to b, not including b, where the queue ends. Returns where it ends then.
@@ -124,11 +117,12 @@ fn expand(
     ensures { Moved n (rows starts.now neighbours.now (slice a b (drop n work.old))) j work.old b work.new result }
 {
     let mut tail = b;
-    let mut h = a;
-    while h < b && tail < most {
+    for h in a..b {
+        if tail >= most {
+            break;
+        }
         let p = work[n + h];
         tail = visit_node(starts, neighbours, work, n, tail, p, j);
-        h += 1;
     }
     tail
 }
@@ -160,16 +154,17 @@ pub fn search(
     ensures searched { Searched starts.now neighbours.now root work.new }
 {
     let n = starts.len() - 1;
-    let at = wide(root) - 1;
+    let at = usize::from(root) - 1;
     work[at] = 1;
     work[n] = root;
     let mut last = 0;
     let mut a = 0;
     let mut b = 1;
     let mut depth: u16 = 0;
-    let mut width = 0;
+    let mut width: usize = 0;
+    // A while: the queue grows as it is walked, a level a step.
     while a < b {
-        width = larger(width, b - a);
+        width = width.max(b - a);
         depth += 1;
         let t = expand(starts, neighbours, work, n, most, a, b, depth + 1);
         last = a;
@@ -190,13 +185,11 @@ fn wipe_each(work: &mut [u16], n: usize, count: usize)
     requires { Queued n count work.old }
     ensures { work.new ≡ replicate (n + n) 0 }
 {
-    let mut i = 0;
-    while i < count {
+    for i in 0..count {
         let v = work[n + i];
-        let at = wide(v) - 1;
+        let at = usize::from(v) - 1;
         work[at] = 0;
         work[n + i] = 0;
-        i += 1;
     }
 }
 

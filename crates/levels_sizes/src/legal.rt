@@ -1,6 +1,6 @@
 // Of the scratch's areas (`graph_words::areas`) TALLY has the sizes of the levels of one search, in order from level 1; it is 0 before and
 // after. The levels of the search stand by old number from word `base` on, and its queue behind them: `count` nodes, none deeper than k.
-ghost use Rattle.std.specs.Prelude.{◌≡◌, ℕ, ◌≤◌, ◌<◌, max, length, get_or, replicate};
+ghost use Rattle.std.specs.Prelude.{◌≡◌, ℕ, ◌≤◌, ◌<◌, length, get_or, replicate};
 ghost use Rattle.std.proofs.lemmas.List.Edits.{sets};
 ghost use Rattle.basis.specs.Lists.{greatest};
 ghost use Rattle.spec.specs.Combined.{width_of};
@@ -13,7 +13,6 @@ ghost use Rattle.levels_sizes.specs.Sizes.{levels_at, level_sizes, Listable, Roo
 use crate::shape::Widths;
 use graph_words::areas::{SECOND, TALLY};
 use graph_words::legal::clear;
-use graph_words::wide;
 
 // The word at `at`, where the one at `last` is `size`: the nodes of a level follow one another in the queue, so that it is seldom read.
 fn size_at(scratch: &[u16], last: usize, size: u16, at: usize) -> u16
@@ -27,13 +26,6 @@ fn size_at(scratch: &[u16], last: usize, size: u16, at: usize) -> u16
     scratch[at]
 }
 
-// The larger of two sizes.
-fn wider(x: u16, y: u16) -> u16
-    ensures { result ≡ max x y }
-{
-    if x < y { y } else { x }
-}
-
 // The size of each level, n words in order from level 1, zeros after the depth: each node of the queue adds 1 to the word of its level.
 // Returns the greatest: sizes only grow, so it is the greatest that is written.
 fn list_sizes(scratch: &mut [u16], n: usize, base: usize, count: usize) -> u16
@@ -44,17 +36,15 @@ fn list_sizes(scratch: &mut [u16], n: usize, base: usize, count: usize) -> u16
 {
     let mut last = TALLY * n;
     let mut size = 0;
-    let mut top = 0;
-    let mut i = 0;
-    while i < count {
-        let p = wide(scratch[base + n + i]);
-        let level = wide(scratch[base + p - 1]);
+    let mut top: u16 = 0;
+    for i in 0..count {
+        let p = usize::from(scratch[base + n + i]);
+        let level = usize::from(scratch[base + p - 1]);
         let at = TALLY * n + level - 1;
         size = size_at(scratch, last, size, at) + 1;
         scratch[at] = size;
-        top = wider(top, size);
+        top = top.max(size);
         last = at;
-        i += 1;
     }
     top
 }
@@ -87,8 +77,8 @@ pub fn end_widths(scratch: &mut [u16], n: usize, count: u16, k: u16) -> Widths
     ensures u_value { result.u ≡ width_of k (levels_at n (second_area n) scratch.old) }
     ensures scratch_value { scratch.new ≡ scratch.old }
 {
-    let count = wide(count);
-    let k = wide(k);
+    let count = usize::from(count);
+    let k = usize::from(k);
     let v = width_of(scratch, n, 0, count, k);
     let u = width_of(scratch, n, SECOND * n, count, k);
     Widths { v, u }

@@ -6,7 +6,7 @@ ghost use Rattle.spec.specs.Mesh.{elements_refusal, entry_count, start_list, nei
 ghost use Rattle.spec.specs.CallsMesh.{graph_of_elements};
 ghost use Rattle.mesh.specs.Answer.{meaning};
 
-use crate::answer::Entries;
+use refusals::Refusal;
 
 // The entry count, or 11; 11 is decided before anything is written to the two lists.
 pub fn adjacency(
@@ -15,7 +15,7 @@ pub fn adjacency(
     starts: &mut [u16],
     neighbours: &mut [u16],
     scratch: &mut [u16],
-) -> Entries
+) -> Result<u32, Refusal>
     requires n_bound { (n ≤ 4096) × (n < length starts.old) × (32768 ≤ length neighbours.old) × (n ≤ length scratch.old) }
     requires elements_value { elements_refusal (length elements.now) n elements.now ≡ 0 }
     ensures result_value { meaning result ≡ outcome (refuse (refuses11 (graph_of_elements n elements.now)) 11) (entry_count (graph_of_elements n elements.now)) }
@@ -25,8 +25,8 @@ pub fn adjacency(
 {
     let lists = &mut scratch[..n];
     if mesh_rows::legal::over(lists, elements, starts, neighbours) {
-        return Entries::Refused(11);
+        return Err(Refusal::TooManyEntries);
     }
     let entries = mesh_rows::legal::fill(lists, elements, starts, neighbours);
-    Entries::Accepted(entries as u32)
+    Ok(entries as u32)
 }

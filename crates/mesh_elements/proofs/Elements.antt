@@ -1,11 +1,11 @@
 -- What elements are refused by: one element by the tests that led there, and a list of elements one by one. Assumes nothing.
 use mathlib.Core.Path.{◌≡◌, refl, sym, ap, ◌∙◌}
-use mathlib.Core.Bool.{false}
+use mathlib.Core.Bool.{Bool, false}
 use mathlib.Core.Logic.{⊎_elim}
 use mathlib.Core.List.{List, [], ◌∷◌}
-use Prim.Native.Nat.{ℕ, zero, suc, ◌+◌, ◌≤◌, ◌<◌, min}
+use Prim.Native.Nat.{ℕ, zero, suc, ◌+◌, ◌-◌, ◌≤◌, ◌<◌, min}
 use native.Mathlib.Omega.{arith}
-use lib.ListN.{length, get_or, take, drop, drop_of_length-le}
+use lib.ListN.{length, get_or, take, drop, length-drop, drop_of_length-le}
 use lib.Seq.{take_all, take-length, drop-drop}
 use lib.Dec.{eqb, ltb}
 use borrow.Author.Tests.{eqb-false, ltb-false}
@@ -14,9 +14,9 @@ use Rattle.basis.proofs.Logic.{or_none, lt_or_le}
 use Rattle.spec.specs.Refusal.{refuse, ◌or_else◌}
 use Rattle.spec.specs.Graph.{outside}
 use Rattle.spec.specs.Mesh.{kind_table, node_count, bad_nodes, element_refusal, elements_refusal, elements}
-use Rattle.laws.proofs.Refused.{or_else_zero, refuse_zero}
+use Rattle.laws.proofs.Refused.{or_else_zero, refuse_zero, or_else_has, refuse-has}
 use Rattle.laws.proofs.Bounds.{refusal_empty, refusal-first, elements_empty, elements-first}
-use Rattle.mesh_elements.proofs.Remains.{drop_next}
+use Rattle.mesh_elements.proofs.Remains.{drop_next, tail_part}
 
 -- ---- one element
 
@@ -87,6 +87,17 @@ pub good_inside : (n kind : ℕ) (ws : List ℕ) → element_refusal 9 n kind ws
 unfolding bad_nodes
 good_inside n kind ws e = (good_of 9 n kind ws (omega arith) e).nodes
 
+-- an element's number is 9, 10 or that of a record that runs past the end
+pub element_most : (m short n kind : ℕ) (ws : List ℕ) → 10 ≤ m → short ≤ m → element_refusal short n kind ws ≤ m
+unfolding element_refusal
+element_most m short n kind ws h s =
+    or_else_has (λ c. c ≤ m) (refuse (eqb (node_count kind) 0) 9) _ (test (eqb (node_count kind) 0) 9 (omega arith))
+    (or_else_has (λ c. c ≤ m) (refuse (ltb (length ws) (node_count kind)) short) _ (test (ltb (length ws) (node_count kind)) short s)
+    (test (bad_nodes n (take (node_count kind) ws)) 10 h))
+  where
+    test : (b : Bool) (c : ℕ) → c ≤ m → refuse b c ≤ m
+    test b c h = refuse-has (λ c. c ≤ m) b c h (omega arith)
+
 -- ---- the elements one by one
 
 -- what a list of elements is refused by
@@ -114,6 +125,18 @@ module _ (n : ℕ) (ws : List ℕ) (at : ℕ) (h : at < length ws) where
     pub refusal-passed : (r : ℕ) → r ≡ element_refusal 9 n (get_or ws at 0) (drop (at + 1) ws) → r ≡ 0
         → refusal_from n ws ≡ refusal_from n (drop (at + 1 + node_count (get_or ws at 0)) ws)
     refusal-passed r e z = rest ∙ refusal_next ∙ ap (λ (x : ℕ). x or_else refusal_from n (drop (at + 1 + node_count (get_or ws at 0)) ws)) (sym e ∙ z)
+
+-- what the element at `at` is refused by, with all words to the end for what follows its kind word
+pub element_at : (n : ℕ) (ws : List ℕ) (at r : ℕ)
+    → r ≡ element_refusal 9 n (get_or ws at 0) (take (length ws - (at + 1)) (drop (at + 1) ws)) → r ≡ element_refusal 9 n (get_or ws at 0) (drop (at + 1) ws)
+element_at n ws at r e = e ∙ ap (element_refusal 9 n (get_or ws at 0)) (tail_part ws (at + 1))
+
+-- an element that isn't refused ends within the words
+pub element_ends : (n : ℕ) (ws : List ℕ) (at : ℕ) → at < length ws → element_refusal 9 n (get_or ws at 0) (drop (at + 1) ws) ≡ 0
+    → at + 1 + node_count (get_or ws at 0) ≤ length ws
+element_ends n ws at h z =
+    let g : node_count (get_or ws at 0) ≤ length (drop (at + 1) ws) = good_fits n (get_or ws at 0) (drop (at + 1) ws) z in
+    omega (arith, length-drop (at + 1) ws)
 
 -- no element is left
 pub refusal_over : (n : ℕ) (ws : List ℕ) (at : ℕ) → refusal_from n ws ≡ refusal_from n (drop at ws) → length ws ≤ at → 0 ≡ refusal_from n ws

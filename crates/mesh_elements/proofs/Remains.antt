@@ -1,12 +1,13 @@
 -- Scans of a list from the front: what the rest of the list says from place j on is what the whole says. Assumes nothing.
-use mathlib.Core.Path.{◌≡◌, sym, ap, ◌∙◌}
+use mathlib.Core.Path.{◌≡◌, refl, sym, ap, ◌∙◌}
 use mathlib.Core.Bool.{Bool, true, false, ◌||◌}
-use mathlib.Core.List.{List, ◌∷◌}
+use mathlib.Core.List.{List, [], ◌∷◌}
 use Prim.Native.Nat.{ℕ, ◌+◌, ◌-◌, ◌≤◌, ◌<◌}
 use native.Mathlib.Numerals.{add-one}
 use native.Mathlib.Omega.{arith}
 use lib.ListN.{length, get_or, take, drop, length-drop, drop_of_length-le}
 use lib.Seq.{take_all, drop-cons}
+use Rattle.std.specs.List.{list_any}
 use Rattle.basis.specs.Lists.{anyb}
 
 -- the list from place j on: the word there, then the list from the next place on
@@ -16,6 +17,11 @@ drop_next l j h = rw (add-one, drop-cons l j 0)
 -- a part from place k to the end
 pub tail_part : (l : List ℕ) (k : ℕ) → take (length l - k) (drop k l) ≡ drop k l
 tail_part l k = take_all (length l - k) (drop k l) (omega (arith, length-drop k l))
+
+-- std's test whether an element passes is the definitions'
+pub list_any-anyb : {A : Type 0} (t : A → Bool) (l : List A) → list_any t l ≡ anyb t l
+list_any-anyb t [] = refl
+list_any-anyb t (x ∷ l) = ap (λ b. t x || b) (list_any-anyb t l)
 
 module _ (t : ℕ → Bool) (l : List ℕ) (j : ℕ) (rest : anyb t l ≡ anyb t (drop j l)) where
   -- the word at j passes

@@ -9,21 +9,10 @@ ghost use Rattle.spec.specs.Mesh.{bad_nodes};
 fn leaves(nodes: &[u16], n: usize) -> bool
     ensures { result ≡ anyb (outside n) nodes.now }
 {
-    let mut j = 0;
-    while j < nodes.len() {
-        let p = graph_words::wide(nodes[j]);
-        if p == 0 {
-            return true;
-        }
-        if n < p {
-            return true;
-        }
-        j += 1;
-    }
-    false
+    nodes.iter().any(|&p| p == 0 || n < usize::from(p))
 }
 
-// 10 for a node out of range, else 0.
+// 10 for a node out of range, else 0: a number, since `element_refusal` is one.
 pub fn nodes_refusal(n: usize, nodes: &[u16]) -> u16
     ensures { result ≡ refuse (bad_nodes n nodes.now) 10 }
 {

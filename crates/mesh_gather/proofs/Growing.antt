@@ -3,10 +3,9 @@ use mathlib.Core.Path.{◌≡◌, refl, sym, ap, subst, ◌∙◌}
 use mathlib.Core.Bool.{Bool, true, false, ◌&&◌, ◌||◌, or_assoc, or-false}
 use mathlib.Core.List.{List}
 use Prim.Native.Nat.{ℕ, suc, ◌+◌, ◌*◌, ◌-◌, ◌≤◌, ◌<◌}
-use native.Mathlib.Omega.{arith}
-use lib.ListN.{length, get_or, take, drop, replicate, length-replicate, drop_of_length-le}
+use lib.ListN.{length, get_or, take, drop, replicate, length-replicate}
 use lib.Dec.{eqb}
-use borrow.Author.Tests.{ne_eqb, eqb-true, eqb-false}
+use borrow.Author.Tests.{eqb-true, eqb-false}
 use borrow.Rule.Slice.PartMut.{mid_of, put_mid}
 use Rattle.basis.specs.Lists.{memb}
 use Rattle.basis.proofs.Logic.{by_test}
@@ -61,10 +60,6 @@ module _ {left whole : ℕ → ℕ → Bool} {before sets : List ℕ} (T : Towar
         ∙ ap (λ b. has (set_at sets k) x || b) (sym (e k (suc x) h)) ∙ T.at k x h l;
   }
 
-  -- none of it is
-  pub towards_skip : {left' : ℕ → ℕ → Bool} → ((k q : ℕ) → k < 64 → left k q ≡ left' k q) → Towards left' whole before sets
-  towards_skip e = record { at = λ k x h l. ap (λ b. has (set_at sets k) x || b) (sym (e k (suc x) h)) ∙ T.at k x h l }
-
   pub towards_done : ((k q : ℕ) → k < 64 → left k q ≡ false) → Grown whole before sets
   towards_done e = record {
     at = λ k h. record { at = λ x l. sym (or-false (has (set_at sets k) x)) ∙ ap (λ b. has (set_at sets k) x || b) (sym (e k (suc x) h)) ∙ T.at k x h l };
@@ -89,13 +84,6 @@ module _ (base : ℕ) (nodes : List ℕ) (j : ℕ) (row : ℕ) (place : (k : ℕ
       ap (λ (w : List ℕ). memb (base + suc k) w && memb q nodes) (drop_next nodes j h)
       ∙ ap (λ b. (b || memb (base + suc k) (drop (j + 1) nodes)) && memb q nodes) (place k l)
       ∙ apart (eqb k row) (memb (base + suc k) (drop (j + 1) nodes)) (memb q nodes)
-
-  -- a node that is none of the rows
-  pub node_past : 64 ≤ row → (k q : ℕ) → k < 64 → nodes_from base nodes j k q ≡ nodes_from base nodes (j + 1) k q
-  node_past m k q l = node_next k q l ∙ ap (λ b. (b && memb q nodes) || nodes_from base nodes (j + 1) k q) (ne_eqb k row (λ e. absurd (omega (arith, e))))
-
-pub node_over : (base : ℕ) (nodes : List ℕ) (j : ℕ) → length nodes ≤ j → (k q : ℕ) → k < 64 → nodes_from base nodes j k q ≡ false
-node_over base nodes j h k q l = ap (λ (w : List ℕ). memb (base + suc k) w && memb q nodes) (drop_of_length-le nodes h)
 
 -- ---- element by element
 

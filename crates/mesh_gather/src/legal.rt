@@ -11,7 +11,7 @@ fn add_to(sets: &mut [u64], nodes: &[u16], row: usize)
 {
     let first = 64 * row;
     let next = first + 64;
-    mesh_rowset::legal::add(&mut sets[first..next], nodes, 18446744073709551615);
+    mesh_rowset::legal::add(&mut sets[first..next], nodes, u64::MAX);
 }
 
 // Adds the nodes of an element to the set of each of them that is one of the 64 rows after base.
@@ -19,13 +19,11 @@ fn add_element(sets: &mut [u64], nodes: &[u16], base: usize)
     requires { (length sets.old ≡ 4096) × Nodes nodes.now }
     ensures { Grown (λ k q. memb (base + suc k) nodes.now && memb q nodes.now) sets.old sets.new }
 {
-    let mut j = 0;
-    while j < nodes.len() {
-        let row = mesh_incidence::legal::listing::row_of(nodes[j], base);
+    for &node in nodes {
+        let row = mesh_incidence::legal::listing::row_of(node, base);
         if row < 64 {
             add_to(sets, nodes, row);
         }
-        j += 1;
     }
 }
 
@@ -36,6 +34,7 @@ pub fn gather(sets: &mut [u64], elements: &[u16], base: usize)
     ensures { Gathered elements.now base sets.new }
 {
     let mut at = 0;
+    // A while: a step takes the words of one element.
     while at < elements.len() {
         let first = at + 1;
         let next = first + mesh_elements::node_count(elements[at]);

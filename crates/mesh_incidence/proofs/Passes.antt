@@ -1,5 +1,5 @@
 -- Passes over elements and over lists of them: what is left to do completes what is done. Assumes nothing.
-use Rattle.std.proofs.Common.{◌≡◌, ℕ, zero, suc, ◌+◌, ◌*◌, ◌<◌, ◌≤◌, Bool, false, ◌||◌, eqb, ltb, List, length, get_or, take, drop, sym, refl, ap, ◌∙◌, subst, ⊎_elim, arith, length-drop, drop_of_length-le, ltb-false, ne_eqb}
+use Rattle.std.proofs.Common.{◌≡◌, ℕ, zero, suc, ◌+◌, ◌*◌, ◌<◌, ◌≤◌, Bool, false, ◌||◌, eqb, ltb, List, length, get_or, take, drop, sym, refl, ap, ◌∙◌, subst, ⊎_elim, arith, length-drop, ltb-false, ne_eqb}
 use mathlib.Core.Bool.{or_assoc, or-false}
 use borrow.Author.Tests.{eqb-false}
 use Rattle.basis.specs.Lists.{anyb, memb}
@@ -12,7 +12,7 @@ use Rattle.mesh_elements.proofs.Remains.{drop_next}
 use Rattle.mesh_elements.proofs.Elements.{refusal_from, refusal_none, good_fits, good_inside, elements_next, elements_over}
 use Rattle.mesh_rowset.specs.Set.{has, Empty, Covered, Added}
 use Rattle.mesh_incidence.specs.Cells.{share, node_in, Sound, Cells, hold_in, held, Entered, Linked, Listed}
-use Rattle.mesh_incidence.proofs.Chains.{hold_same, entered_none, entered_by, entered_then}
+use Rattle.mesh_incidence.proofs.Chains.{hold_same, entered_none, entered_then}
 
 -- ---- one element
 
@@ -65,11 +65,6 @@ module _ (at base rows : ℕ) (nodes before : List ℕ) (cell : ℕ) where
     pub entering_past : j < length nodes → (row : ℕ) → ((k : ℕ) → k < rows → eqb (base + suc k) (get_or nodes j 0) ≡ eqb k row) → rows ≤ row
         → Entering at base rows nodes before cell (j + 1) after free
     entering_past h row e past = entering_step h row e after free (entered_none E.entered.cells (λ k l. ne_eqb k row (λ s. absurd (omega (arith, s)))))
-
-    pub entering_done : length nodes ≤ j → Entered at rows (λ k. memb (base + suc k) nodes) before cell after free
-    entering_done h =
-        entered_by E.entered
-        (λ k l. sym (or-false (E.hit k)) ∙ ap (λ (x : List ℕ). E.hit k || memb (base + suc k) x) (sym (drop_of_length-le nodes h)) ∙ E.rest k l)
 
 -- ---- all elements are entered
 

@@ -139,15 +139,20 @@ pub record Pairing (n : ℕ) (ws : List ℕ) (j total : ℕ) : Type 0 where
   pub at : total + ordered_pairs (elements (drop j ws)) ≡ ordered_pairs (elements ws)
 
 module _ (n : ℕ) (ws : List ℕ) where
-  pub pairing_begin : n ≤ 4096 → refusal_from n ws ≡ 0 → Pairing n ws 0 0
-  pairing_begin few e = record { few = few; small = omega arith; good = e; at = omega arith }
-
   module _ (j total : ℕ) (P : Pairing n ws j total) where
     pub pairing_some : j < length ws → 1 ≤ node_count (get_or ws j 0)
     pairing_some h = good_some n (get_or ws j 0) (drop (j + 1) ws) (refusal_none n ws j h P.good).0
 
     pub pairing_within : j < length ws → j + 1 + node_count (get_or ws j 0) ≤ length ws
     pairing_within h = (sound_of n ws j P.few h P.good).within
+
+    -- the element at j, by its node count
+    pub pairing_element : j < length ws → (count : ℕ) → count ≡ node_count (get_or ws j 0) → (1 ≤ count) × (count * (count - 1) ≤ 90) × (j + 1 + count ≤ length ws)
+    pairing_element h count e = (
+      omega (arith, e, pairing_some h),
+      omega (arith, ap (λ (k : ℕ). k * (k - 1)) e, pairs_most (get_or ws j 0)),
+      omega (arith, e, pairing_within h),
+    )
 
     pub pairing_step : j < length ws → total + node_count (get_or ws j 0) * (node_count (get_or ws j 0) - 1) ≤ 32768
         → Pairing n ws (j + 1 + node_count (get_or ws j 0)) (total + node_count (get_or ws j 0) * (node_count (get_or ws j 0) - 1))

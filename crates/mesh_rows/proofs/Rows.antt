@@ -20,7 +20,7 @@ use Rattle.mesh_elements.proofs.Elements.{good_inside}
 use Rattle.mesh_rowset.specs.Set.{bit_at, has, in_row, members, Empty, Added}
 use Rattle.mesh_rowset.proofs.Bits.{bit_zero}
 use Rattle.mesh_incidence.specs.Cells.{share, held, node_in, Listed}
-use Rattle.mesh_gather.specs.Sets.{set_at, Gathered}
+use Rattle.mesh_gather.specs.Sets.{set_at}
 use Rattle.mesh_rows.specs.Rows.{entries_to, Ready, Clean, Goes}
 use Rattle.mesh_rows.proofs.Laying.{mesh_row, entries_all, to_upto, to_next, to_most, goes-row}
 
@@ -59,11 +59,6 @@ listed-set ws base rows words L k h a b E A =
 -- those of the rows of a group, from place i on
 pub record Left (ws : List ℕ) (base i : ℕ) (group : List ℕ) : Type 0 where
   pub at : (k : ℕ) → i ≤ k → k < 64 → SetOf ws (base + k + 1) (set_at group k)
-
-pub left_begin : {ws : List ℕ} {base : ℕ} {group : List ℕ} → Gathered ws base group → Left ws base 0 group
-left_begin {ws} {base} G = record {
-  at = λ k h l. let s : base + suc k ≡ base + k + 1 = omega arith in record { at = λ x m. G.at k x l m ∙ ap (λ (p : ℕ). share (elements ws) p (suc x)) s };
-}
 
 pub left_step : {ws : List ℕ} {base i : ℕ} {group next : List ℕ} → Left ws base i group → ((k : ℕ) → i < k → set_at next k ≡ set_at group k) → Left ws base (i + 1) next
 left_step {ws} {base} L e = record { at = λ k h l. subst (SetOf ws (base + k + 1)) (sym (e k (omega (arith, h)))) (L.at k (omega (arith, h)) l) }

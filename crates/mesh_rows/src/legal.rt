@@ -19,7 +19,6 @@ fn count(lists: &mut [u16], elements: &[u16], starts: &mut [u16], neighbours: &m
     ensures starts_value { starts.new ≡ starts.old }
     ensures neighbours_value { neighbours.new ≡ neighbours.old }
 {
-    let n = lists.len();
     let mut bits = [0u64; 64];
     let count = batch::all_rows(
         &mut bits,
@@ -28,7 +27,7 @@ fn count(lists: &mut [u16], elements: &[u16], starts: &mut [u16], neighbours: &m
         &mut starts[..0],
         &mut neighbours[..0],
     );
-    graph_words::legal::clear(lists, n);
+    lists.fill(0);
     count
 }
 
@@ -62,10 +61,9 @@ pub fn fill(
     ensures starts_value { starts.new ≡ overwrite (start_list (graph_of_elements (length lists.old) elements.now)) starts.old }
     ensures neighbours_value { neighbours.new ≡ overwrite (neighbour_list (graph_of_elements (length lists.old) elements.now)) neighbours.old }
 {
-    let n = lists.len();
     let mut bits = [0u64; 64];
     starts[0] = 0;
     let count = batch::all_rows(&mut bits, lists, elements, starts, neighbours);
-    graph_words::legal::clear(lists, n);
+    lists.fill(0);
     count
 }

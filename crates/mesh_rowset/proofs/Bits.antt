@@ -1,5 +1,5 @@
 -- Bits of words as tests, and the lowest of them. Assumes nothing.
-use mathlib.Core.Path.{◌≡◌, refl, sym, ap, ◌∙◌}
+use mathlib.Core.Path.{◌≡◌, refl, sym, ap, subst, ◌∙◌}
 use mathlib.Core.Logic.{⊎_elim}
 use mathlib.Core.Bool.{true, false, ◌||◌}
 use Prim.Native.Nat.{ℕ, zero, suc, ◌+◌, ◌*◌, ◌/◌, ◌%◌, ◌^◌, ◌≤◌, ◌<◌, max}
@@ -8,7 +8,7 @@ use native.Mathlib.Omega.{arith}
 use lib.Bits.{bit_or}
 use lib.Count.{under, count_trailing_zeros}
 use lib.Dec.{eqb, lit<}
-use lib.Pow.{pow_pos, pow_mono, shl_exact, shr-shr}
+use lib.Pow.{pow_pos, pow_mono, shl_exact, shr-shr, shr_le}
 use borrow.Author.Tests.{eqb-true, eqb-false}
 use Rattle.basis.proofs.Logic.{by_test, clash, lt_or_le}
 use Rattle.store_marks.proofs.Bits.{or-bit, pow_bit, pow_other}
@@ -88,3 +88,11 @@ lowest (suc k) n l h = by (n % 2) refl (λ a b. lowest k (n / 2) a b)
 -- it stands among the 64 bits of a word
 pub lowest_in_lem : (word k : ℕ) → word < 18446744073709551616 → bit_at k word ≡ true → k < 64
 lowest_in_lem word k h e = ⊎_elim (λ (l : k < 64). l) (λ (l : 64 ≤ k). clash e (bit_high 64 k word h l)) (lt_or_le k 64)
+
+lt_le : (a b c : ℕ) → a ≤ b → b < c → a < c
+lt_le a b c h l = omega arith
+
+-- what is left of a word from bit k on has a lowest bit where it isn't 0
+pub lowest_left : (word k rest : ℕ) → word < 18446744073709551616 → rest ≡ word / 2 ^ k → (rest ≡ 0 → ⊥) → Lowest rest (count_trailing_zeros 64 rest)
+lowest_left word k rest fits e some =
+    lowest 64 rest (omega arith) (lt_le rest word 18446744073709551616 (subst (λ (x : ℕ). x ≤ word) (sym e) (shr_le word k)) fits)

@@ -1,13 +1,14 @@
 -- Sets of nodes in words, filled and emptied. Assumes nothing.
-use mathlib.Core.Path.{◌≡◌, refl, sym, ap, ap₂, subst, ◌∙◌}
+use mathlib.Core.Path.{◌≡◌, sym, ap, ap₂, subst, ◌∙◌}
 use mathlib.Core.Logic.{⊎_elim}
 use mathlib.Core.Bool.{Bool, true, false, not, ◌&&◌, ◌||◌, and-true, or_assoc, or-false}
 use mathlib.Core.List.{List}
 use Prim.Native.Nat.{ℕ, zero, suc, ◌+◌, ◌*◌, ◌-◌, ◌/◌, ◌%◌, ◌^◌, ◌≤◌, ◌<◌}
-use native.Mathlib.Nat.{add-zero, div-one}
+use native.Mathlib.Nat.{add-zero}
 use native.Mathlib.Omega.{arith}
 use lib.Bits.{bit_or}
-use lib.ListN.{length, get_or, set, drop, length-set, drop_of_length-le}
+use lib.Count.{count_trailing_zeros}
+use lib.ListN.{length, get_or, set, drop, length-set}
 use lib.Pow.{shr-shr}
 use lib.Seq.{sets, get_or-set_same, get_or-set_other}
 use lib.Dec.{eqb}
@@ -16,10 +17,10 @@ use Rattle.basis.specs.Filling.{Filling}
 use Rattle.basis.specs.Lists.{memb, up_from}
 use Rattle.basis.proofs.Count.{length-filter}
 use Rattle.basis.proofs.Logic.{by_test, or_none, lt_or_le, and_none}
-use Rattle.basis.proofs.Filling.{filling_begin, filling_yes, filling_no}
+use Rattle.basis.proofs.Filling.{filling_yes, filling_no}
 use Rattle.mesh_elements.proofs.Remains.{drop_next}
-use Rattle.mesh_rowset.specs.Set.{bit_at, has, in_row, members, Empty, Covered, Added, Wrote}
-use Rattle.mesh_rowset.proofs.Bits.{bit_zero, bit-or, bit_down, Lowest, lowest_in_lem}
+use Rattle.mesh_rowset.specs.Set.{bit_at, has, in_row, members, Empty, Covered, Wrote}
+use Rattle.mesh_rowset.proofs.Bits.{bit_zero, bit-or, bit_down, Lowest, lowest_in_lem, lowest_left}
 
 and-all : (a : Bool) {b : Bool} → b ≡ true → a && b ≡ a
 and-all a e = ap (λ b. a && b) e ∙ and-true a
@@ -33,9 +34,6 @@ pub record Adding (before nodes : List ℕ) (j : ℕ) (bits : List ℕ) (mask : 
   pub at : (x : ℕ) → x < 4096 → has bits x || memb (suc x) (drop j nodes) ≡ has before x || memb (suc x) nodes
 
 module _ (before nodes : List ℕ) where
-  pub adding_begin : length before ≡ 64 → (mask : ℕ) → Covered mask before → Adding before nodes 0 before mask
-  adding_begin e mask C = record { size = e; covered = C; at = λ x h. refl }
-
   module _ (j : ℕ) (bits : List ℕ) (mask : ℕ) (A : Adding before nodes j bits mask) where
     -- node x₀ + 1 at j
     module _ (h : j < length nodes) (x₀ : ℕ) (e : suc x₀ ≡ get_or nodes j 0) (l : x₀ < 4096) (bit cover : ℕ)
@@ -83,11 +81,6 @@ module _ (before nodes : List ℕ) where
             ∙ A.at x m;
       }
 
-    pub adding_done : length nodes ≤ j → Added (λ q. memb q nodes) before bits
-    adding_done h = record {
-      at = λ x m. sym (or-false (has bits x)) ∙ ap (λ (r : List ℕ). has bits x || memb (suc x) r) (sym (drop_of_length-le nodes h)) ∙ A.at x m;
-    }
-
 -- ---- numbers that fail are passed over
 
 module _ (t : ℕ → Bool) (from : ℕ) (l : List ℕ) (after : List ℕ) (to : ℕ) where
@@ -109,14 +102,6 @@ pub record Writing (word base p at : ℕ) (before : List ℕ) (k rest to : ℕ) 
       → Filling t from l base before at → Filling t from l (base + k) after to
 
 module _ (word base p at : ℕ) (before : List ℕ) where
-  pub writing_begin : Writing word base p at before 0 word at before
-  writing_begin = record {
-    within = omega arith;
-    left = sym (div-one word);
-    most = omega arith;
-    goes = λ t from l e F. subst (λ (n : ℕ). Filling t from l n before at) (sym (add-zero base)) F;
-  }
-
   module _ (k rest to : ℕ) (after : List ℕ) (W : Writing word base p at before k rest to after) where
     -- bit j of what is left
     left-bit : (j : ℕ) → bit_at j rest ≡ bit_at (k + j) word
@@ -183,6 +168,14 @@ module _ (word base p at : ℕ) (before : List ℕ) where
             (filling_yes t from l (base + k + z) after to (to_bit t from l e F) (at-bit t e ∙ ap not (ne_eqb p (1 + (base + k + z)) (λ s. d (omega (arith, s))))));
       }
 
+    -- what is left has a lowest bit where it isn't 0
+    module _ (fits : word < 18446744073709551616) (some : rest ≡ 0 → ⊥) where
+      pub bit_left : Lowest rest (count_trailing_zeros 64 rest)
+      bit_left = lowest_left word k rest fits W.left some
+
+      pub bit_inside : k + count_trailing_zeros 64 rest < 64
+      bit_inside = inside fits _ bit_left
+
 -- ---- all words are written
 
 -- the words before g are emptied, and their nodes written; `rest` are the bits of the mask from g on
@@ -196,17 +189,6 @@ pub record Emptying (bits₀ : List ℕ) (mask p at : ℕ) (before : List ℕ) (
   pub filled : Filling (in_row p bits₀) at before (64 * g) after to
 
 module _ (bits₀ : List ℕ) (mask p at : ℕ) (before : List ℕ) (C : Covered mask bits₀) where
-  pub emptying_begin : length bits₀ ≡ 64 → Emptying bits₀ mask p at before 0 mask at bits₀ before
-  emptying_begin e = record {
-    within = omega arith;
-    left = sym (div-one mask);
-    size = e;
-    gone = λ i h. absurd (omega arith);
-    kept = λ i h. refl;
-    most = omega arith;
-    filled = filling_begin (in_row p bits₀) at before;
-  }
-
   -- a node by its word
   node : (i k : ℕ) → k < 64 → in_row p bits₀ (1 + (64 * i + k)) ≡ not (eqb p (1 + (64 * i + k))) && bit_at k (get_or bits₀ i 0)
   unfolding in_row has
@@ -296,3 +278,11 @@ module _ (bits₀ : List ℕ) (mask p at : ℕ) (before : List ℕ) (C : Covered
               (λ (l : g ≤ i).
               let s : g + (i - g) ≡ i = omega arith in
               E.kept i l ∙ ap (λ (i : ℕ). get_or bits₀ i 0) (sym s) ∙ dark (i - g) (omega (arith, in_words)) (L.below (i - g) (omega (arith, d)))) (lt_or_le i g)
+
+    -- what is left of the mask has a lowest bit where it isn't 0
+    module _ (fits : mask < 18446744073709551616) (some : rest ≡ 0 → ⊥) where
+      pub word_left : Lowest rest (count_trailing_zeros 64 rest)
+      word_left = lowest_left mask g rest fits E.left some
+
+      pub word_inside : g + count_trailing_zeros 64 rest < 64
+      word_inside = in_words fits _ word_left

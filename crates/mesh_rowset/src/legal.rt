@@ -13,13 +13,11 @@ pub fn add(bits: &mut [u64], nodes: &[u16], mask: u64) -> u64
     ensures added { Added (λ q. memb q nodes.now) bits.old bits.new }
 {
     let mut cover = mask;
-    let mut j = 0;
-    while j < nodes.len() {
-        let x = graph_words::wide(nodes[j]) - 1;
+    for &node in nodes {
+        let x = usize::from(node) - 1;
         let at = x / 64;
-        bits[at] = bits[at] | (1u64 << (x % 64));
-        cover = cover | (1u64 << at);
-        j += 1;
+        bits[at] |= 1u64 << (x % 64);
+        cover |= 1u64 << at;
     }
     cover
 }
@@ -47,12 +45,13 @@ fn write_word(word: u64, base: usize, p: usize, at: usize, list: &mut [u16]) -> 
     let mut to = at;
     let mut k = 0;
     let mut rest = word;
+    // A while: a step goes on to the next bit that is set.
     while rest != 0 {
-        let z = u64::trailing_zeros(rest) as usize;
+        let z = rest.trailing_zeros() as usize;
         let q = base + k + z + 1;
         to = put(list, to, q, p);
         k = k + z + 1;
-        rest = (rest >> z) >> 1;
+        rest = rest >> z >> 1;
     }
     to
 }
@@ -68,13 +67,14 @@ pub fn empty(bits: &mut [u64], mask: u64, p: usize, at: usize, list: &mut [u16])
     let mut to = at;
     let mut g = 0;
     let mut rest = mask;
+    // A while: a step goes on to the next word whose bit is set.
     while rest != 0 {
-        let z = u64::trailing_zeros(rest) as usize;
+        let z = rest.trailing_zeros() as usize;
         let w = g + z;
         to = write_word(bits[w], 64 * w, p, to, list);
         bits[w] = 0;
         g = w + 1;
-        rest = (rest >> z) >> 1;
+        rest = rest >> z >> 1;
     }
     to
 }

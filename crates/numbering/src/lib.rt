@@ -2,8 +2,6 @@
 // handed in the order of the table: 1 to 4, then 5, then 15.
 #![tactic(auto)]
 
-pub mod answer;
-
 ghost use Rattle.std.specs.Prelude.{◌≡◌, ◌||◌, ◌*◌, ◌≤◌, ltb, take};
 ghost use Rattle.spec.specs.CallsCuthill.{cuthill_answer, cuthill_numbers, cuthill_levels, cuthill_passes, cuthill_scratch};
 ghost use Rattle.spec_claims.specs.Claim.{Numbered};
@@ -15,11 +13,12 @@ ghost use Rattle.spec.specs.Numbering.{Figures};
 ghost use Rattle.numbering.specs.Answer.{meaning};
 ghost use Rattle.numbering.specs.Calls.{answer_in, numbers_in, levels_in, passes_in, NumberedIn};
 
-use answer::RunAnswer;
-use graph::Adjacency;
+use graph::test_adjacency;
 use graph_words::legal::unknowns;
 use numbering_next::order::Order;
 use numbering_whole::legal::number_all;
+use numbering_whole::shape::RunFigures;
+use refusals::Refusal;
 
 // 5: numbers, levels, passes or scratch are short.
 fn any_short(n: usize, numbers: usize, levels: usize, passes: usize, scratch: usize) -> bool
@@ -49,7 +48,7 @@ fn number(
     levels: &mut [u16],
     passes: &mut [u16],
     scratch: &mut [u16],
-) -> RunAnswer
+) -> Result<RunFigures, Refusal>
     ensures result_value { meaning result ≡ answer_in order starts.now neighbours.now counts.now numbers.old levels.old passes.old scratch.old }
     ensures numbers_value { numbers.new ≡ numbers_in order starts.now neighbours.now counts.now numbers.old levels.old passes.old scratch.old }
     ensures levels_value { levels.new ≡ levels_in order starts.now neighbours.now counts.now numbers.old levels.old passes.old scratch.old }
@@ -57,31 +56,23 @@ fn number(
     ensures scratch_value { scratch.new ≡ run_scratch starts.now neighbours.now counts.now numbers.old levels.old passes.old scratch.old }
     ensures numbered_in { (F : Figures) → meaning result ≡ accepted F → NumberedIn order starts.now neighbours.now counts.now F (take (size_of starts.now) numbers.new) (take (size_of starts.now) levels.new) }
 {
-    match graph::test_adjacency(starts, neighbours) {
-        Adjacency::Refused(c) => RunAnswer::Refused(c),
-        Adjacency::Legal => {
-            let n = starts.len() - 1;
-            if any_short(n, numbers.len(), levels.len(), passes.len(), scratch.len()) {
-                return RunAnswer::Refused(5);
-            }
-            let total = unknowns(counts, n);
-            if total == 0 {
-                return RunAnswer::Refused(15);
-            }
-            let f = number_all(
-                order,
-                starts,
-                neighbours,
-                counts,
-                &mut numbers[..n],
-                &mut levels[..n],
-                &mut passes[..n],
-                scratch,
-                total,
-            );
-            RunAnswer::Numbered(f)
-        }
+    test_adjacency(starts, neighbours)?;
+    let n = starts.len() - 1;
+    if any_short(n, numbers.len(), levels.len(), passes.len(), scratch.len()) {
+        return Err(Refusal::ShortBuffer);
     }
+    let total = unknowns(counts, n)?;
+    Ok(number_all(
+        order,
+        starts,
+        neighbours,
+        counts,
+        &mut numbers[..n],
+        &mut levels[..n],
+        &mut passes[..n],
+        scratch,
+        total,
+    ))
 }
 
 // The whole run: the numbering of Gibbs, Poole and Stockmeyer.
@@ -93,7 +84,7 @@ pub fn run(
     levels: &mut [u16],
     passes: &mut [u16],
     scratch: &mut [u16],
-) -> RunAnswer
+) -> Result<RunFigures, Refusal>
     ensures result_value { meaning result ≡ run_answer starts.now neighbours.now counts.now numbers.old levels.old passes.old scratch.old }
     ensures numbers_value { numbers.new ≡ run_numbers starts.now neighbours.now counts.now numbers.old levels.old passes.old scratch.old }
     ensures levels_value { levels.new ≡ run_levels starts.now neighbours.now counts.now numbers.old levels.old passes.old scratch.old }
@@ -122,7 +113,7 @@ pub fn reverse_cuthill_mckee(
     levels: &mut [u16],
     passes: &mut [u16],
     scratch: &mut [u16],
-) -> RunAnswer
+) -> Result<RunFigures, Refusal>
     ensures result_value { meaning result ≡ cuthill_answer starts.now neighbours.now counts.now numbers.old levels.old passes.old scratch.old }
     ensures numbers_value { numbers.new ≡ cuthill_numbers starts.now neighbours.now counts.now numbers.old levels.old passes.old scratch.old }
     ensures levels_value { levels.new ≡ cuthill_levels starts.now neighbours.now counts.now numbers.old levels.old passes.old scratch.old }

@@ -8,7 +8,6 @@ use Prim.Native.Nat.{ℕ, suc, ◌+◌, ◌-◌, ◌*◌, ◌≤◌, ◌<◌}
 use native.Mathlib.Omega.{arith}
 use lib.ListN.{length, get_or, take, drop, replicate, length-append, length-take, length-drop, length-replicate, get_or-replicate, get_or-append}
 use lib.Seq.{sets, slice, ext_get_or, take-take, get_or-take, get_or-drop, get_or-append-add}
-use borrow.Rule.Slice.PartMut.{post_of}
 use Rattle.basis.specs.Lists.{memb}
 use Rattle.basis.specs.Stored.{stored}
 use Rattle.basis.proofs.Logic.{by_test, lt_or_le}
@@ -25,7 +24,6 @@ use Rattle.laws.proofs.Refused.{passed, starts_of_lem, not_refused}
 use Rattle.levels_search.specs.Queue.{Queued}
 use Rattle.levels_ends.specs.Answer.{found_of, Ended}
 use Rattle.levels_ends.specs.declared.shape.Found.{Found}
-use Rattle.levels_ends.proofs.Areas.{front-lent, front-back}
 use Rattle.levels_laws.specs.Areas.{words_of}
 use Rattle.levels_laws.specs.Given.{first_of}
 use Rattle.levels_laws.specs.Members.{Members}
@@ -70,7 +68,7 @@ module _ (S N : List ℕ) (ok : graph_refusal S N ≡ 0) {from to : ℕ} (X : Li
 
   -- the slice as it comes back from the end search
   abbrev X₁ : List ℕ
-  X₁ = Y ++ post_of 0 (4 * n - 0) X
+  X₁ = Y ++ drop (4 * n) X
 
   G : LegalGraph g
   G = not_refused S N ok
@@ -139,11 +137,10 @@ module _ (S N : List ℕ) (ok : graph_refusal S N ≡ 0) {from to : ℕ} (X : Li
         ap (λ (l : List ℕ). get_or l i 0) copied
         ∙ stored_other (5 * n) n (number_at 0 X₁) X₁ ms range i (λ q a b x. ⊎_elim (λ (y : i < 5 * n). omega arith) (λ (y : 6 * n ≤ i). omega arith) h)
 
-    two-front : take (4 * n - 0) T ≡ Y
+    two-front : take (4 * n) T ≡ Y
     two-front =
         let s : length (take (4 * n) T) ≡ 4 * n = omega (arith, length-take (4 * n) T, two_size, fits) in
-        front-lent (4 * n) T
-        ∙ ext_get_or 0 (take (4 * n) T) Y (s ∙ sym Y-size)
+        ext_get_or 0 (take (4 * n) T) Y (s ∙ sym Y-size)
         (λ i b.
         let h : i < 4 * n = omega arith in
         get_or-take (4 * n) T i 0 h ∙ two-other i (inl (omega arith)) ∙ one-front i h)
@@ -154,7 +151,7 @@ module _ (S N : List ℕ) (ok : graph_refusal S N ≡ 0) {from to : ℕ} (X : Li
         ∙ sym (ap (λ (r : Found). r.reached) found-e) ∙ sym p
 
     pub wipe_asked : {c : ℕ} → c ≡ f.reached
-        → (n ≤ 4096) × (Queued n c (take (n + n) (take (4 * n - 0) T)) × Queued n c (drop (n + n) (take (4 * n - 0) T)))
+        → (n ≤ 4096) × (Queued n c (take (n + n) (take (4 * n) T)) × Queued n c (drop (n + n) (take (4 * n) T)))
     wipe_asked {c} p = rw two-front (
       few,
       (
@@ -211,10 +208,9 @@ module _ (S N : List ℕ) (ok : graph_refusal S N ≡ 0) {from to : ℕ} (X : Li
           ⊎_elim (low j) (λ h. high j h ∙ two-other j d ∙ one_behind j h)
           (lt_or_le j (4 * n))
 
-      pub rooted_words : B ++ post_of 0 (4 * n - 0) T ≡ sets X (5 * n) ls
+      pub rooted_words : B ++ drop (4 * n) T ≡ sets X (5 * n) ls
       rooted_words =
-          front-back (4 * n) T B
-          ∙ stored_by X (5 * n) ls (B ++ drop (4 * n) T) (omega (arith, R.size, fits))
+          stored_by X (5 * n) ls (B ++ drop (4 * n) T) (omega (arith, R.size, fits))
           (length-append B (drop (4 * n) T) ∙ omega (arith, B-size, length-drop (4 * n) T, two_size, fits))
           level
           (λ j d. other j (⊎_elim (λ (h : j < 5 * n). inl h) (λ (h : 5 * n + length ls ≤ j). inr (omega (arith, R.size))) d))

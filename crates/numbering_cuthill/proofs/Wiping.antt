@@ -1,27 +1,27 @@
 -- Two searches in 4n words, wiped one after the other. Assumes nothing.
-use mathlib.Core.Path.{◌≡◌, sym, ap, ap₂, ◌∙◌, subst}
+use mathlib.Core.Path.{◌≡◌, refl, sym, ap, ap₂, ◌∙◌, subst}
 use mathlib.Core.List.{List, ◌++◌}
 use Prim.Native.Nat.{ℕ, ◌+◌, ◌-◌}
 use native.Mathlib.Omega.{arith}
 use lib.ListN.{length, take, drop, replicate, length-append, length-take, length-drop, length-replicate, replicate-append-replicate}
-use borrow.Rule.Slice.PartMut.{post_of, put_mid}
+use borrow.Rule.Slice.PartMut.{put_mid}
 use Rattle.levels_search.specs.Queue.{Queued}
-use Rattle.levels_ends.proofs.Areas.{second-lent, second_back, front-back, front-lent, first-half, second-half}
+use Rattle.levels_ends.proofs.Areas.{second-lent, second_back, first-half, second-half}
 
 module _ (n count : ℕ) (W : List ℕ) (a : Queued n count (take (n + n) W)) (b : Queued n count (drop (n + n) W)) where
   pub both_size : length W ≡ n + n + (n + n)
   both_size = omega (arith, a.full, b.full, length-take (n + n) W, length-drop (n + n) W)
 
-  pub first_asked : Queued n count (take (n + n - 0) W)
-  first_asked = subst (Queued n count) (sym (front-lent (n + n) W)) a
+  pub first_asked : Queued n count (take (n + n) W)
+  first_asked = a
 
   -- the first is wiped
   module _ {T : List ℕ} (t : T ≡ replicate (n + n) 0) where
     abbrev W₁ : List ℕ
-    W₁ = T ++ post_of 0 (n + n - 0) W
+    W₁ = T ++ drop (n + n) W
 
     one_is : W₁ ≡ T ++ drop (n + n) W
-    one_is = front-back (n + n) W T
+    one_is = refl
 
     T-size : length T ≡ n + n
     T-size = ap length t ∙ length-replicate (n + n) 0

@@ -18,14 +18,12 @@ ghost use Rattle.numbering_cuthill.specs.Part.{part_root_of, rooted_by, turned_b
 
 use crate::shape::PartRoot;
 use graph_words::areas::{MEMBERS, TALLY};
-use graph_words::wide;
 use levels_combine::legal::copy_levels;
 use levels_ends::legal::{ends_from, first_in_e};
 use levels_search::legal::wipe;
 use numbering_order::legal::rooted::from_root;
 use numbering_part::legal::{give_levels, give_numbers};
 use numbering_part::shape::PartFigures;
-use numbering_reverse::legal::reverse;
 use numbering_width::legal::width_of;
 
 // Sets the words of the searches from both ends, of `count` nodes each, to 0 again.
@@ -35,7 +33,7 @@ fn wipe_both(work: &mut [u16], n: usize, count: usize)
     requires queued_2 { Queued n count (drop (n + n) work.old) }
     ensures { work.new ≡ replicate (n + n + (n + n)) 0 }
 {
-    wipe(&mut work[0..n + n], n, count);
+    wipe(&mut work[..n + n], n, count);
     wipe(&mut work[n + n..], n, count);
 }
 
@@ -54,9 +52,9 @@ fn root_part(
 {
     let n = starts.len() - 1;
     let first = first_in_e(starts, &scratch[MEMBERS * n + from..MEMBERS * n + to]);
-    let f = ends_from(starts, neighbours, first, &mut scratch[0..MEMBERS * n]);
+    let f = ends_from(starts, neighbours, first, &mut scratch[..MEMBERS * n]);
     copy_levels(scratch, n, 0, from, to);
-    wipe_both(&mut scratch[0..MEMBERS * n], n, wide(f.reached));
+    wipe_both(&mut scratch[..MEMBERS * n], n, usize::from(f.reached));
     PartRoot {
         v: f.v,
         k: f.k,
@@ -81,7 +79,7 @@ fn order_part(
 {
     let n = starts.len() - 1;
     from_root(starts, neighbours, scratch, at, k, v);
-    reverse(&mut scratch[n..n + m]);
+    scratch[n..n + m].reverse();
 }
 
 // Levels, order and width of the part whose members stand from..to: the order stands behind the first n words, the levels in TALLY. All else

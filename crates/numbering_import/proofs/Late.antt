@@ -1,15 +1,14 @@
 -- What the tests 13, 7 and 14 make of the answer and of the buffers. Assumes nothing.
 use mathlib.Core.Path.{◌≡◌, refl, sym, ap, ◌∙◌}
-use mathlib.Core.Bool.{Bool, true, false, not, cond, ◌&&◌}
+use mathlib.Core.Bool.{Bool, true, false, not, cond}
 use mathlib.Core.List.{List, ◌∷◌, ◌++◌, append-nil}
 use Prim.Native.Nat.{ℕ, zero, suc, ◌≤◌}
 use native.Mathlib.Omega.{arith}
 use lib.Dec.{eqb}
-use lib.ListN.{length, take, drop, replicate, length-replicate}
+use lib.ListN.{length, take, drop, replicate}
 use lib.Seq.{drop-length}
-use borrow.Author.Tests.{eq-eqb, ne_eqb}
+use borrow.Author.Tests.{eq-eqb}
 use Rattle.basis.specs.Lists.{overwrite}
-use Rattle.basis.proofs.Logic.{and_none}
 use Rattle.spec_import.specs.CallsImport.{supplied, refuses13, same_figures}
 use Rattle.spec.specs.CallsNumbering.{MeasureFigures, measure_figures}
 use Rattle.spec.specs.Graph.{graph_of, size_of}
@@ -24,14 +23,6 @@ use Rattle.numbering_import.proofs.ByPair.{supplied-length}
 -- ---- the figures
 
 module _ (a b : MeasureFigures) where
-  pub other-bandwidth : (a.bandwidth ≡ b.bandwidth → ⊥) → false ≡ same_figures a b
-  unfolding same_figures
-  other-bandwidth ne = sym (rw (ne_eqb a.bandwidth b.bandwidth ne))
-
-  pub other-profile : (a.profile ≡ b.profile → ⊥) → false ≡ same_figures a b
-  unfolding same_figures
-  other-profile ne = sym (ap (λ (t : Bool). t && eqb a.front b.front) (and_none (eqb a.bandwidth b.bandwidth) (ne_eqb a.profile b.profile ne)))
-
   pub front_decides : a.bandwidth ≡ b.bandwidth → a.profile ≡ b.profile → eqb a.front b.front ≡ same_figures a b
   unfolding same_figures
   front_decides e f = sym (rw (eq-eqb a.bandwidth b.bandwidth e, eq-eqb a.profile b.profile f))
@@ -112,7 +103,3 @@ front-zeros k n m e h = zeros k n h ∙ ap (λ (j : ℕ). replicate j 0) e
     zeros k zero h = refl
     zeros zero (suc n) h = absurd (omega arith)
     zeros (suc k) (suc n) h = ap (λ (l : List ℕ). 0 ∷ l) (zeros k n (omega arith))
-
--- zeros of n words are as many as they are
-pub zeros-own : (n : ℕ) (W : List ℕ) → W ≡ replicate n 0 → W ≡ replicate (length W) 0
-zeros-own n W e = e ∙ ap (λ (k : ℕ). replicate k 0) (sym (ap length e ∙ length-replicate n 0))

@@ -1,16 +1,16 @@
 -- The nodes met so far have the flag 1, all others 0, as the old numbers l are walked. Assumes nothing.
-use mathlib.Core.Path.{◌≡◌, refl, sym, ap, ◌∙◌}
+use mathlib.Core.Path.{◌≡◌, sym, ap, ◌∙◌}
 use mathlib.Core.Logic.{◌⊎◌, inl, inr, ⊎_elim}
 use mathlib.Core.Bool.{true, false, ◌||◌}
 use mathlib.Core.List.{List}
 use Prim.Native.Nat.{ℕ, suc, ◌+◌, ◌-◌, ◌≤◌, ◌<◌}
 use native.Mathlib.Omega.{arith}
-use lib.ListN.{length, get_or, set, replicate, length-set}
+use lib.ListN.{length, get_or, set, length-set}
 use lib.Seq.{get_or-set_same, get_or-set_other}
 use lib.Dec.{eqb, ltb}
 use borrow.Author.Tests.{eq-eqb, lt-ltb, ne_eqb, le-ltb}
 use Rattle.basis.specs.Lists.{anyb}
-use Rattle.basis.proofs.Index.{index_once, once_index, zeros-at}
+use Rattle.basis.proofs.Index.{index_once, once_index}
 use Rattle.basis.proofs.Logic.{eq_or_ne, or_left, or_right, or_neither, passes}
 use Rattle.basis.proofs.Walk.{any_at, any_walked}
 use Rattle.spec_import.specs.CallsImport.{given_twice}
@@ -28,17 +28,6 @@ pub record Seen (l S₀ seen : List ℕ) (i : ℕ) : Type 0 where
   pub free : (k : ℕ) → k < length S₀ → (get_or seen k 0 ≡ 0) ⊎ ((j : ℕ) × (j < i) × (get_or l j 0 ≡ suc k))
 
 module _ (l S₀ : List ℕ) where
-  pub seen_none : S₀ ≡ replicate (length S₀) 0 → Seen l S₀ S₀ 0
-  seen_none z = record {
-    inside = omega arith;
-    size = refl;
-    low = λ j h. absurd (omega arith);
-    high = λ j h. absurd (omega arith);
-    apart = λ j h a b e. absurd (omega arith);
-    marked = λ j h. absurd (omega arith);
-    free = λ k h. inl (ap (λ (w : List ℕ). get_or w k 0) z ∙ zeros-at (length S₀) k);
-  }
-
   -- ---- refused at i
 
   module _ (i v : ℕ) (h : i < length l) (e : v ≡ get_or l i 0) where

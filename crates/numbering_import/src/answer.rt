@@ -1,4 +1,4 @@
-// What the call is handed beside its lists, and what it answers.
+// What the call is handed beside its lists.
 
 // "They also send bandwidth, profile and front": as wide as a caller can hand them, so that a wrong figure is not cut down to a right one.
 #[derive(Clone, Copy)]
@@ -6,11 +6,4 @@ pub struct SuppliedFigures {
     pub bandwidth: u64,
     pub profile: u64,
     pub front: u64,
-}
-
-// The numbering is accepted, or refused by the number of the first test that fails.
-#[derive(Clone, Copy)]
-pub enum ImportAnswer {
-    Accepted,
-    Refused(u16),
 }

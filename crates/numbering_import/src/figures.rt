@@ -7,22 +7,11 @@ ghost use Rattle.numbering_import.specs.Answer.{sent_three};
 use crate::answer::SuppliedFigures;
 use numbering_ones::Measures;
 
-// A measure as wide as a figure.
-fn wide(x: u32) -> u64
-    ensures { result ≡ x }
-{
-    x as u64
-}
-
 // 14: whether the figures sent are those found, none cut down.
 pub(crate) fn same_figures(sent: SuppliedFigures, found: Measures) -> bool
     ensures { result ≡ same_figures (sent_three sent) (three found) }
 {
-    if sent.bandwidth != wide(found.bandwidth) {
-        return false;
-    }
-    if sent.profile != wide(found.profile) {
-        return false;
-    }
-    sent.front == wide(found.front)
+    sent.bandwidth == u64::from(found.bandwidth)
+        && sent.profile == u64::from(found.profile)
+        && sent.front == u64::from(found.front)
 }

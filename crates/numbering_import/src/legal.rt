@@ -7,15 +7,17 @@ ghost use Rattle.spec.specs.Unknowns.{bad_counts};
 ghost use Rattle.laws.specs.Handed.{size_now, size_was};
 ghost use Rattle.graph.specs.Facts.{LegalLists};
 ghost use Rattle.numbering_import.specs.Answer.{sent_three, meaning};
+ghost use Rattle.refusals.specs.Numbers.{number_in};
 ghost use Rattle.numbering_import.specs.Late.{numbering_refusal, pairs_refusal};
 
-use crate::answer::{ImportAnswer, SuppliedFigures};
+use crate::answer::SuppliedFigures;
 use crate::figures::same_figures;
 use crate::numbers::supply;
 use crate::pairs::bad_pairs;
+use refusals::Refusal;
 
-// 7, and then 14: the number of the first that refuses, or 0. The n words lent end as 0.
-fn numbering_refusal(
+// 7, and then 14: the first that refuses. The n words lent end as 0.
+fn test_numbering(
     starts: &[u16],
     neighbours: &[u16],
     counts: &[u16],
@@ -23,22 +25,25 @@ fn numbering_refusal(
     sent: SuppliedFigures,
     words: &mut [u16],
     total: usize,
-) -> u16
+) -> Result<(), Refusal>
     requires legal_lists { LegalLists starts.now neighbours.now }
     requires counts_value { bad_counts (size_now starts) counts.now ≡ false }
     requires words_len { length words.old ≡ size_now starts }
     requires total_value { total ≡ sum counts.now }
-    ensures value { result ≡ numbering_refusal starts.now neighbours.now counts.now numbering.now (sent_three sent) }
+    ensures value { number_in result ≡ numbering_refusal starts.now neighbours.now counts.now numbering.now (sent_three sent) }
     ensures words_value { words.new ≡ replicate (size_was starts) 0 }
 {
     let n = words.len();
-    if graph_envelope::legal::numbered(numbering, n, words) {
-        let found = numbering_measures::legal::figures(
-            starts, neighbours, counts, numbering, words, total,
-        );
-        if same_figures(sent, found) { 0 } else { 14 }
+    if !graph_envelope::legal::numbered(numbering, n, words) {
+        return Err(Refusal::NoNumbering);
+    }
+    let found = numbering_measures::legal::figures(
+        starts, neighbours, counts, numbering, words, total,
+    );
+    if same_figures(sent, found) {
+        Ok(())
     } else {
-        7
+        Err(Refusal::Figures)
     }
 }
 
@@ -53,7 +58,7 @@ fn import_with(
     scratch: &mut [u16],
     own: &mut [u16],
     total: usize,
-) -> ImportAnswer
+) -> Result<(), Refusal>
     requires legal_lists { LegalLists starts.now neighbours.now }
     requires counts_value { bad_counts (size_now starts) counts.now ≡ false }
     requires numbers_len { length numbers.old ≡ size_now starts }
@@ -65,15 +70,12 @@ fn import_with(
     ensures scratch_value { scratch.new ≡ scratch_after (not (refuses13 (size_was starts) pairs.now)) (size_was starts) scratch.old }
 {
     if bad_pairs(pairs, own) {
-        return ImportAnswer::Refused(13);
+        return Err(Refusal::Pairs);
     }
     supply(pairs, own);
-    let c = numbering_refusal(starts, neighbours, counts, own, sent, scratch, total);
-    if c != 0 {
-        return ImportAnswer::Refused(c);
-    }
+    test_numbering(starts, neighbours, counts, own, sent, scratch, total)?;
     supply(pairs, numbers);
-    ImportAnswer::Accepted
+    Ok(())
 }
 
 // The same, with a local array for `own`: the lent numbering is not touched by 7 and 14, the scratch not by 13, and the measures want a
@@ -87,7 +89,7 @@ pub(crate) fn import(
     numbers: &mut [u16],
     scratch: &mut [u16],
     total: usize,
-) -> ImportAnswer
+) -> Result<(), Refusal>
     requires legal_lists { LegalLists starts.now neighbours.now }
     requires counts_value { bad_counts (size_now starts) counts.now ≡ false }
     requires numbers_len { length numbers.old ≡ size_now starts }

@@ -12,8 +12,8 @@ mod legal;
 mod numbers;
 mod pairs;
 
-pub use answer::{ImportAnswer, SuppliedFigures};
-use graph::Adjacency;
+pub use answer::SuppliedFigures;
+use refusals::Refusal;
 
 // The entry point: counts by old number, the pairs and the three figures; a numbering and scratch are lent, a word for each node.
 pub fn import_numbering(
@@ -24,26 +24,20 @@ pub fn import_numbering(
     sent: SuppliedFigures,
     numbers: &mut [u16],
     scratch: &mut [u16],
-) -> ImportAnswer
+) -> Result<(), Refusal>
     ensures result_value { meaning result ≡ import_answer starts.now neighbours.now counts.now pairs.now (sent_three sent) numbers.old scratch.old }
     ensures numbers_value { numbers.new ≡ import_numbers starts.now neighbours.now counts.now pairs.now (sent_three sent) numbers.old scratch.old }
     ensures scratch_value { scratch.new ≡ import_scratch starts.now neighbours.now counts.now pairs.now (sent_three sent) numbers.old scratch.old }
 {
-    let tested = graph::test_adjacency(starts, neighbours);
-    if let Adjacency::Refused(c) = tested {
-        return ImportAnswer::Refused(c);
-    }
+    graph::test_adjacency(starts, neighbours)?;
     let n = starts.len() - 1;
     if numbers.len() < n {
-        return ImportAnswer::Refused(5);
+        return Err(Refusal::ShortBuffer);
     }
     if scratch.len() < n {
-        return ImportAnswer::Refused(5);
+        return Err(Refusal::ShortBuffer);
     }
-    let total = graph_words::legal::unknowns(counts, n);
-    if total == 0 {
-        return ImportAnswer::Refused(15);
-    }
+    let total = graph_words::legal::unknowns(counts, n)?;
     legal::import(
         starts,
         neighbours,

@@ -3,18 +3,13 @@ ghost use Rattle.std.specs.Prelude.{◌≡◌, false, ◌≤◌, length};
 ghost use Rattle.basis.specs.Lists.{up_from};
 ghost use Rattle.spec_import.specs.CallsImport.{refuses13, supplied};
 
-use graph_words::wide;
-
 // Every node has its own number.
 fn own_numbers(numbers: &mut [u16])
     requires { length numbers.old ≤ 4096 }
     ensures { numbers.new ≡ up_from 1 (length numbers.old) }
 {
-    let n = numbers.len();
-    let mut i = 0;
-    while i < n {
-        numbers[i] = (i + 1) as u16;
-        i += 1;
+    for (i, number) in numbers.iter_mut().enumerate() {
+        *number = (i + 1) as u16;
     }
 }
 
@@ -24,12 +19,9 @@ fn put_pairs(pairs: &[u16], numbers: &mut [u16])
     requires numbers_value { numbers.old ≡ up_from 1 (length numbers.old) }
     ensures { numbers.new ≡ supplied (length numbers.old) pairs.now }
 {
-    let count = pairs.len() / 2;
-    let mut i = 0;
-    while i < count {
-        let old = wide(pairs[2 * i]);
+    for i in 0..pairs.len() / 2 {
+        let old = usize::from(pairs[2 * i]);
         numbers[old - 1] = pairs[2 * i + 1];
-        i += 1;
     }
 }
 

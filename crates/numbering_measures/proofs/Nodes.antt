@@ -20,8 +20,8 @@ module _ {S N K X : List ℕ} (M : Measurable S N K X) where
   pub counts_long : length K ≡ size_of S
   counts_long = counts_size (size_of S) K M.counted
 
-  pub next_node : (p : ℕ) → p < length X → Node (graph_of S N) (p + 1)
-  next_node p h = record { low = omega arith; high = omega (arith, numbers_size) }
+  pub next_node : (p : ℕ) → p < length K → Node (graph_of S N) (p + 1)
+  next_node p h = record { low = omega arith; high = omega (arith, counts_long) }
 
   pub count_most : (a : ℕ) → 1 ≤ a → a ≤ size_of S → of_node K a ≤ 6
   count_most a lo hi = (count_between (size_of S) K M.counted a lo hi).1
@@ -32,8 +32,8 @@ module _ {S N K X : List ℕ} (M : Measurable S N K X) where
       let e : p + 1 - 1 ≡ p = omega arith in
       sym (of_node-at K (p + 1) (omega arith) ∙ ap (λ (k : ℕ). get_or K k 0) e)
 
-  pub next_few : (p : ℕ) → p < length X → get_or K p 0 ≤ 6
-  next_few p h = omega (arith, next_count p, count_most (p + 1) (omega arith) (omega (arith, numbers_size)))
+  pub next_few : (p : ℕ) → p < length K → get_or K p 0 ≤ 6
+  next_few p h = omega (arith, next_count p, count_most (p + 1) (omega arith) (omega (arith, counts_long)))
 
   -- f of the number of a node is a number
   pub first_range : (a : ℕ) → Node (graph_of S N) a → {f : ℕ} → f ≡ first_in (renumbered (graph_of S N) X) (of_node X a) → (1 ≤ f) × (f ≤ size_of S)

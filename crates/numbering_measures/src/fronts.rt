@@ -5,21 +5,16 @@ ghost use Rattle.std.specs.Prelude.{◌≡◌, map, ◌-◌, ◌*◌, length, ta
 ghost use Rattle.basis.specs.Lists.{greatest, sum, up_from};
 ghost use Rattle.numbering_measures.specs.Fronts.{Climbs, Sweeps, steps_of};
 
-use graph_words::{larger, wide};
-
 // In place of the unknowns ahead of each number: 6 less those of the number before it.
 pub(crate) fn steps(words: &mut [u16])
     requires { Climbs words.old }
     ensures { words.new ≡ steps_of words.old }
 {
-    let n = words.len();
     let mut last = 0;
-    let mut i = 0;
-    while i < n {
-        let here = wide(words[i]);
-        words[i] = (6 + last - here) as u16;
+    for word in words.iter_mut() {
+        let here = usize::from(*word);
+        *word = (6 + last - here) as u16;
         last = here;
-        i += 1;
     }
 }
 
@@ -29,15 +24,12 @@ pub(crate) fn sweep(words: &mut [u16]) -> usize
     ensures value { result ≡ greatest (map (λ i. sum (take i words.old) - 6 * i) (up_from 1 (length words.old))) }
     ensures words_value { words.new ≡ replicate (length words.old) 0 }
 {
-    let n = words.len();
     let mut live = 0;
     let mut most = 0;
-    let mut i = 0;
-    while i < n {
-        live += wide(words[i]);
-        words[i] = 0;
-        i += 1;
-        most = larger(most, live - 6 * i);
+    for (i, word) in words.iter_mut().enumerate() {
+        live += usize::from(*word);
+        most = most.max(live - 6 * (i + 1));
+        *word = 0;
     }
     most
 }

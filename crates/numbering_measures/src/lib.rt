@@ -5,14 +5,12 @@ ghost use Rattle.std.specs.Prelude.{◌≡◌};
 ghost use Rattle.spec.specs.CallsNumbering.{measures_answer, measures_scratch};
 ghost use Rattle.numbering_measures.specs.Answer.{meaning};
 
-mod answer;
 mod fronts;
 pub mod legal;
 mod unknowns;
 
-pub use answer::MeasuresAnswer;
-use graph::Adjacency;
 pub use numbering_ones::Measures;
+use refusals::Refusal;
 
 // The entry point: counts and a numbering by old number, and a scratch word for each node.
 pub fn measures(
@@ -21,33 +19,25 @@ pub fn measures(
     counts: &[u16],
     numbering: &[u16],
     scratch: &mut [u16],
-) -> MeasuresAnswer
+) -> Result<Measures, Refusal>
     ensures result_value { meaning result ≡ measures_answer starts.now neighbours.now counts.now numbering.now scratch.old }
     ensures scratch_value { scratch.new ≡ measures_scratch starts.now neighbours.now counts.now numbering.now scratch.old }
 {
-    let tested = graph::test_adjacency(starts, neighbours);
-    if let Adjacency::Refused(c) = tested {
-        return MeasuresAnswer::Refused(c);
-    }
+    graph::test_adjacency(starts, neighbours)?;
     let n = starts.len() - 1;
     if scratch.len() < n {
-        return MeasuresAnswer::Refused(5);
+        return Err(Refusal::ShortBuffer);
     }
-    let total = graph_words::legal::unknowns(counts, n);
-    if total == 0 {
-        return MeasuresAnswer::Refused(15);
+    let total = graph_words::legal::unknowns(counts, n)?;
+    if !graph_envelope::legal::numbered(numbering, n, scratch) {
+        return Err(Refusal::NoNumbering);
     }
-    if graph_envelope::legal::numbered(numbering, n, scratch) {
-        let m = legal::figures(
-            starts,
-            neighbours,
-            counts,
-            numbering,
-            &mut scratch[..n],
-            total,
-        );
-        MeasuresAnswer::Accepted(m)
-    } else {
-        MeasuresAnswer::Refused(7)
-    }
+    Ok(legal::figures(
+        starts,
+        neighbours,
+        counts,
+        numbering,
+        &mut scratch[..n],
+        total,
+    ))
 }

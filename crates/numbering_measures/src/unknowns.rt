@@ -13,8 +13,7 @@ ghost use Rattle.numbering_measures.specs.Measurable.{Measurable};
 
 use crate::fronts::{steps, sweep};
 use graph_envelope::legal::unknowns::{add_up, share, width};
-use graph_envelope::legal::{first, number, numbered};
-use graph_words::larger;
+use graph_envelope::legal::{first, numbered};
 use numbering_ones::Measures;
 
 // What the nodes' envelopes give: the greatest reach and the sum of the shares.
@@ -37,15 +36,12 @@ fn walk(
     ensures bandwidth_value { result.bandwidth ≡ bandwidth (renumbered_unknowns (graph_was starts neighbours) counts.now numbering.now) }
     ensures profile_value { result.profile ≡ profile (renumbered_unknowns (graph_was starts neighbours) counts.now numbering.now) }
 {
-    let n = numbering.len();
     let mut widest = 0;
     let mut sum: u32 = 0;
-    let mut p = 0;
-    while p < n {
-        p += 1;
-        let c = number(counts, p);
-        let w = width(starts, neighbours, numbering, ahead, p);
-        widest = larger(widest, w + c - 1);
+    for (i, &count) in counts.iter().enumerate() {
+        let c = usize::from(count);
+        let w = width(starts, neighbours, numbering, ahead, i + 1);
+        widest = widest.max(w + c - 1);
         sum += share(c, w);
     }
     Spans {
@@ -61,13 +57,9 @@ fn gather(starts: &[u16], neighbours: &[u16], counts: &[u16], numbering: &[u16],
     requires low { Low words.old }
     ensures { words.new ≡ opened (graph_was starts neighbours) counts.now numbering.now words.old (size_was starts) }
 {
-    let n = numbering.len();
-    let mut p = 0;
-    while p < n {
-        let c = counts[p];
-        p += 1;
-        let i = first(starts, neighbours, numbering, p) - 1;
-        words[i] = words[i] + c;
+    for (i, &count) in counts.iter().enumerate() {
+        let f = first(starts, neighbours, numbering, i + 1);
+        words[f - 1] += count;
     }
 }
 

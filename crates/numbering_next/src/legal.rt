@@ -1,5 +1,5 @@
 // One part of a whole legal graph, in either order: it gets the next free numbers. Which order it is, one function looks at: `number_one`.
-ghost use Rattle.std.specs.Prelude.{◌≡◌, false, ◌+◌, ◌*◌, ◌≤◌, ◌<◌, max, length, set};
+ghost use Rattle.std.specs.Prelude.{◌≡◌, false, ◌+◌, ◌*◌, ◌≤◌, ◌<◌, length, set};
 ghost use Rattle.spec.specs.Graph.{graph_refusal};
 ghost use Rattle.spec.specs.Levels.{parts};
 ghost use Rattle.spec.specs.Unknowns.{bad_counts};
@@ -13,17 +13,9 @@ ghost use Rattle.numbering_next.specs.Ran.{added, Ran};
 use crate::order::Order;
 use crate::shape::Tally;
 use graph_words::areas::MEMBERS;
-use graph_words::wide;
 use numbering_cuthill::legal::cuthill_part;
 use numbering_part::legal::{number_lone, number_part};
 use numbering_part::shape::PartFigures;
-
-// The larger of two widths.
-fn wider(a: u16, b: u16) -> u16
-    ensures { result ≡ max a b }
-{
-    if a < b { b } else { a }
-}
 
 // What is summed up with one part more, of m nodes, whose passes stand in the word after those of the parts before.
 fn add_part(t: Tally, m: u16, f: PartFigures, passes: &mut [u16]) -> Tally
@@ -32,12 +24,12 @@ fn add_part(t: Tally, m: u16, f: PartFigures, passes: &mut [u16]) -> Tally
     ensures value { result ≡ added t m f }
     ensures passes_value { passes.new ≡ set passes.old t.parts f.passes }
 {
-    passes[wide(t.parts)] = f.passes;
+    passes[usize::from(t.parts)] = f.passes;
     Tally {
         parts: t.parts + 1,
         nodes: t.nodes + m,
-        levels: t.levels + f.k as u32,
-        width: wider(t.width, f.width),
+        levels: t.levels + u32::from(f.k),
+        width: t.width.max(f.width),
     }
 }
 
@@ -93,8 +85,8 @@ pub fn next_part(
     ensures scratch_value { scratch.new ≡ scratch.old }
 {
     let n = starts.len() - 1;
-    let from = wide(t.nodes);
-    let lowest = wide(scratch[MEMBERS * n + from]);
+    let from = usize::from(t.nodes);
+    let lowest = usize::from(scratch[MEMBERS * n + from]);
     let m = numbers[lowest - 1];
     // A part of one node: one level, which has all its unknowns, and one pass.
     if m == 1 {
@@ -116,7 +108,7 @@ pub fn next_part(
         numbers,
         levels,
         from,
-        from + wide(m),
+        from + usize::from(m),
     );
     add_part(t, m, f, passes)
 }

@@ -1,3 +1,4 @@
+pub mod Max
 pub mod Three
 pub mod Opened
 pub mod Widths

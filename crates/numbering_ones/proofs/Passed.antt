@@ -1,11 +1,11 @@
 -- Words summed up and set to 0 as they are passed. Assumes nothing.
 use mathlib.Core.Path.{◌≡◌, ap, ◌∙◌}
-use mathlib.Core.List.{List, ◌++◌, append-nil}
+use mathlib.Core.List.{List, ◌++◌}
 use Prim.Native.Nat.{ℕ, ◌+◌, ◌-◌, ◌<◌}
 use native.Mathlib.Numerals.{add-one}
 use native.Mathlib.Omega.{arith}
 use lib.ListN.{length, get_or, take, drop, replicate, length-replicate}
-use lib.Seq.{get_or-drop, drop-length}
+use lib.Seq.{get_or-drop}
 use Rattle.basis.specs.Lists.{sum}
 use Rattle.basis.proofs.Index.{get_or_right}
 use Rattle.basis.proofs.Sums.{sum-take}
@@ -21,8 +21,3 @@ word-ahead C c i e =
     let z : length Z ≡ i = length-replicate i 0 in
     let n : i + (i - length Z) ≡ i = omega arith in
     ap (λ (l : List ℕ). get_or l i 0) e ∙ get_or_right 0 Z (drop i C) i (omega arith) ∙ get_or-drop i C (i - length Z) 0 ∙ ap (λ (k : ℕ). get_or C k 0) n
-
--- and all set to 0 in the end
-pub words-passed : (C c : List ℕ) (i : ℕ) → i ≡ length C → c ≡ replicate i 0 ++ drop i C → c ≡ replicate (length C) 0
-words-passed C c i n e =
-    e ∙ ap (λ (k : ℕ). replicate k 0 ++ drop k C) n ∙ ap (λ (l : List ℕ). replicate (length C) 0 ++ l) (drop-length C) ∙ append-nil (replicate (length C) 0)

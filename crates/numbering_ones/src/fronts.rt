@@ -4,23 +4,18 @@ ghost use Rattle.std.specs.Prelude.{◌≡◌, map, ◌-◌, length, take, repli
 ghost use Rattle.basis.specs.Lists.{greatest, sum, up_from};
 ghost use Rattle.numbering_ones.specs.Fronts.{Sweeps};
 
-use graph_words::{larger, wide};
-
 // The greatest of what is opened up to i and not passed before i. The words end as 0.
 pub(crate) fn sweep(counts: &mut [u16]) -> usize
     requires { Sweeps counts.old }
     ensures value { result ≡ greatest (map (λ i. sum (take i counts.old) - (i - 1)) (up_from 1 (length counts.old))) }
     ensures counts_value { counts.new ≡ replicate (length counts.old) 0 }
 {
-    let n = counts.len();
     let mut live = 0;
     let mut most = 0;
-    let mut i = 0;
-    while i < n {
-        live += wide(counts[i]);
-        most = larger(most, live - i);
-        counts[i] = 0;
-        i += 1;
+    for (i, count) in counts.iter_mut().enumerate() {
+        live += usize::from(*count);
+        most = most.max(live - i);
+        *count = 0;
     }
     most
 }

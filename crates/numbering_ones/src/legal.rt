@@ -12,7 +12,6 @@ ghost use Rattle.numbering_ones.specs.Fronts.{opened};
 use crate::answer::Measures;
 use crate::fronts::sweep;
 use graph_envelope::legal::{first, number};
-use graph_words::larger;
 use graph_words::legal::clear;
 
 // What the spans q − f_q give: the greatest and the sum.
@@ -31,18 +30,14 @@ fn walk(starts: &[u16], neighbours: &[u16], numbering: &[u16], counts: &mut [u16
     ensures profile_value { result.profile ≡ profile (renumbered (graph_was starts neighbours) numbering.now) }
     ensures counts_value_2 { counts.new ≡ opened (graph_was starts neighbours) numbering.now (size_was starts) }
 {
-    let n = numbering.len();
     let mut widest = 0;
     let mut sum: u32 = 0;
-    let mut p = 0;
-    while p < n {
-        p += 1;
+    for p in 1..=numbering.len() {
         let f = first(starts, neighbours, numbering, p);
         let span = number(numbering, p) - f;
-        widest = larger(widest, span);
+        widest = widest.max(span);
         sum += span as u32;
-        let i = f - 1;
-        counts[i] = counts[i] + 1;
+        counts[f - 1] += 1;
     }
     Spans {
         bandwidth: widest as u32,

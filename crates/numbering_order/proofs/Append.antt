@@ -5,7 +5,7 @@ use mathlib.Core.List.{List, [], ◌∷◌, ◌++◌, append_assoc, append-nil}
 use Prim.Native.Nat.{ℕ, suc, ◌+◌, ◌≤◌, ◌<◌}
 use native.Mathlib.Omega.{arith}
 use native.Mathlib.Numerals.{add-one}
-use lib.ListN.{length, drop, get_or, length-append, drop_of_length-le}
+use lib.ListN.{length, drop, get_or, length-append}
 use lib.Seq.{drop-cons}
 use lib.Dec.{ltb}
 use borrow.Author.Tests.{ne_eqb, eqb-true}
@@ -20,7 +20,7 @@ use Rattle.basis.proofs.Sort.{chain_tail}
 use Rattle.levels_sort.specs.Nodes.{Nodes}
 use Rattle.numbering_order.specs.Model.{order_in, Listed, Open, Became, Far, free}
 use Rattle.numbering_order.proofs.Listed.{listed-append}
-use Rattle.numbering_order.proofs.Words.{At, open_at, at-order, at_open, at_next, at_became, far_same, far_on}
+use Rattle.numbering_order.proofs.Words.{At, open_at, at-order, at_open, at_next, far_same, far_on}
 use Rattle.numbering_order.proofs.Offer.{free_new}
 
 module _ (L : List ℕ) (i : ℕ) where
@@ -114,8 +114,3 @@ module _ {row : List ℕ} {n at : ℕ} {W₀ : List ℕ} {t i : ℕ} {W : List �
       where
         one : (q : ℕ) → (1 ≤ q) × (q ≤ n) → Nodes n (q ∷ [])
         one q w z m = rw (eqb-true z q (sym (memb-one z q) ∙ m)) w
-
-  pub append_done : length row ≤ j → Became n W₀ (order_in n t W₀ ++ filterb (free (drop at W₀) i (order_in n t W₀)) row) e W
-  append_done h =
-      let d : drop j row ≡ [] = drop_of_length-le row h in
-      rw (← I.goes, d) (rw (append-nil I.order) (at_became I.now))

@@ -1,5 +1,5 @@
 -- The numbering of one level in the working words: the loop of `fill`. Assumes nothing.
-use mathlib.Core.Path.{◌≡◌, sym, ◌∙◌}
+use mathlib.Core.Path.{◌≡◌, sym, ap, ◌∙◌}
 use mathlib.Core.Bool.{true, false}
 use mathlib.Core.List.{List, [], ◌∷◌, ◌++◌}
 use Prim.Native.Nat.{ℕ, ◌+◌, ◌-◌, ◌≤◌, ◌<◌}
@@ -16,7 +16,7 @@ use Rattle.laws.specs.Order.{Grown}
 use Rattle.laws.proofs.Refused.{not_refused}
 use Rattle.laws.proofs.PartOrder.{level_in}
 use Rattle.numbering_stacks.specs.Stacks.{Chain, Rest}
-use Rattle.numbering_order.specs.Model.{order_in, Listed, Open, Became, found_by, own_levels, Standing, Spreads, Begun, filled_in}
+use Rattle.numbering_order.specs.Model.{order_in, Listed, Open, Became, found_by, own_levels, Standing, Spreads, filled_in, Fills}
 use Rattle.numbering_order.proofs.Listed.{listed-append, listed-one}
 use Rattle.numbering_order.proofs.Words.{at-order, at_became}
 use Rattle.numbering_order.proofs.Walk.{Walk, walk_begin}
@@ -47,9 +47,10 @@ fill_room B = omega (arith, B.behind, B.held)
 
 -- at first the cursor is at b, and the stack is whole
 pub fill_begin : {S N : List ℕ} {n at : ℕ} {P W : List ℕ} {b t i : ℕ} → graph_refusal S N ≡ 0 → n ≡ size_of S → Open n t W
-    → Standing (graph_of S N) n at P W → Begun (graph_of S N) (own_levels (graph_of S N) P (drop at W)) i b (order_in n t W) → i ≤ n
-    → {q : ℕ} → q ≡ get_or W (n + n + n + (i - 1)) 0 → Filling S N n at P W b t i b W t q
-fill_begin {S} {N} {n} {at} {P} {W} {b} {t} {i} ok s O B D m f =
+    → i ≤ n → Fills (graph_of S N) n at t i b W P → {k : ℕ} → k ≡ i → Filling S N n at P W b t i b W t (get_or W (n + n + n + (k - 1)) 0)
+fill_begin {S} {N} {n} {at} {P} {W} {b} {t} {i} ok s O m F f =
+    let B = F.0 in
+    let D = F.1 in
     let g : Graph = graph_of S N in
     let ls : List ℕ = own_levels g P (drop at W) in
     let o : List ℕ = order_in n t W in
@@ -61,7 +62,7 @@ fill_begin {S} {N} {n} {at} {P} {W} {b} {t} {i} ok s O B D m f =
       standing = B;
       some = D.some;
       cursor = rw (length-take-le b o D.inside) at C;
-      stack = stack_begin K B (D.some, m) f;
+      stack = stack_begin K B (D.some, m) (ap (λ (x : ℕ). get_or W (n + n + n + (x - 1)) 0) f);
     }
 
 module _ {S N : List ℕ} {n at : ℕ} {P W₀ : List ℕ} {b t i c : ℕ} {W : List ℕ} {e q : ℕ} (I : Filling S N n at P W₀ b t i c W e q) where

@@ -1,14 +1,14 @@
 -- The nodes of the level before, one after another, add what they find: the loop of `from_before`. Assumes nothing.
 use mathlib.Core.Path.{◌≡◌, refl, sym, ap, ◌∙◌}
-use mathlib.Core.List.{List, [], foldl}
+use mathlib.Core.List.{List, foldl}
 use Prim.Native.Nat.{ℕ, suc, ◌+◌, ◌≤◌, ◌<◌}
 use native.Mathlib.Omega.{arith}
 use native.Mathlib.Numerals.{add-one}
-use lib.ListN.{length, take, drop, get_or, length-append, drop_of_length-le}
+use lib.ListN.{length, take, drop, get_or, length-append}
 use lib.Seq.{drop-cons, get_or-take, take-append-le, take_all}
 use Rattle.spec.specs.Graph.{graph_of, graph_refusal, size_of}
 use Rattle.numbering_order.specs.Model.{order_in, Open, Became, Far, found_by, add_by}
-use Rattle.numbering_order.proofs.Words.{open_at, at_became}
+use Rattle.numbering_order.proofs.Words.{open_at}
 use Rattle.numbering_order.proofs.Walk.{Walk, walk_begin, walk_on}
 
 -- those from h up to b are still to add
@@ -59,9 +59,3 @@ module _ {S N : List ℕ} {n at : ℕ} {W₀ : List ℕ} {a b i : ℕ} {W : List
               (ap (λ (w : ℕ). foldl (add_by by) (add_by by I.order w) (drop (suc h) (order_in n b W₀))) same
               ∙ ap (foldl (add_by by) I.order) (sym (drop-cons (order_in n b W₀) h 0 (omega (arith, I.counted)))) ∙ I.goes);
         }
-
-  pub before_done : b ≤ h → Became n W₀ (foldl (add_by (found_by (graph_of S N) (drop at W₀) i)) (order_in n b W₀) (drop a (order_in n b W₀))) e W
-  before_done l =
-      let q : length (order_in n b W₀) ≤ h = omega (arith, I.counted) in
-      let d : drop h (order_in n b W₀) ≡ [] = drop_of_length-le (order_in n b W₀) q in
-      rw (← I.goes, d) (at_became I.walk.now)

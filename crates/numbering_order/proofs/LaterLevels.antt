@@ -1,5 +1,5 @@
 -- The later levels in the working words: one of them (`level`), and one after another (the loop of `later_levels`). Assumes nothing.
-use mathlib.Core.Path.{◌≡◌, refl, sym, ap, ◌∙◌}
+use mathlib.Core.Path.{◌≡◌, sym, ap, ◌∙◌}
 use mathlib.Core.List.{List, foldl}
 use Prim.Native.Nat.{ℕ, suc, ◌+◌, ◌-◌, ◌≤◌, ◌<◌}
 use native.Mathlib.Omega.{arith}
@@ -53,43 +53,41 @@ module _ (S N : List ℕ) {n at : ℕ} {P W : List ℕ} {a b i : ℕ} (ok : grap
 
 -- ---- level after level
 
--- the levels up to i are numbered
+-- the levels below i are numbered
 pub record Advancing (S N : List ℕ) (n at : ℕ) (P W₀ : List ℕ) (t k : ℕ) (W : List ℕ) (a b i : ℕ) : Type 0 where
   pub order : List ℕ
   pub walk : Walk S N n at W₀ order W b
   pub standing : Standing (graph_of S N) n at P W₀
-  pub most : i ≤ k
-  pub levelled : Levelled (graph_of S N) (own_levels (graph_of S N) P (drop at W₀)) (suc i) a order
-  pub goes : foldl (later_in (graph_of S N) (own_levels (graph_of S N) P (drop at W₀))) order (up_from (suc i) (k - i))
+  pub levelled : Levelled (graph_of S N) (own_levels (graph_of S N) P (drop at W₀)) i a order
+  pub goes : foldl (later_in (graph_of S N) (own_levels (graph_of S N) P (drop at W₀))) order (up_from i (suc k - i))
       ≡ foldl (later_in (graph_of S N) (own_levels (graph_of S N) P (drop at W₀))) (order_in n t W₀) (up_from 2 (k - 1))
 
 pub advance_begin : {S N : List ℕ} {n at t k : ℕ} {P W : List ℕ} → graph_refusal S N ≡ 0 → n ≡ size_of S → Open n t W → Standing (graph_of S N) n at P W
-    → Levelled (graph_of S N) (own_levels (graph_of S N) P (drop at W)) 2 0 (order_in n t W) → 1 ≤ k → Advancing S N n at P W t k W 0 t 1
-advance_begin ok q O B D h = record { order = _; walk = walk_begin ok q O (standing_far B); standing = B; most = h; levelled = D; goes = refl }
+    → Levelled (graph_of S N) (own_levels (graph_of S N) P (drop at W)) 2 0 (order_in n t W) → 1 ≤ k → Advancing S N n at P W t k W 0 t 2
+advance_begin {k = k} ok q O B D h = let c : suc k - 2 ≡ k - 1 = omega arith in record { order = _; walk = walk_begin ok q O (standing_far B); standing = B; levelled = D; goes = rw c }
 
 module _ {S N : List ℕ} {n at : ℕ} {P W₀ : List ℕ} {t k : ℕ} {W : List ℕ} {a b i : ℕ} (I : Advancing S N n at P W₀ t k W a b i) where
   pub advance_standing : Standing (graph_of S N) n at P W
   advance_standing = standing_on I.walk I.standing
 
-  pub advance_levelled : Levelled (graph_of S N) (own_levels (graph_of S N) P (drop at W)) (i + 1) a (order_in n b W)
-  advance_levelled = rw (levels_on I.walk I.standing, at-order I.walk.now, add-one i) I.levelled
+  pub advance_levelled : Levelled (graph_of S N) (own_levels (graph_of S N) P (drop at W)) i a (order_in n b W)
+  advance_levelled = rw (levels_on I.walk I.standing, at-order I.walk.now) I.levelled
 
-  pub advance_step : i < k → {e : ℕ} {W' : List ℕ} → length W' ≡ length W
-      → Became n W (later_in (graph_of S N) (own_levels (graph_of S N) P (drop at W)) (order_in n b W) (i + 1)) e W' → Advancing S N n at P W₀ t k W' b e (i + 1)
+  pub advance_step : i ≤ k → {e : ℕ} {W' : List ℕ} → length W' ≡ length W
+      → Became n W (later_in (graph_of S N) (own_levels (graph_of S N) P (drop at W)) (order_in n b W) i) e W' → Advancing S N n at P W₀ t k W' b e (i + 1)
   advance_step h {e} {W'} s X =
       let g : Graph = graph_of S N in
       let ls : List ℕ = own_levels g P (drop at W₀) in
-      let c : k - i ≡ suc (k - suc i) = omega arith in
+      let c : suc k - i ≡ suc (suc k - suc i) = omega arith in
       rw (add-one i) (record {
-        order = later_in g ls I.order (suc i);
+        order = later_in g ls I.order i;
         walk =
             walk_next I.walk (later_listed g ls I.levelled I.walk.sized I.walk.now.listed) (later_longer g ls I.levelled) s
-            (rw (levels_on I.walk I.standing, at-order I.walk.now, add-one i) at X);
+            (rw (levels_on I.walk I.standing, at-order I.walk.now) at X);
         standing = I.standing;
-        most = h;
         levelled = rw I.walk.now.count (levelled_next g ls I.levelled);
-        goes = ap (λ (d : ℕ). foldl (later_in g ls) I.order (up_from (suc i) d)) (sym c) ∙ I.goes;
+        goes = ap (λ (d : ℕ). foldl (later_in g ls) I.order (up_from i d)) (sym c) ∙ I.goes;
       })
 
-  pub advance_done : k ≤ i → Became n W₀ (foldl (later_in (graph_of S N) (own_levels (graph_of S N) P (drop at W₀))) (order_in n t W₀) (up_from 2 (k - 1))) b W
-  advance_done h = let c : k - i ≡ 0 = omega arith in rw (← I.goes, c) (at_became I.walk.now)
+  pub advance_done : k < i → Became n W₀ (foldl (later_in (graph_of S N) (own_levels (graph_of S N) P (drop at W₀))) (order_in n t W₀) (up_from 2 (k - 1))) b W
+  advance_done h = let c : suc k - i ≡ 0 = omega arith in rw (← I.goes, c) (at_became I.walk.now)

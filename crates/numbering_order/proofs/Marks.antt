@@ -15,7 +15,6 @@ use Rattle.basis.proofs.Index.{get_or-map-up_from}
 use Rattle.basis.proofs.Lists.{memb-append, memb-one, length-up_from, map_cong}
 use Rattle.basis.proofs.Logic.{or_right, eq_or_ne}
 use Rattle.basis.proofs.Stored.{stored-zeros}
-use Rattle.graph_words.specs.Erasable.{Erasable}
 use Rattle.numbering_order.specs.Model.{order_in, Open, marks_of}
 
 pub marks-length : (n : ℕ) (o : List ℕ) → length (marks_of n o) ≡ n
@@ -65,12 +64,6 @@ marks_none n = go 1 n
 -- ---- `wipe`
 
 module _ {n t : ℕ} {W : List ℕ} (O : Open n t W) where
-  pub wipe_ask : Erasable 0 n t W
-  wipe_ask = record {
-    held = omega (arith, O.fits, O.room);
-    inside = λ z m. let r = O.listed.inside z m in (r.0, omega (arith, r.1));
-  }
-
   -- a node that is not numbered has no mark
   unmarked : (i : ℕ) → i < n → memb (suc i) (order_in n t W) ≡ false → get_or W i 0 ≡ 0
   unmarked i h u =

@@ -46,41 +46,41 @@ module _ {g : Graph} (G : LegalGraph g) {n : ℕ} (sized : n ≡ g.size) (L : Li
 
 -- ---- level after level
 
--- the levels up to i are numbered
+-- the levels below i are numbered
 pub record Rooting (S N : List ℕ) (n at : ℕ) (W₀ : List ℕ) (k : ℕ) (W : List ℕ) (a b i : ℕ) : Type 0 where
   pub order : List ℕ
   pub walk : Walk S N n at W₀ order W b
-  pub levelled : Levelled (graph_of S N) (levels_from at n W₀) (suc i) a order
-  pub goes : foldl (before_in (graph_of S N) (levels_from at n W₀)) order (up_from (suc i) (k - i)) ≡ befores_in (graph_of S N) (levels_from at n W₀) k (order_in n 1 W₀)
+  pub levelled : Levelled (graph_of S N) (levels_from at n W₀) i a order
+  pub goes : foldl (before_in (graph_of S N) (levels_from at n W₀)) order (up_from i (suc k - i)) ≡ befores_in (graph_of S N) (levels_from at n W₀) k (order_in n 1 W₀)
 
 pub rooting_begin : {S N : List ℕ} {n at k : ℕ} {W : List ℕ} → graph_refusal S N ≡ 0 → n ≡ size_of S → Open n 1 W → Far n at W
-    → Levelled (graph_of S N) (levels_from at n W) 2 0 (order_in n 1 W) → Rooting S N n at W k W 0 1 1
-rooting_begin ok q O F D = record { order = _; walk = walk_begin ok q O F; levelled = D; goes = refl }
+    → Levelled (graph_of S N) (levels_from at n W) 2 0 (order_in n 1 W) → Rooting S N n at W k W 0 1 2
+rooting_begin {k = k} ok q O F D = let c : suc k - 2 ≡ k - 1 = omega arith in record { order = _; walk = walk_begin ok q O F; levelled = D; goes = rw c }
 
 module _ {S N : List ℕ} {n at : ℕ} {W₀ : List ℕ} {k : ℕ} {W : List ℕ} {a b i : ℕ} (I : Rooting S N n at W₀ k W a b i) where
   pub rooting_inside : a ≤ b
   rooting_inside = omega (arith, I.levelled.inside, I.walk.now.count)
 
-  pub rooting_step : i < k → {e : ℕ} {W' : List ℕ} → length W' ≡ length W
-      → Became n W (foldl (add_by (found_by (graph_of S N) (drop at W) (i + 1))) (order_in n b W) (drop a (order_in n b W))) e W' → Rooting S N n at W₀ k W' b e (i + 1)
+  pub rooting_step : i ≤ k → {e : ℕ} {W' : List ℕ} → length W' ≡ length W
+      → Became n W (foldl (add_by (found_by (graph_of S N) (drop at W) i)) (order_in n b W) (drop a (order_in n b W))) e W' → Rooting S N n at W₀ k W' b e (i + 1)
   rooting_step h {e} {W'} s X =
       let g : Graph = graph_of S N in
       let ls : List ℕ = levels_from at n W₀ in
       let K = I.walk in
-      let c : k - i ≡ suc (k - suc i) = omega arith in
+      let c : suc k - i ≡ suc (suc k - suc i) = omega arith in
       let wide : n ≤ length (drop at W₀) = omega (arith, length-drop at W₀, K.behind.held) in
       let same = all_same (not_refused S N K.ok) K.sized (drop at W₀) wide I.levelled K.now.listed.inside in
       rw (add-one i) (record {
-        order = before_in g ls I.order (suc i);
+        order = before_in g ls I.order i;
         walk =
             walk_next K (before-listed g ls I.levelled K.sized K.now.listed) (before_longer g ls I.levelled) s
-            (rw (walk_levels K, at-order K.now, add-one i, same) at X);
+            (rw (walk_levels K, at-order K.now, same) at X);
         levelled = rw K.now.count (levelled_before g ls I.levelled);
-        goes = ap (λ (d : ℕ). foldl (before_in g ls) I.order (up_from (suc i) d)) (sym c) ∙ I.goes;
+        goes = ap (λ (d : ℕ). foldl (before_in g ls) I.order (up_from i d)) (sym c) ∙ I.goes;
       })
 
-  pub rooting_done : k ≤ i → Became n W₀ (befores_in (graph_of S N) (levels_from at n W₀) k (order_in n 1 W₀)) b W
-  rooting_done h = let c : k - i ≡ 0 = omega arith in rw (← I.goes, c) (at_became I.walk.now)
+  pub rooting_done : k < i → Became n W₀ (befores_in (graph_of S N) (levels_from at n W₀) k (order_in n 1 W₀)) b W
+  rooting_done h = let c : suc k - i ≡ 0 = omega arith in rw (← I.goes, c) (at_became I.walk.now)
 
 -- the levels from level i on, on lists
 befores_listed : (g : Graph) (ls : List ℕ) {n : ℕ} → n ≡ g.size → (m i a : ℕ) (o : List ℕ) → Levelled g ls i a o → Listed n o

@@ -15,7 +15,6 @@ ghost use Rattle.numbering_order.specs.Model.{stand, order_in, Open, Became, Far
 pub mod rooted;
 
 use graph_words::legal::erase;
-use graph_words::wide;
 use numbering_stacks::legal::{rank, unmarked, unrank};
 
 // Whether the node q has no number yet and stands in level i.
@@ -24,10 +23,7 @@ fn is_free(work: &[u16], at: usize, q: usize, i: u16) -> bool
     ensures { result ≡ is_free work.now at i q }
 {
     let p = q - 1;
-    if work[p] != 0 {
-        return false;
-    }
-    work[at + p] == i
+    work[p] == 0 && work[at + p] == i
 }
 
 // The node z gets the next number.
@@ -37,7 +33,7 @@ fn push(work: &mut [u16], n: usize, t: usize, z: u16)
     requires work_value { memb z (order_in n t work.old) ≡ false }
     ensures { work.new ≡ stand n (order_in n t work.old ++ (z ∷ [])) (drop n work.old) }
 {
-    let p = wide(z) - 1;
+    let p = usize::from(z) - 1;
     work[p] = 1;
     work[n + t] = z;
 }
@@ -49,7 +45,7 @@ fn offer(work: &mut [u16], n: usize, at: usize, t: usize, q: u16, i: u16) -> usi
     requires le_q { (1 ≤ q) × (q ≤ n) }
     ensures { Became n work.old (order_in n t work.old ++ filterb (free (drop at work.old) i (order_in n t work.old)) (q ∷ [])) result work.new }
 {
-    if is_free(work, at, wide(q), i) {
+    if is_free(work, at, usize::from(q), i) {
         push(work, n, t, q);
         return t + 1;
     }
@@ -65,11 +61,8 @@ fn append(row: &[u16], work: &mut [u16], n: usize, at: usize, t: usize, i: u16) 
     ensures { Became n work.old (order_in n t work.old ++ filterb (free (drop at work.old) i (order_in n t work.old)) row.now) result work.new }
 {
     let mut e = t;
-    let mut j = 0;
-    while j < row.len() {
-        let q = row[j];
+    for &q in row {
         e = offer(work, n, at, e, q, i);
-        j += 1;
     }
     e
 }
@@ -103,7 +96,7 @@ fn extend(
     requires le_w { (1 ≤ w) × (w ≤ n) }
     ensures { Became n work.old (add_by (found_by (graph_was starts neighbours) (drop at work.old) i) (order_in n t work.old) w) result work.new }
 {
-    let row = graph::legal::row(starts, neighbours, wide(w));
+    let row = graph::legal::row(starts, neighbours, usize::from(w));
     let e = append(row, work, n, at, t, i);
     sort_tail(starts, work, n, t, e);
     e
@@ -128,11 +121,9 @@ fn from_before(
     ensures { Became n work.old (foldl (add_by (found_by (graph_was starts neighbours) (drop at work.old) i)) (order_in n b work.old) (drop a (order_in n b work.old))) result work.new }
 {
     let mut e = b;
-    let mut h = a;
-    while h < b {
+    for h in a..b {
         let w = work[n + h];
         e = extend(starts, neighbours, work, n, at, e, w, i);
-        h += 1;
     }
     e
 }
@@ -157,6 +148,7 @@ fn spread(
 {
     let mut e = t;
     let mut h = c;
+    // A while: the order grows while the cursor goes along it.
     while h < e {
         let w = work[n + h];
         e = extend(starts, neighbours, work, n, at, e, w, i);
@@ -207,13 +199,14 @@ fn fill(
     requires by_index { (P : List ℕ) × Fills (graph_now starts neighbours) n at t i b work.old P }
     ensures { (P : List ℕ) → Fills (graph_was starts neighbours) n at t i b work.old P → RestNumbered (graph_was starts neighbours) n at t i work.old P result work.new }
 {
-    let top = work[n + n + n + (wide(i) - 1)];
+    let top = work[n + n + n + (usize::from(i) - 1)];
     let left = unmarked(work, n, top);
     if left == 0 {
         return t;
     }
     let mut e = spread(starts, neighbours, work, n, at, b, t, i);
     let mut z = unmarked(work, n, left);
+    // A while: it goes down the level's stack, which the rounds empty of unnumbered nodes.
     while z != 0 {
         e = resume(starts, neighbours, work, n, at, e, z, i);
         z = unmarked(work, n, z);
@@ -270,9 +263,7 @@ fn later_levels(
 {
     let mut a = 0;
     let mut b = t;
-    let mut i: u16 = 1;
-    while i < k {
-        i += 1;
+    for i in 2..=k {
         let e = level(starts, neighbours, work, n, at, a, b, i);
         a = b;
         b = e;

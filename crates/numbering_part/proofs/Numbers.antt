@@ -75,7 +75,7 @@ module _ {n m a : ℕ} {W X U Y : List ℕ} {i : ℕ} (I : Giving n m a W X U Y 
     pub z_range : (1 ≤ z) × (z ≤ n)
     z_range = rw z_is (I.ask.inside (get_or (order_at n m W) i 0) (memb-get_or (order_at n m W) i (omega (arith, order_size))))
 
-    pub giving_step : Giving n m a W X (set U (n + i) 0) (set Y (z - 1) (a + (i + 1))) (i + 1)
+    pub giving_step : Giving n m a W X (set U (n + i) 0) (set Y (z - 1) (a + i + 1)) (i + 1)
     giving_step = record {
       ask = I.ask;
       blank = blank_step I.blank h;

@@ -19,7 +19,6 @@ ghost use Rattle.numbering_part.specs.Part.{order_at, numbered, lowest_in, new_n
 
 use crate::shape::{PartFigures, PartFound};
 use graph_words::areas::{MEMBERS, TALLY};
-use graph_words::wide;
 use levels::legal::combine_part;
 use numbering_sequence::legal::sequence;
 use numbering_width::legal::width_of;
@@ -30,12 +29,10 @@ pub fn give_numbers(scratch: &mut [u16], numbers: &mut [u16], n: usize, m: usize
     ensures scratch_value { scratch.new ≡ sets scratch.old n (replicate m 0) }
     ensures numbers_value { numbers.new ≡ numbered a (order_at n m scratch.old) numbers.old }
 {
-    let mut i = 0;
-    while i < m {
-        let z = wide(scratch[n + i]);
+    for i in 0..m {
+        let z = usize::from(scratch[n + i]);
         scratch[n + i] = 0;
-        i += 1;
-        let number = a + i;
+        let number = a + i + 1;
         numbers[z - 1] = number as u16;
     }
 }
@@ -48,12 +45,11 @@ pub fn give_levels(scratch: &mut [u16], levels: &mut [u16], n: usize, from: usiz
     ensures scratch_value { scratch.new ≡ stored (tally_area n) nought scratch.old (members_of n from to scratch.old) }
     ensures levels_value { levels.new ≡ written (number_at (tally_area n) scratch.old) levels.old (members_of n from to scratch.old) }
 {
-    let mut i = from;
-    while i < to {
-        let z = wide(scratch[MEMBERS * n + i]);
-        levels[z - 1] = scratch[TALLY * n + z - 1];
-        scratch[TALLY * n + z - 1] = 0;
-        i += 1;
+    for i in from..to {
+        let z = usize::from(scratch[MEMBERS * n + i]);
+        let at = TALLY * n + z - 1;
+        levels[z - 1] = scratch[at];
+        scratch[at] = 0;
     }
 }
 

@@ -1,4 +1,5 @@
-// What the part report answers: a report, or the number of a refusal.
+// What the part report answers.
+
 // "a direction, which is Forward or Reversed"
 #[derive(Clone, Copy)]
 pub enum Direction {
@@ -15,10 +16,4 @@ pub struct PartReport {
     pub width: u16,
     pub passes: u16,
     pub direction: Direction,
-}
-
-#[derive(Clone, Copy)]
-pub enum ReportAnswer {
-    Refused(u16),
-    Report(PartReport),
 }

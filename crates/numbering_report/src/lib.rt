@@ -10,10 +10,11 @@ ghost use Rattle.std.specs.Prelude.{◌≡◌};
 ghost use Rattle.spec.specs.CallsNumbering.{report_answer, report_scratch};
 ghost use Rattle.numbering_report.specs.Answers.{answer_meaning};
 
-use answer::ReportAnswer;
-use graph::Adjacency;
+use answer::PartReport;
+use graph::test_adjacency;
 use graph_words::legal::unknowns;
 use levels::legal::{WORDS_PER_NODE, no_node};
+use refusals::Refusal;
 
 // The report of the part of `node`.
 pub fn part_report(
@@ -22,24 +23,18 @@ pub fn part_report(
     counts: &[u16],
     node: u16,
     scratch: &mut [u16],
-) -> ReportAnswer
+) -> Result<PartReport, Refusal>
     ensures result_value { answer_meaning result ≡ report_answer starts.now neighbours.now counts.now node scratch.old }
     ensures scratch_value { scratch.new ≡ report_scratch starts.now neighbours.now counts.now node scratch.old }
 {
-    match graph::test_adjacency(starts, neighbours) {
-        Adjacency::Refused(c) => ReportAnswer::Refused(c),
-        Adjacency::Legal => {
-            let n = starts.len() - 1;
-            if scratch.len() < WORDS_PER_NODE * n {
-                return ReportAnswer::Refused(5);
-            }
-            if unknowns(counts, n) == 0 {
-                return ReportAnswer::Refused(15);
-            }
-            if no_node(n, node) {
-                return ReportAnswer::Refused(6);
-            }
-            ReportAnswer::Report(part::find_report(starts, neighbours, counts, node, scratch))
-        }
+    test_adjacency(starts, neighbours)?;
+    let n = starts.len() - 1;
+    if scratch.len() < WORDS_PER_NODE * n {
+        return Err(Refusal::ShortBuffer);
     }
+    unknowns(counts, n)?;
+    if no_node(n, node) {
+        return Err(Refusal::NoSuchNode);
+    }
+    Ok(part::find_report(starts, neighbours, counts, node, scratch))
 }

@@ -4,4 +4,3 @@ pub mod Spans
 pub mod Shares
 pub mod Ready
 pub mod Laid
-pub mod Reversing

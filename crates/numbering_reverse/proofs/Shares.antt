@@ -23,7 +23,8 @@ use Rattle.laws.proofs.UnknownOrder.{ahead_step}
 use Rattle.laws.proofs.UnknownTurn.{span_ahead, span_turned}
 use Rattle.graph_envelope.specs.Numbers.{Words}
 use Rattle.graph_envelope.proofs.Envelope.{row_words}
-use Rattle.numbering_reverse.specs.Places.{Part, Placed, Few}
+use Rattle.numbering_reverse.specs.Places.{segment, Part, Placed, Few}
+use Rattle.numbering_reverse.proofs.Placing.{segment-length, segment-at}
 use Rattle.numbering_reverse.proofs.Rises.{least_down, least_rises, most_rises, ahead_rises}
 use Rattle.numbering_reverse.proofs.Spans.{part-ahead, part_node, part_reversed}
 
@@ -35,6 +36,17 @@ pub record Standing (S N K o : List ℕ) (n : ℕ) (W : List ℕ) (a z : ℕ) : 
   pub placed : Placed K o W
   pub inside : a < length o
   pub its : z ≡ get_or o a 0
+
+pub standing_at : {S N K W : List ℕ} {n m a z : ℕ} → (n ≡ size_of S) × (n + m ≤ length W) × (a < m) → Part S N (segment n m W)
+    → bad_counts (size_of S) K ≡ false → Placed K (segment n m W) W → z ≡ get_or W (n + a) 0 → Standing S N K (segment n m W) n W a z
+standing_at {S} {N} {K} {W} {n} {m} {a} {z} within P counted placed at = record {
+  part = P;
+  counted = counted;
+  size = within.0;
+  placed = placed;
+  inside = omega (arith, segment-length n m W within.1);
+  its = at ∙ segment-at n m W within.1 W a refl within.2;
+}
 
 -- its c unknowns have `own` ahead; its row reaches from f unknowns ahead up to and with t
 pub record Reach (g : Graph) (K o : List ℕ) (a c own f t : ℕ) : Type 0 where

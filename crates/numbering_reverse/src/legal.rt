@@ -14,7 +14,6 @@ ghost use Rattle.numbering_reverse.specs.Places.{segment, Listed, Part, Clean, P
 use graph_envelope::legal::number;
 use graph_envelope::legal::unknowns::share;
 use graph_words::legal::erase;
-use graph_words::{larger, smaller, wide};
 
 // From the first unknown of a node and its row up to the last, by the unknowns ahead: of the first, and up to and with the last.
 #[derive(Clone, Copy)]
@@ -38,13 +37,11 @@ fn put_aheads(counts: &[u16], work: &mut [u16], n: usize, m: usize)
     ensures { Put counts.now n m work.old work.new m }
 {
     let mut sum: usize = 0;
-    let mut i = 0;
-    while i < m {
-        let z = wide(work[n + i]);
+    for i in 0..m {
+        let z = usize::from(work[n + i]);
         work[z - 1] = sum as u16;
         let c = number(counts, z);
         sum += c;
-        i += 1;
     }
 }
 
@@ -58,19 +55,14 @@ fn ends(row: &[u16], ahead: &[u16], counts: &[u16], own: usize, upto: usize) -> 
 {
     let mut first = own;
     let mut last = upto;
-    let mut j = 0;
-    while j < row.len() {
-        let q = wide(row[j]);
+    for &y in row {
+        let q = usize::from(y);
         let a = number(ahead, q);
         let c = number(counts, q);
-        first = smaller(first, a);
-        last = larger(last, a + c);
-        j += 1;
+        first = first.min(a);
+        last = last.max(a + c);
     }
-    Range {
-        first: first,
-        last: last,
-    }
+    Range { first, last }
 }
 
 // The shares of the node at place a + 1, which is place m − a of the order reversed: what lies above the diagonal lies below it then.
@@ -91,9 +83,9 @@ fn span(
     ensures backward_value { result.backward ≡ node_span (in_order (graph_was starts neighbours) (reverse (segment n m work.now))) (counts_in counts.now (reverse (segment n m work.now))) (m - a) }
     ensures forward_bound { (result.forward ≤ 147471) × (result.backward ≤ 147471) }
 {
-    let z = wide(work[n + a]);
+    let z = usize::from(work[n + a]);
     let c = number(counts, z);
-    let own = wide(work[z - 1]);
+    let own = usize::from(work[z - 1]);
     let row = graph::legal::row(starts, neighbours, z);
     let e = ends(row, &work[..n], counts, own, own + c);
     let below = own - e.first;
@@ -122,17 +114,12 @@ fn spans(
 {
     let mut forward: u32 = 0;
     let mut backward: u32 = 0;
-    let mut a = 0;
-    while a < m {
+    for a in 0..m {
         let s = span(starts, neighbours, counts, work, n, m, a);
         forward += s.forward;
         backward += s.backward;
-        a += 1;
     }
-    Both {
-        forward: forward,
-        backward: backward,
-    }
+    Both { forward, backward }
 }
 
 // The profiles in unknowns of a part in its order and in that reversed. The first n words end as 0.
@@ -158,21 +145,6 @@ fn profiles(
     sums
 }
 
-// The words in the reverse order.
-pub fn reverse(words: &mut [u16])
-    ensures { words.new ≡ reverse words.old }
-{
-    let mut i = 0;
-    let mut e = words.len();
-    while i + 1 < e {
-        e -= 1;
-        let x = words[i];
-        words[i] = words[e];
-        words[e] = x;
-        i += 1;
-    }
-}
-
 // "A part's numbers are turned end for end exactly if that makes its profile less", in unknowns: whether they are, and the order as it is then.
 pub fn turn(
     starts: &[u16],
@@ -191,7 +163,7 @@ pub fn turn(
 {
     let both = profiles(starts, neighbours, counts, work, n, m);
     if both.backward < both.forward {
-        reverse(&mut work[n..n + m]);
+        work[n..n + m].reverse();
         return true;
     }
     false

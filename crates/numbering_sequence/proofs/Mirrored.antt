@@ -72,13 +72,10 @@ module _ {n at from m k : ℕ} {W₀ W : List ℕ} {j : ℕ} (I : Mirroring n at
   abbrev old : ℕ
   old = get_or W₀ (word_of at Q j) 0
 
-  pub mirror_size : length W ≡ length W₀
+  mirror_size : length W ≡ length W₀
   mirror_size = ap length I.on ∙ length-puts (word_of at Q) (turned_level at from m k W₀) W₀ j
 
   module _ (h : j < m) where
-    pub mirror_index : from + j < length W
-    mirror_index = omega (arith, mirror_size, I.given.areas.from_held)
-
     module _ {a : ℕ} (e : a ≡ get_or W (from + j) 0) where
       a_is : a ≡ get_or Q j 0
       a_is =
@@ -89,10 +86,10 @@ module _ {n at from m k : ℕ} {W₀ W : List ℕ} {j : ℕ} (I : Mirroring n at
       its_place : at + (a - 1) ≡ word_of at Q j
       its_place = omega (arith, a_is, range I.given j h)
 
-      pub mirror_range : (1 ≤ a) × (at + (a - 1) < length W₀)
+      pub mirror_range : (1 ≤ a) × (at + (a - 1) < length W)
       mirror_range =
           let x = range I.given j h in
-          (omega (arith, a_is, x.0), omega (arith, a_is, x.0, x.1, I.given.areas.at_held))
+          (omega (arith, a_is, x.0), omega (arith, a_is, x.0, x.1, I.given.areas.at_held, mirror_size))
 
       -- its level is still as it was
       old-level : get_or W (at + (a - 1)) 0 ≡ old

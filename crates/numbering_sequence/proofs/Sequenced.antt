@@ -25,10 +25,6 @@ use Rattle.numbering_sequence.proofs.Members.{lowest_node, part_size, lowest_sam
 use Rattle.numbering_sequence.proofs.Stored.{stored_same, stored_slice, stored_swap}
 use Rattle.numbering_sequence.proofs.Arranged.{result_size}
 
--- the degrees that were compared
-pub degrees_compared : (g : Graph) {u v p q a b : ℕ} → p ≡ u → q ≡ v → a ≡ degree g p → b ≡ degree g q → ltb a b ≡ ltb (degree g u) (degree g v)
-degrees_compared g e f i j = ap₂ ltb (i ∙ ap (degree g) e) (j ∙ ap (degree g) f)
-
 -- v and u as now named are x and y, and the levels are counted from x, in W₁
 pub record Renamed (g : Graph) (at from : ℕ) (W : List ℕ) (x y : ℕ) (W₁ : List ℕ) : Type 0 where
   pub start : x ≡ start_node g (ends g (get_or W from 0))

@@ -13,7 +13,6 @@ ghost use Rattle.numbering_sequence.specs.Answer.{forward_by, sequence_of, ends_
 
 use crate::shape::Sequence;
 use graph::legal::degree;
-use graph_words::wide;
 
 // "If u has lower degree than v, v and u change names": whether they do.
 fn renames(starts: &[u16], v: u16, u: u16) -> bool
@@ -21,8 +20,8 @@ fn renames(starts: &[u16], v: u16, u: u16) -> bool
     requires le_v { (1 ≤ v) × (v ≤ size_now starts) × (1 ≤ u) × (u ≤ size_now starts) }
     ensures { (neighbours : List ℕ) → Starts starts.now neighbours → result ≡ ltb (degree (graph_of starts.now neighbours) u) (degree (graph_of starts.now neighbours) v) }
 {
-    let a = degree(starts, wide(u));
-    let b = degree(starts, wide(v));
+    let a = degree(starts, usize::from(u));
+    let b = degree(starts, usize::from(v));
     a < b
 }
 
@@ -31,12 +30,10 @@ fn mirror(work: &mut [u16], n: usize, at: usize, from: usize, m: usize, k: u16)
     requires { Mirrorable n at from m k work.old }
     ensures { work.new ≡ sets work.old at (map (mirrored k) (slice at (at + n) work.old)) }
 {
-    let mut j = 0;
-    while j < m {
-        let p = at + (wide(work[from + j]) - 1);
+    for j in 0..m {
+        let p = at + (usize::from(work[from + j]) - 1);
         let level = work[p];
         work[p] = k + 1 - level;
-        j += 1;
     }
 }
 

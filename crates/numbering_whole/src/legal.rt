@@ -51,7 +51,7 @@ fn number_parts(
         levels: 0,
         width: 0,
     };
-    while t.parts < count {
+    for _ in 0..count {
         t = next_part(
             order, starts, neighbours, counts, numbers, levels, passes, scratch, t,
         );

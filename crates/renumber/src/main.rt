@@ -26,6 +26,7 @@ fn read_full<R: Read>(input: &mut R, bytes: &mut [u8]) -> io::Result<usize>
     ensures value { IfOk result (λ n. IfSome (R.remaining input.old) (λ file. take n bytes.new ≡ take (length bytes.new) file)) }
 {
     let mut size = 0;
+    // A while: a step takes as many bytes as one read gives.
     while size < bytes.len() {
         let n = read_behind(input, bytes, size)?;
         if n == 0 {
@@ -42,6 +43,7 @@ fn write_full<W: Write>(output: &mut W, bytes: &[u8]) -> io::Result<()>
     ensures front { (n : ℕ) × Appends (W.contents output.old) (W.contents output.new) (take n bytes.now) }
 {
     let mut size = 0;
+    // A while: a step takes as many bytes as one write takes.
     while size < bytes.len() {
         let n = output.write(&bytes[size..])?;
         if n == 0 {

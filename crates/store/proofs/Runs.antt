@@ -11,7 +11,7 @@ use borrow.Author.Tests.{ltb-false}
 use Rattle.basis.proofs.Logic.{or_none}
 use Rattle.spec.specs.CallsCuthill.{cuthill_refusal, cuthill_answer, cuthill_numbers, cuthill_scratch}
 use Rattle.spec.specs.CallsNumbering.{run_refusal, run_answer, run_numbers, run_scratch}
-use Rattle.spec.specs.CallsStore.{RunElimination, EliminationFigures, elimination_answer, elimination_scratch, elimination_bytes, handed_on, then_eliminate_answer, then_eliminate_bytes}
+use Rattle.spec.specs.CallsStore.{RunElimination, elimination_answer, elimination_scratch, elimination_bytes, handed_on, then_eliminate_answer, then_eliminate_bytes}
 use Rattle.spec_claims.specs.Claim.{NumberedAs, ClaimedAs}
 use Rattle.spec_claims.specs.ClaimCuthill.{CuthillNumbered}
 use Rattle.spec.specs.Cuthill.{cuthill_result, cuthill_run}
@@ -23,8 +23,6 @@ use Rattle.spec.specs.Unknowns.{bad_counts}
 use Rattle.laws.proofs.Claim.{run_legal}
 use Rattle.laws.proofs.Lent.{outcome_accepted, scratch_accepted, zeroed_is, zeroed-all}
 use Rattle.laws.proofs.Refused.{or_else_zero, refuse_zero, passed, starts_of_lem}
-use Rattle.store_elimination.specs.Answer.{meaning}
-use Rattle.store_elimination.specs.declared.answer.Elimination.{Elimination}
 use Rattle.store.specs.Answer.{Room, then_scratch}
 use Rattle.store.proofs.TwoCalls.{two_calls}
 
@@ -35,11 +33,6 @@ refused_not c a e = let z : ◌≡◌ {A = ℕ} 0 1 = cc in absurd (omega arith)
 -- what is accepted is known
 accepted_is : {A : Type 0} (a b : A) → accepted b ≡ accepted a → a ≡ b
 accepted_is a b e = cc
-
--- the elimination's answer, beside the figures
-pub beside : (F : Figures) {r : Elimination} {m e : Outcome EliminationFigures} → meaning r ≡ e → {r' : Elimination} → r ≡ r' → m ≡ meaning r'
-    → ◌≡◌ {A = Outcome RunElimination} (accepted (record { figures = F; elimination = m })) (accepted (record { figures = F; elimination = e }))
-beside F a b d = ap (λ (o : Outcome EliminationFigures). accepted (record { figures = F; elimination = o })) (d ∙ ap meaning (sym b) ∙ a)
 
 -- ---- lists
 

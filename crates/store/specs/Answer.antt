@@ -1,21 +1,18 @@
 -- What the answers of this library mean in document 01's numbers and values. Assumes nothing.
-use Rattle.std.specs.Prelude.{List, ◌++◌, ℕ, ◌≤◌, length, drop}
+use Rattle.std.specs.Prelude.{List, ◌++◌, ℕ, ◌≤◌, length, drop, Result}
 use Rattle.spec.specs.CallsStore.{RunElimination, elimination_scratch, handed_on}
 use Rattle.spec.specs.Graph.{size_of}
 use Rattle.spec.specs.Lent.{Outcome, accepted, refused}
 use Rattle.spec.specs.Numbering.{Figures}
 use Rattle.numbering_whole.specs.Figures.{seven}
-use Rattle.store_unknowns.specs.Answer.{figures_of}
+use Rattle.refusals.specs.Numbers.{outcome_of}
+use Rattle.refusals.specs.declared.Refusal.{Refusal}
+use Rattle.store_elimination.specs.Answer.{meaning}
 use Rattle.store.specs.declared.answer.RunElimination.{RunElimination as RunEliminated}
-use Rattle.store.specs.declared.answer.RunElimination.TheVariants.{Refused as RunRefused, RunOnly, Both}
 
-abbrev pub run_meaning : RunEliminated → Outcome RunElimination
--- 1 to 5 and 15, as the numbering call is
-run_meaning (RunRefused c) = refused c
--- its figures stand beside the refusal of the elimination
-run_meaning (RunOnly f c) = accepted (record { figures = seven f; elimination = refused c })
--- its figures and the elimination's counts
-run_meaning (Both f c) = accepted (record { figures = seven f; elimination = accepted (figures_of c) })
+-- 1 to 5 and 15, as the numbering call is; or its figures, beside what the elimination answers
+abbrev pub run_meaning : Result RunEliminated Refusal → Outcome RunElimination
+run_meaning = outcome_of (λ e. record { figures = seven e.figures; elimination = meaning e.elimination })
 
 -- ---- what a numbering call hands on
 

@@ -1,11 +1,11 @@
 // What a numbering call with the elimination after it answers.
 use numbering_whole::shape::RunFigures;
+use refusals::Refusal;
 use store_elimination::Counts;
 
-// Refused as the numbering call is; or its figures, beside the refusal of the elimination or its counts.
+// The numbering's figures, beside the counts of the elimination or its refusal.
 #[derive(Clone, Copy)]
-pub enum RunElimination {
-    Refused(u16),
-    RunOnly { figures: RunFigures, refusal: u16 },
-    Both { figures: RunFigures, counts: Counts },
+pub struct RunElimination {
+    pub figures: RunFigures,
+    pub elimination: Result<Counts, Refusal>,
 }

@@ -4,80 +4,52 @@
 ghost use Rattle.std.specs.Prelude.{◌≡◌};
 ghost use Rattle.spec.specs.CallsCuthill.{cuthill_numbers, cuthill_levels, cuthill_passes, cuthill_scratch, cuthill_eliminate_answer, cuthill_eliminate_bytes};
 ghost use Rattle.spec.specs.CallsNumbering.{run_numbers, run_levels, run_passes, run_scratch};
-ghost use Rattle.spec.specs.CallsStore.{RunElimination as RunEliminated, elimination_answer, elimination_scratch, elimination_bytes, handed_on};
+ghost use Rattle.spec.specs.CallsStore.{RunElimination as RunEliminated, handed_on};
 ghost use Rattle.spec.specs.CallsStore.{then_eliminate_answer, then_eliminate_bytes, run_eliminate_answer, run_eliminate_bytes};
 ghost use Rattle.spec_claims.specs.Claim.{Claimed};
 ghost use Rattle.spec_claims.specs.ClaimCuthill.{CuthillClaimed};
 ghost use Rattle.spec.specs.Lent.{accepted};
 ghost use Rattle.spec.specs.Numbering.{Figures};
 ghost use Rattle.numbering.specs.Answer.{meaning as numbered};
-ghost use Rattle.numbering_whole.specs.Figures.{seven};
 ghost use Rattle.store.specs.Answer.{run_meaning, Room, then_scratch};
 
 mod answer;
 
 pub use answer::RunElimination;
-use numbering::answer::RunAnswer;
 use numbering_whole::shape::RunFigures;
-pub use store_elimination::{Counts, Elimination, eliminate};
-pub use store_map::{MapFigures, StoreMap, store_map};
-
-// The elimination by a numbering call's numbers, beside its figures.
-fn eliminate_after(
-    figures: RunFigures,
-    starts: &[u16],
-    neighbours: &[u16],
-    counts: &[u16],
-    numbers: &[u16],
-    scratch: &mut [u16],
-    bytes: &mut [u8],
-) -> RunElimination
-    ensures result_value { run_meaning result ≡ accepted (record { figures = seven figures; elimination = elimination_answer starts.now neighbours.now counts.now numbers.now scratch.old bytes.old }) }
-    ensures scratch_value { scratch.new ≡ elimination_scratch starts.now neighbours.now counts.now numbers.now scratch.old bytes.old }
-    ensures bytes_value { bytes.new ≡ elimination_bytes starts.now neighbours.now counts.now numbers.now scratch.old bytes.old }
-{
-    match eliminate(starts, neighbours, counts, numbers, scratch, bytes) {
-        Elimination::Refused(c) => RunElimination::RunOnly {
-            figures,
-            refusal: c,
-        },
-        Elimination::Accepted(found) => RunElimination::Both {
-            figures,
-            counts: found,
-        },
-    }
-}
+use refusals::Refusal;
+pub use store_elimination::{Counts, eliminate};
+pub use store_map::{MapFigures, store_map};
 
 // By what a numbering call has answered: refused as it is, or the elimination by the n numbers that it left, in the first n scratch words.
 fn then_eliminate(
-    answer: RunAnswer,
+    answer: Result<RunFigures, Refusal>,
     starts: &[u16],
     neighbours: &[u16],
     counts: &[u16],
     numbers: &[u16],
     scratch: &mut [u16],
     bytes: &mut [u8],
-) -> RunElimination
+) -> Result<RunElimination, Refusal>
     requires { (F : Figures) → numbered answer ≡ accepted F → Room starts.now numbers.now scratch.old }
     ensures result_value { run_meaning result ≡ then_eliminate_answer starts.now neighbours.now counts.now numbers.now scratch.old bytes.old (numbered answer) }
     ensures scratch_value { scratch.new ≡ then_scratch starts.now neighbours.now counts.now numbers.now scratch.old bytes.old (numbered answer) }
     ensures bytes_value { bytes.new ≡ then_eliminate_bytes starts.now neighbours.now counts.now numbers.now scratch.old bytes.old (numbered answer) }
 {
-    match answer {
-        RunAnswer::Refused(c) => RunElimination::Refused(c),
-        RunAnswer::Numbered(figures) => {
-            let n = starts.len() - 1;
-            eliminate_after(
-                figures,
-                starts,
-                neighbours,
-                counts,
-                &numbers[..n],
-                &mut scratch[..n],
-                bytes,
-            )
-        }
-    }
+    let figures = answer?;
+    let n = starts.len() - 1;
+    let elimination = eliminate(
+        starts,
+        neighbours,
+        counts,
+        &numbers[..n],
+        &mut scratch[..n],
+        bytes,
+    );
+    Ok(RunElimination {
+        figures,
+        elimination,
+    })
 }
 
 // The entry point: the whole run, then the elimination of the same adjacency and counts by the run's numbers, in the first n scratch words.
@@ -90,7 +62,7 @@ pub fn run_eliminate(
     passes: &mut [u16],
     scratch: &mut [u16],
     bytes: &mut [u8],
-) -> RunElimination
+) -> Result<RunElimination, Refusal>
     ensures result_value { run_meaning result ≡ run_eliminate_answer starts.now neighbours.now counts.now numbers.old levels.old passes.old scratch.old bytes.old }
     ensures numbers_value { numbers.new ≡ run_numbers starts.now neighbours.now counts.now numbers.old levels.old passes.old scratch.old }
     ensures levels_value { levels.new ≡ run_levels starts.now neighbours.now counts.now numbers.old levels.old passes.old scratch.old }
@@ -115,7 +87,7 @@ pub fn cuthill_eliminate(
     passes: &mut [u16],
     scratch: &mut [u16],
     bytes: &mut [u8],
-) -> RunElimination
+) -> Result<RunElimination, Refusal>
     ensures result_value { run_meaning result ≡ cuthill_eliminate_answer starts.now neighbours.now counts.now numbers.old levels.old passes.old scratch.old bytes.old }
     ensures numbers_value { numbers.new ≡ cuthill_numbers starts.now neighbours.now counts.now numbers.old levels.old passes.old scratch.old }
     ensures levels_value { levels.new ≡ cuthill_levels starts.now neighbours.now counts.now numbers.old levels.old passes.old scratch.old }

@@ -5,6 +5,7 @@ use mathlib.Core.Bool.{true}
 use mathlib.Core.List.{List, [], ◌∷◌, map}
 use Prim.Native.Nat.{ℕ, zero, suc, ◌+◌, ◌-◌, ◌*◌, ◌/◌, ◌≤◌, ◌<◌}
 use native.Mathlib.Nat.{pos_of_ne-zero}
+use native.Mathlib.Numerals.{add-one}
 use native.Mathlib.Omega.{arith}
 use lib.Dec.{eqb}
 use lib.ListN.{length, get_or, set, drop, length-set}
@@ -125,10 +126,6 @@ bytes_few {h} w = omega (arith, w.room, profile_small h w.few)
 
 -- p is due
 module _ {h : Graph} {o words bytes due : List ℕ} {row : Row} {p : ℕ} (R : IsRow h row) (w : Walk h o words bytes row.q row.q (p ∷ due)) where
-  -- q is a number of 16 bits
-  pub number_fits : row.q ≤ 4096
-  number_fits = omega (arith, R.high, w.few)
-
   -- where p is not lower it need not be due
   pub climbed : row.q ≤ p → Walk h o words bytes row.q row.q due
   climbed g = walk_due w (met_drop w.legal p w.met (λ l. absurd (omega arith)))
@@ -206,8 +203,8 @@ module _ {h : Graph} {o words bytes due : List ℕ} {row : Row} {p : ℕ} (R : I
 
 -- the neighbours from the i-th on are due: one more is done, or none is left
 module _ (x l : List ℕ) (i : ℕ) where
-  pub due_next : i < length l → map (of_node x) (drop i l) ≡ of_node x (get_or l i 0) ∷ map (of_node x) (drop (suc i) l)
-  due_next h = ap (map (of_node x)) (drop-cons l i 0 h)
+  pub due_next : i < length l → map (of_node x) (drop i l) ≡ of_node x (get_or l i 0) ∷ map (of_node x) (drop (i + 1) l)
+  due_next h = rw add-one (ap (map (of_node x)) (drop-cons l i 0 h))
 
   pub due_none : i ≡ length l → map (of_node x) (drop i l) ≡ []
   due_none e = rw (e, drop-length l)

@@ -9,7 +9,6 @@ ghost use Rattle.store_marks.specs.Marks.{marked, with_mark, ones, Countable};
 ghost use Rattle.store_eliminate.specs.Walk.{place_in, Room, IsRow, Walk, Risen, Climbed, Joined, Reach, Given, new_graph, row_at, Done};
 
 use graph_envelope::legal::{first, number};
-use graph_words::wide;
 
 // The row of number q in the store: f_q is `first`, s_q is `start`.
 #[derive(Clone, Copy)]
@@ -51,7 +50,7 @@ fn rise(scratch: &mut [u16], bytes: &mut [u8], row: Row, p: usize) -> usize
 {
     join(bytes, row, p);
     let at = p - 1;
-    let parent = wide(scratch[at]);
+    let parent = usize::from(scratch[at]);
     if parent == 0 {
         scratch[at] = row.q as u16;
         return row.q;
@@ -65,6 +64,7 @@ fn climb(scratch: &mut [u16], bytes: &mut [u8], row: Row, from: usize)
     ensures { Climbed row from scratch.old bytes.old scratch.new bytes.new }
 {
     let mut p = from;
+    // A while: it climbs from parent to parent.
     while p < row.q {
         if joined(bytes, row, p) {
             return;
@@ -79,11 +79,8 @@ fn join_edges(adjacent: &[u16], numbering: &[u16], scratch: &mut [u16], bytes: &
         × ((h : Graph) × (o : List ℕ) × IsRow h row × Walk h o scratch.old bytes.old row.q row.q (map (of_node numbering.now) adjacent.now)) }
     ensures { Joined row (map (of_node numbering.now) adjacent.now) scratch.old bytes.old scratch.new bytes.new }
 {
-    let mut i = 0;
-    while i < adjacent.len() {
-        let b = wide(adjacent[i]);
-        climb(scratch, bytes, row, number(numbering, b));
-        i += 1;
+    for &b in adjacent {
+        climb(scratch, bytes, row, number(numbering, usize::from(b)));
     }
 }
 
@@ -95,7 +92,7 @@ fn row_of(starts: &[u16], neighbours: &[u16], numbering: &[u16], node: usize, st
     Row {
         q: number(numbering, node),
         first: first(starts, neighbours, numbering, node),
-        start: start,
+        start,
     }
 }
 
@@ -116,7 +113,7 @@ fn eliminate_row(
     ensures value { result ≡ start_of (new_graph starts.now neighbours.now numbering.now) (suc (suc done)) }
     ensures done { Done starts.now neighbours.now numbering.now scratch.new bytes.new (suc done) }
 {
-    let node = wide(scratch[done]);
+    let node = usize::from(scratch[done]);
     let row = row_of(starts, neighbours, numbering, node, start);
     let adjacent = graph::legal::row(starts, neighbours, node);
     join_edges(adjacent, numbering, scratch, bytes, row);
@@ -138,10 +135,8 @@ fn pass(
 {
     let n = numbering.len();
     let mut start: u32 = 0;
-    let mut done = 0;
-    while done < n {
+    for done in 0..n {
         start = eliminate_row(starts, neighbours, numbering, scratch, bytes, done, start);
-        done += 1;
     }
 }
 
@@ -178,8 +173,8 @@ pub fn mark(
     ensures bytes_value { bytes.new ≡ mark_bytes (new_graph starts.now neighbours.now numbering.now) }
     ensures scratch_value { scratch.new ≡ replicate (size_was starts) 0 }
 {
-    store_marks::legal::clear(bytes, bytes.len());
+    bytes.fill(0);
     let count = pass_and_count(starts, neighbours, numbering, scratch, bytes);
-    graph_words::legal::clear(scratch, scratch.len());
+    scratch.fill(0);
     count
 }

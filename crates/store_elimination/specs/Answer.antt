@@ -1,20 +1,19 @@
 -- What an answer of the elimination means in document 01's numbers and values, and what is answered and left where only the mark bytes are still
 -- to be tested. Assumes nothing.
-use Rattle.std.specs.Prelude.{List, ℕ}
+use Rattle.std.specs.Prelude.{List, ℕ, Result}
 use Rattle.spec.specs.CallsStore.{EliminationFigures, elimination_figures}
 use Rattle.spec.specs.Graph.{Graph}
-use Rattle.spec.specs.Lent.{Outcome, accepted, refused, outcome, filled, short}
+use Rattle.spec.specs.Lent.{Outcome, outcome, filled, short}
 use Rattle.spec.specs.Refusal.{refuse}
 use Rattle.spec.specs.Store.{mark_byte_count, mark_bytes}
+use Rattle.refusals.specs.Numbers.{outcome_of}
+use Rattle.refusals.specs.declared.Refusal.{Refusal}
 use Rattle.store_unknowns.specs.Answer.{figures_of}
-use Rattle.store_elimination.specs.declared.answer.Elimination.{Elimination}
-use Rattle.store_elimination.specs.declared.answer.Elimination.TheVariants.{Accepted, Refused}
+use Rattle.store_unknowns.specs.declared.answer.Counts.{Counts}
 
-abbrev pub meaning : Elimination → Outcome EliminationFigures
--- the marks that are 1, and the newly joined pairs
-meaning (Accepted c) = accepted (figures_of c)
--- 1 to 4, 5, 15, 7 or 8, by its number
-meaning (Refused c) = refused c
+-- 1 to 4, 5, 15, 7 or 8, by its number, or the marks that are 1 and the newly joined pairs
+abbrev pub meaning : Result Counts Refusal → Outcome EliminationFigures
+meaning = outcome_of figures_of
 
 -- ---- the elimination of the graph h, by its new numbers, where mark bytes are lent
 

@@ -11,8 +11,8 @@ ghost use Rattle.store_spread.specs.Rows.{Given};
 ghost use Rattle.store_unknowns.specs.Answer.{figures_of};
 ghost use Rattle.store_elimination.specs.Answer.{meaning, eliminated, bytes_after};
 
-use crate::answer::Elimination;
 use crate::ones;
+use refusals::Refusal;
 use store_unknowns::answer::Counts;
 
 // "profile / 8 rounded up". The order of the numbering is in scratch, before and after.
@@ -67,7 +67,7 @@ pub fn eliminate(
     scratch: &mut [u16],
     bytes: &mut [u8],
     total: usize,
-) -> Elimination
+) -> Result<Counts, Refusal>
     requires given { Given starts.now neighbours.now numbering.now counts.now scratch.old }
     requires total_value { total ≡ sum counts.now }
     ensures result_value { meaning result ≡ eliminated (renumbered_unknowns (graph_was starts neighbours) counts.now numbering.now) bytes.old }
@@ -78,9 +78,9 @@ pub fn eliminate(
     let m = byte_count(starts, neighbours, counts, numbering, scratch, total);
     if bytes.len() < m {
         graph_words::legal::clear(scratch, n);
-        return Elimination::Refused(8);
+        return Err(Refusal::ShortMarks);
     }
-    Elimination::Accepted(mark(
+    Ok(mark(
         starts,
         neighbours,
         counts,

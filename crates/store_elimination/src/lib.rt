@@ -5,12 +5,10 @@ ghost use Rattle.std.specs.Prelude.{◌≡◌};
 ghost use Rattle.spec.specs.CallsStore.{elimination_answer, elimination_scratch, elimination_bytes};
 ghost use Rattle.store_elimination.specs.Answer.{meaning};
 
-mod answer;
 mod legal;
 mod ones;
 
-pub use answer::Elimination;
-use graph::Adjacency;
+use refusals::Refusal;
 pub use store_unknowns::answer::Counts;
 
 // The entry point: counts and a numbering by old number, a scratch word for each node, and the mark bytes.
@@ -21,34 +19,27 @@ pub fn eliminate(
     numbering: &[u16],
     scratch: &mut [u16],
     bytes: &mut [u8],
-) -> Elimination
+) -> Result<Counts, Refusal>
     ensures result_value { meaning result ≡ elimination_answer starts.now neighbours.now counts.now numbering.now scratch.old bytes.old }
     ensures scratch_value { scratch.new ≡ elimination_scratch starts.now neighbours.now counts.now numbering.now scratch.old bytes.old }
     ensures bytes_value { bytes.new ≡ elimination_bytes starts.now neighbours.now counts.now numbering.now scratch.old bytes.old }
 {
-    let tested = graph::test_adjacency(starts, neighbours);
-    if let Adjacency::Refused(c) = tested {
-        return Elimination::Refused(c);
-    }
+    graph::test_adjacency(starts, neighbours)?;
     let n = starts.len() - 1;
     if scratch.len() < n {
-        return Elimination::Refused(5);
+        return Err(Refusal::ShortBuffer);
     }
-    let total = graph_words::legal::unknowns(counts, n);
-    if total == 0 {
-        return Elimination::Refused(15);
+    let total = graph_words::legal::unknowns(counts, n)?;
+    if !graph_envelope::legal::numbered(numbering, n, scratch) {
+        return Err(Refusal::NoNumbering);
     }
-    if graph_envelope::legal::numbered(numbering, n, scratch) {
-        legal::eliminate(
-            starts,
-            neighbours,
-            counts,
-            numbering,
-            &mut scratch[..n],
-            bytes,
-            total,
-        )
-    } else {
-        Elimination::Refused(7)
-    }
+    legal::eliminate(
+        starts,
+        neighbours,
+        counts,
+        numbering,
+        &mut scratch[..n],
+        bytes,
+        total,
+    )
 }

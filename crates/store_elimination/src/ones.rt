@@ -36,7 +36,7 @@ pub(crate) fn mark(
     let marked = store_eliminate::legal::mark(starts, neighbours, numbering, scratch, bytes);
     let edges = (neighbours.len() / 2) as u32;
     Counts {
-        marked: marked,
+        marked,
         new: marked - edges,
     }
 }

@@ -2,11 +2,11 @@
 use mathlib.Core.Path.{◌≡◌, refl, sym, ap, ◌∙◌}
 use mathlib.Core.Bool.{Bool, true, false, not, ◌||◌}
 use mathlib.Core.List.{List, ◌++◌}
-use Prim.Native.Nat.{ℕ, suc, ◌+◌, ◌*◌, ◌≤◌, ◌<◌}
+use Prim.Native.Nat.{ℕ, suc, ◌+◌, ◌*◌, ◌≤◌}
 use native.Mathlib.Omega.{arith}
-use lib.Dec.{eqb, ltb}
+use lib.Dec.{eqb}
 use lib.ListN.{length, drop}
-use borrow.Author.Tests.{lt-ltb, le-ltb, ltb-false}
+use borrow.Author.Tests.{ltb-false}
 use Rattle.basis.specs.Lists.{sum}
 use Rattle.basis.proofs.Logic.{or_none}
 use Rattle.spec.specs.CallsMap.{MapFigures, map_figures, store_map_refusal, store_map_answer, store_map_scratch, store_map_first, store_map_place}
@@ -118,17 +118,3 @@ module _ (S N K x C F P : List ℕ) where
               first = buffer_new A u F ef (columns_length h ∙ many);
               place = buffer_new A (u + 1) P ep (starts_length h ∙ ap (λ (k : ℕ). k + 1) many);
             }
-
--- ---- the test for 5, by lengths
-
-module _ (n c f p : ℕ) where
-  pub first_short : c < n → true ≡ ltb c n || ltb f (6 * n) || ltb p (suc (6 * n))
-  first_short l = rw (lt-ltb c n l)
-
-  pub second_short : n ≤ c → f < 6 * n → true ≡ ltb c n || ltb f (6 * n) || ltb p (suc (6 * n))
-  second_short a l = rw (le-ltb c n a, lt-ltb f (6 * n) l)
-
-  pub third_short : n ≤ c → 6 * n ≤ f → ltb p (6 * n + 1) ≡ ltb c n || ltb f (6 * n) || ltb p (suc (6 * n))
-  third_short a b =
-      let e : 6 * n + 1 ≡ suc (6 * n) = omega arith in
-      rw (le-ltb c n a, le-ltb f (6 * n) b) (ap (ltb p) e)

@@ -1,12 +1,8 @@
-// What the store map answers: the places of the store and its rows, or the number of a refusal.
+// What the store map answers.
+
+// The places of the store, and its rows.
 #[derive(Clone, Copy)]
 pub struct MapFigures {
     pub profile: u32,
     pub unknowns: u32,
-}
-
-#[derive(Clone, Copy)]
-pub enum StoreMap {
-    Accepted(MapFigures),
-    Refused(u16),
 }

@@ -7,8 +7,8 @@ ghost use Rattle.store_map.specs.Answer.{meaning};
 
 mod answer;
 
-pub use answer::{MapFigures, StoreMap};
-use graph::Adjacency;
+pub use answer::MapFigures;
+use refusals::Refusal;
 
 // 5: whether one of the three lists is short, by their lengths: n, 6n and 6n + 1.
 fn any_short(n: usize, scratch: usize, first: usize, place: usize) -> bool
@@ -33,39 +33,32 @@ pub fn store_map(
     scratch: &mut [u16],
     first: &mut [u16],
     place: &mut [u32],
-) -> StoreMap
+) -> Result<MapFigures, Refusal>
     ensures result_value { meaning result ≡ store_map_answer starts.now neighbours.now counts.now numbering.now scratch.old first.old place.old }
     ensures scratch_value { scratch.new ≡ store_map_scratch starts.now neighbours.now counts.now numbering.now scratch.old first.old place.old }
     ensures first_value { first.new ≡ store_map_first starts.now neighbours.now counts.now numbering.now scratch.old first.old place.old }
     ensures place_value { place.new ≡ store_map_place starts.now neighbours.now counts.now numbering.now scratch.old first.old place.old }
 {
-    let tested = graph::test_adjacency(starts, neighbours);
-    if let Adjacency::Refused(c) = tested {
-        return StoreMap::Refused(c);
-    }
+    graph::test_adjacency(starts, neighbours)?;
     let n = starts.len() - 1;
     if any_short(n, scratch.len(), first.len(), place.len()) {
-        return StoreMap::Refused(5);
+        return Err(Refusal::ShortBuffer);
     }
-    let total = graph_words::legal::unknowns(counts, n);
-    if total == 0 {
-        return StoreMap::Refused(15);
+    let total = graph_words::legal::unknowns(counts, n)?;
+    if !graph_envelope::legal::numbered(numbering, n, scratch) {
+        return Err(Refusal::NoNumbering);
     }
-    if graph_envelope::legal::numbered(numbering, n, scratch) {
-        let profile = store_rows::legal::rows(
-            starts,
-            neighbours,
-            counts,
-            numbering,
-            &mut scratch[..n],
-            &mut first[..total],
-            &mut place[..total + 1],
-        );
-        StoreMap::Accepted(MapFigures {
-            profile: profile,
-            unknowns: total as u32,
-        })
-    } else {
-        StoreMap::Refused(7)
-    }
+    let profile = store_rows::legal::rows(
+        starts,
+        neighbours,
+        counts,
+        numbering,
+        &mut scratch[..n],
+        &mut first[..total],
+        &mut place[..total + 1],
+    );
+    Ok(MapFigures {
+        profile,
+        unknowns: total as u32,
+    })
 }

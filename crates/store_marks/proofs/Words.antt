@@ -6,7 +6,9 @@ use native.Mathlib.Nat.{mul_assoc, div-one, div-div-eq-div-mul, pow-suc, pow-suc
 use native.Mathlib.Omega.{arith}
 use lib.Count as Count
 use lib.Count.{ones_step, ones_cat}
-use lib.ListN.{length, get_or}
+use lib.ListN.{length, get_or, take, drop, length-drop}
+use lib.Seq.{get_or-drop}
+use Rattle.std.proofs.lemmas.List.{take_rest}
 use Rattle.basis.specs.Lists.{up_from, sum}
 use Rattle.basis.proofs.Count.{bit_most}
 use Rattle.basis.proofs.Lists.{up_from-append, map-append, sum-append, sum_bits, sum_shift}
@@ -40,7 +42,7 @@ module _ (bytes : List ℕ) where
   -- ---- the marked places of a run of bytes
 
   -- of two runs
-  in_append : (at j k : ℕ) → ones_in bytes at (j + k) ≡ ones_in bytes at j + ones_in bytes (at + j) k
+  pub in_append : (at j k : ℕ) → ones_in bytes at (j + k) ≡ ones_in bytes at j + ones_in bytes (at + j) k
   unfolding ones_in
   in_append at j k =
       let e : 8 * (j + k) ≡ 8 * j + 8 * k = omega arith in
@@ -51,15 +53,9 @@ module _ (bytes : List ℕ) where
       ∙ sum-append (map (mark_at bytes) (up_from (8 * at) (8 * j))) (map (mark_at bytes) (up_from (8 * at + 8 * j) (8 * k)))
       ∙ ap (λ (n : ℕ). sum (map (mark_at bytes) (up_from (8 * at) (8 * j))) + sum (map (mark_at bytes) (up_from n (8 * k)))) (sym f)
 
-  -- from the first byte on, or from another: k bytes more
+  -- from the first byte on: k bytes more
   pub in_first : (i k : ℕ) → ones_in bytes 0 i + ones_in bytes i k ≡ ones_in bytes 0 (i + k)
   in_first i k = let e : 0 + i ≡ i = omega arith in sym (rw e at (in_append 0 i k))
-
-  pub in_next : (from i k : ℕ) → from ≤ i → ones_in bytes from (i - from) + ones_in bytes i k ≡ ones_in bytes from (i + k - from)
-  in_next from i k h =
-      let e : from + (i - from) ≡ i = omega arith in
-      let f : i - from + k ≡ i + k - from = omega arith in
-      sym (rw (e, f) at (in_append from (i - from) k))
 
   -- no more than there are places
   pub in_most : {x : ℕ} (at k : ℕ) → x ≡ ones_in bytes at k → x ≤ 8 * k
@@ -90,6 +86,15 @@ module _ (bytes : List ℕ) where
   pub one_byte : (i : ℕ) → get_or bytes i 0 < 256 → Count.ones (get_or bytes i 0) ≡ ones_in bytes i 1
   unfolding ones_in
   one_byte i h = digit_sum 8 (get_or bytes i 0) h ∙ sum_shift (digit (get_or bytes i 0)) (mark_at bytes) 0 (8 * i) 8 (place_digit i)
+
+  -- byte j of those from `from` on
+  pub rest_byte : ((i : ℕ) → get_or bytes i 0 < 256) → (from j : ℕ) → Count.ones (get_or (take (length bytes - from) (drop from bytes)) j 0) ≡ ones_in bytes (from + j) 1
+  rest_byte small from j =
+      ap (λ (l : List ℕ). Count.ones (get_or l j 0)) (take_rest bytes from) ∙ ap Count.ones (get_or-drop from bytes j 0) ∙ one_byte (from + j) (small (from + j))
+
+  -- and of those there are
+  pub rest_length : (from : ℕ) → length (take (length bytes - from) (drop from bytes)) ≡ length bytes - from
+  rest_length from = ap length (take_rest bytes from) ∙ length-drop from bytes
 
   -- k bytes in one number
   pub gathered-ones : ((i : ℕ) → get_or bytes i 0 < 256) → (at k : ℕ) → Count.ones (gathered bytes at k) ≡ ones_in bytes at k

@@ -1,19 +1,6 @@
 // Functions that ask for room: their callers have tested the lengths.
 ghost use Rattle.std.specs.Prelude.{◌≡◌, ◌/◌, ◌≤◌, ◌<◌, length};
-ghost use Rattle.spec.specs.Lent.{zeroed};
 ghost use Rattle.store_marks.specs.Marks.{marked, with_mark};
-
-// Sets the first n bytes to 0.
-pub fn clear(bytes: &mut [u8], n: usize)
-    requires { n ≤ length bytes.old }
-    ensures { bytes.new ≡ zeroed n bytes.old }
-{
-    let mut i = 0;
-    while i < n {
-        bytes[i] = 0;
-        i += 1;
-    }
-}
 
 // Whether place t is marked.
 pub fn test(bytes: &[u8], t: u32) -> bool
@@ -30,7 +17,7 @@ pub fn set(bytes: &mut [u8], t: u32)
     ensures { bytes.new ≡ with_mark bytes.old t }
 {
     let at = (t / 8) as usize;
-    bytes[at] = bytes[at] | (1u8 << (t % 8));
+    bytes[at] |= 1u8 << (t % 8);
 }
 
 pub mod counting;

@@ -1,16 +1,14 @@
 -- The first columns, filled node after node by old number. Assumes nothing.
-use mathlib.Core.Path.{◌≡◌, refl, sym, ap, ◌∙◌, subst}
+use mathlib.Core.Path.{◌≡◌, sym, ap, ap₂, ◌∙◌, subst}
 use mathlib.Core.Logic.{◌⊎◌, inl, inr, ⊎_elim}
 use mathlib.Core.Bool.{true, false}
-use mathlib.Core.List.{List, ◌∷◌, map}
-use Prim.Native.Nat.{ℕ, zero, suc, ◌+◌, ◌-◌, ◌*◌, ◌≤◌, ◌<◌}
+use mathlib.Core.List.{List, ◌++◌, append_assoc}
+use Prim.Native.Nat.{ℕ, suc, ◌+◌, ◌-◌, ◌*◌, ◌≤◌, ◌<◌}
 use native.Mathlib.Omega.{arith}
-use lib.ListN.{length, get_or, replicate, length-replicate, get_or-replicate}
-use lib.Seq.{sets, ext_get_or, length-sets}
-use Rattle.basis.specs.Lists.{up_from, sum}
-use Rattle.basis.specs.Stored.{puts}
+use lib.ListN.{length, get_or, take, drop, length-drop, replicate, length-replicate, get_or-replicate}
+use lib.Seq.{sets, sets-eq, drop-drop, ext_get_or, length-sets, length-take-le}
+use Rattle.basis.specs.Lists.{sum}
 use Rattle.basis.proofs.Logic.{eq_or_ne, lt_or_le}
-use Rattle.basis.proofs.Puts.{puts-run}
 use Rattle.basis.proofs.Next.{sets_before, sets_behind, sets_at}
 use Rattle.spec.specs.Graph.{Graph, of_node}
 use Rattle.spec.specs.Measures.{is_numbering, order_of, renumbered, first_in}
@@ -19,6 +17,7 @@ use Rattle.spec.specs.Unknowns.{bad_counts, owners, renumbered_unknowns}
 use Rattle.laws.specs.Legal.{Node, LegalGraph}
 use Rattle.laws.specs.Unknowns.{unknowns_before, Owns, node_width}
 use Rattle.laws.proofs.ByTest.{renumbered_legal}
+use Rattle.laws.proofs.Legal.{of_node-at}
 use Rattle.laws.proofs.Places.{first_le}
 use Rattle.laws.proofs.Renumber.{number_node, node_of_number, number-of_node, order_node, renumbered_size}
 use Rattle.laws.proofs.StoreMap.{columns_length, column_at}
@@ -30,12 +29,15 @@ use Rattle.graph_envelope.proofs.InUnknowns.{new_counts, new_node, big_is, new-c
 
 -- ---- one value, some words from a place on
 
-same_values : (a k v : ℕ) → map (λ (i : ℕ). v) (up_from a k) ≡ replicate k v
-same_values a zero v = refl
-same_values a (suc k) v = ap (λ (l : List ℕ). v ∷ l) (same_values (suc a) k v)
-
-pub filled-run : (at k v : ℕ) (W : List ℕ) → puts (λ i. at + i) (λ i. v) W k ≡ sets W at (replicate k v)
-filled-run at k v W = puts-run (λ i. at + i) (λ (i : ℕ). v) W at k (λ i h. refl) ∙ ap (sets W at) (same_values 0 k v)
+-- a part in the middle that was filled is a run of stores
+pub filled-run : (at k v : ℕ) (W : List ℕ) {F : List ℕ} → at + k ≤ length W → F ≡ replicate (length (take k (drop at W))) v
+    → take at W ++ (F ++ drop k (drop at W)) ≡ sets W at (replicate k v)
+filled-run at k v W {F} h e =
+    let front : length (take k (drop at W)) ≡ k = length-take-le k (drop at W) (omega (arith, length-drop at W)) in
+    let rest : drop k (drop at W) ≡ drop (at + length (replicate k v)) W = drop-drop k at W ∙ ap (λ (m : ℕ). drop m W) (omega (arith, length-replicate {A = ℕ} k v)) in
+    ap₂ (λ (l r : List ℕ). take at W ++ (l ++ r)) (e ∙ ap (λ (m : ℕ). replicate m v) front) rest
+    ∙ sym (append_assoc (take at W) (replicate k v) (drop (at + length (replicate k v)) W))
+    ∙ sym (sets-eq (replicate k v) W at (omega (arith, length-replicate {A = ℕ} k v)))
 
 -- ---- the rows of the nodes passed
 
@@ -120,6 +122,15 @@ module _ {g : Graph} (G : LegalGraph g) (K : List ℕ) (fit : bad_counts g.size 
     -- the rows of the node begin there
     low_first : (y : ℕ) → Of a y → first_in big y ≡ suc (unknowns_before cs f)
     low_first y o = ap (λ (h : Graph). first_in h y) (big_is G x ok K fit) ∙ unknown_first (renumbered_legal G x) (new-counted G x ok K fit) (of_node x a) y o
+
+  -- the node after the first i, whose count stands at i
+  pub next_node : (i : ℕ) → i < length K → Node g (i + 1)
+  next_node i h = record { low = omega arith; high = omega (arith, counts_size g.size K fit) }
+
+  pub next_count : {c : ℕ} (i : ℕ) → c ≡ get_or K i 0 → c ≡ of_node K (i + 1)
+  next_count i e =
+      let z : i + 1 - 1 ≡ i = omega arith in
+      e ∙ sym (of_node-at K (i + 1) (omega arith) ∙ ap (λ (k : ℕ). get_or K k 0) z)
 
   pub filled_begin : (first : List ℕ) → length first ≡ sum K → Filled g K x 0 first
   filled_begin first e = record { size = e; done = λ a y lo hi. absurd (omega arith) }

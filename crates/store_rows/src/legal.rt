@@ -13,18 +13,13 @@ ghost use Rattle.store_rows.specs.Rows.{start_by, Columns};
 use graph_envelope::legal::number;
 use graph_envelope::legal::unknowns::{add_up, width};
 use graph_words::legal::clear;
-use graph_words::wide;
 
 // The words from `at` on, `count` of them, get the value.
 fn fill(words: &mut [u16], at: usize, count: usize, value: u16)
     requires { at + count ≤ length words.old }
     ensures { words.new ≡ sets words.old at (replicate count value) }
 {
-    let mut i = 0;
-    while i < count {
-        words[at + i] = value;
-        i += 1;
-    }
+    words[at..at + count].fill(value);
 }
 
 // f of each row, node after node; `ahead` has the unknowns ahead of each number.
@@ -43,14 +38,11 @@ fn columns(
     requires first_len { length first.old ≡ sum counts.now }
     ensures { first.new ≡ first_columns (renumbered_unknowns (graph_was starts neighbours) counts.now numbering.now) }
 {
-    let n = numbering.len();
-    let mut p = 0;
-    while p < n {
-        p += 1;
-        let c = number(counts, p);
+    for (i, &count) in counts.iter().enumerate() {
+        let p = i + 1;
         let at = number(ahead, number(numbering, p));
         let low = at - width(starts, neighbours, numbering, ahead, p) + 1;
-        fill(first, at, c, low as u16);
+        fill(first, at, usize::from(count), low as u16);
     }
 }
 
@@ -61,16 +53,12 @@ fn row_starts(first: &[u16], place: &mut [u32]) -> u32
     ensures value { result ≡ start_by first.now (length first.now) }
     ensures place_value { place.new ≡ map (start_by first.now) (up_from 0 (length first.now + 1)) }
 {
-    let n = first.len();
     let mut sum: u32 = 0;
-    let mut i = 0;
-    while i < n {
+    for (i, &column) in first.iter().enumerate() {
         place[i] = sum;
-        let f = wide(first[i]);
-        i += 1;
-        sum += (i - f) as u32;
+        sum += (i + 1 - usize::from(column)) as u32;
     }
-    place[n] = sum;
+    place[first.len()] = sum;
     sum
 }
 

@@ -69,9 +69,6 @@ module _ (l : List ℕ) (t : ℕ) (fits : t / 8 < length l) where
 
 -- ---- a run of marks
 
-pub filled_none : (l : List ℕ) (t : ℕ) → Filled l l t 0
-filled_none l t = record { size = refl; below = λ u h. refl; here = λ u a b. absurd (omega arith); above = λ u h. refl }
-
 -- one more
 pub filled_more : {l l' : List ℕ} {t c : ℕ} → Filled l l' t c → (t + c) / 8 < length l → Filled l (with_mark l' (t + c)) t (suc c)
 filled_more {l} {l'} {t} {c} F k =
@@ -135,9 +132,6 @@ module _ {l : List ℕ} {s t c : ℕ} (le : s ≤ t) (some : 1 ≤ c) (clear : C
           above u a d = ⊎_elim (λ (h : s < u). omega arith) (λ (h : u ≤ s). absurd (d (omega arith))) (lt_or_le s u)
 
 -- ---- marks copied
-
-pub copied_none : (l : List ℕ) (s t : ℕ) → Copied l l s t 0
-copied_none l s t = record { size = refl; below = λ u h. refl; here = λ i a. absurd (omega arith); above = λ u h. refl }
 
 zero_is : (i : ℕ) → i < 1 → i ≡ 0
 zero_is i h = omega arith
@@ -209,23 +203,6 @@ module _ (s w : ℕ) where
 
   pub row_first : (j : ℕ) → 1 ≤ j → s + w ≤ row_start s w j
   row_first j h = omega (arith, row_before 0 j h)
-
-  -- where the second row starts
-  pub row-second : s + w ≡ row_start s w 1
-  row-second = omega (arith, row_next 0)
-
--- row 0 alone
-pub repeated_one : (l : List ℕ) (s w : ℕ) → Repeated l l s w 1
-repeated_one l s w = record {
-  size = refl;
-  below = λ u h. refl;
-  blocks = λ i j a b. ap (λ (k : ℕ). mark_at l (row_start s w k + i)) (zero_is j b) ∙ ap (λ (k : ℕ). mark_at l (k + i)) (start s w);
-  own = λ i j a b. absurd (omega arith);
-  above = λ u h. refl;
-}
-  where
-    start : (s w : ℕ) → row_start s w 0 ≡ s
-    start s w = omega arith
 
 -- one row more
 pub repeated_more : {l l' a b : List ℕ} {s w j : ℕ} → 1 ≤ j → Repeated l l' s w j → Copied l' a s (row_start s w j) w → Filled a b (row_start s w j + w) j → Repeated l b s w (suc j)

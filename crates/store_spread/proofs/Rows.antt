@@ -49,9 +49,6 @@ module _ {K o : List ℕ} (L : Listed K o) (f : ℕ) (low : 1 ≤ f) where
   offset_most p a = le_ind (λ (x : ℕ). x ≤ suc (length o) → offset (counts_in K o) f x ≤ 6 * (x - f)) (λ h. omega arith)
       (λ x k t h. omega (arith, t (omega arith), offset_next x k (omega arith), L.most x (omega arith) (omega arith))) p a
 
-pub offset_none : (cs : List ℕ) (f : ℕ) → offset cs f f ≡ 0
-offset_none cs f = omega arith
-
 -- more nodes have more
 pub offset_mono : (cs : List ℕ) (f p q : ℕ) → 1 ≤ p → p ≤ q → q ≤ suc (length cs) → offset cs f p ≤ offset cs f q
 offset_mono cs f p q a l h = omega (arith, before_mono cs p q a l h)
@@ -95,6 +92,13 @@ module _ {cs : List ℕ} {f q w s t : ℕ} (R : Ahead cs f q w s t) where
             let y' : u < t + offset cs f (suc p) = rw e at y in
             M.here u x' (omega (arith, next)) ∙ E.below (s + (p - f)) (omega arith) ∙ ap (λ (k : ℕ). mark_at l (s + (k - f))) (sym e)
 
+-- what the numbers of a step need: node p - 1 has c unknowns, and they end `at` places behind the row's start
+pub record Step (f w p at c : ℕ) : Type 0 where
+  pub some : 1 ≤ c
+  pub fits : c ≤ at
+  pub least : p - 1 - f ≤ at - c
+  pub within : at ≤ w
+
 -- a step as the code makes it: from node p to the one before, that has c unknowns
 module _ {K o : List ℕ} (L : Listed K o) {f q w s t : ℕ} (R : Ahead (counts_in K o) f q w s t) (p at c : ℕ) (low : f < p) (high : p ≤ q)
     (e : at ≡ offset (counts_in K o) f p) (k : c ≡ of_node (counts_in K o) (p - 1)) where
@@ -110,11 +114,11 @@ module _ {K o : List ℕ} (L : Listed K o) {f q w s t : ℕ} (R : Ahead (counts_
   here : offset (counts_in K o) f p ≡ offset (counts_in K o) f (suc (p - 1))
   here = ap (offset (counts_in K o) f) (sym back)
 
-  pub step-some : 1 ≤ c
-  step-some = omega (arith, k, L.some (p - 1) (omega (arith, R.low)) (omega (arith, size)))
+  some : 1 ≤ c
+  some = omega (arith, k, L.some (p - 1) (omega (arith, R.low)) (omega (arith, size)))
 
-  pub step_fits : c ≤ at
-  step_fits = omega (arith, e, k, here, next)
+  fits : c ≤ at
+  fits = omega (arith, e, k, here, next)
 
   pub step-at : at - c ≡ offset (counts_in K o) f (p - 1)
   step-at = omega (arith, e, k, here, next)
@@ -122,11 +126,11 @@ module _ {K o : List ℕ} (L : Listed K o) {f q w s t : ℕ} (R : Ahead (counts_
   least : p - 1 - f ≤ offset (counts_in K o) f (p - 1)
   least = R.some (p - 1) (omega arith) (omega arith)
 
-  pub step-least : p - 1 - f ≤ at - c
-  step-least = omega (arith, step-at, least)
+  within : at ≤ w
+  within = omega (arith, e, here, next, block_within R (p - 1) (omega arith) (omega arith) next least)
 
-  pub step-within : at ≤ w
-  step-within = omega (arith, e, here, next, block_within R (p - 1) (omega arith) (omega arith) next least)
+  pub step : Step f w p at c
+  step = record { some = some; fits = fits; least = omega (arith, step-at, least); within = within }
 
   -- what stands before the step, at the number after
   before : {l l' : List ℕ} → Expanded (counts_in K o) f q s t p l l' → Expanded (counts_in K o) f q s t (suc (p - 1)) l l'

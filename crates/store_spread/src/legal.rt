@@ -14,7 +14,6 @@ mod bits;
 use crate::legal::bits::{repeat, shift};
 use graph_envelope::legal::first;
 use graph_envelope::legal::unknowns::share;
-use graph_words::wide;
 
 // The row of number q: its node has `count` unknowns, f_q is `first`, and the nodes f_q .. q − 1 have `width` unknowns. Its marks of nodes start at place
 // `source`, and the marks of its unknowns are to start at place `start`.
@@ -35,20 +34,13 @@ struct Ends {
     unknowns: u32,
 }
 
-// A word as a number of unknowns.
-fn amount(x: u16) -> u32
-    ensures { result ≡ x }
-{
-    x as u32
-}
-
 // How many unknowns the node of number p has; `order` has the nodes in the order of their numbers.
 fn count_of(counts: &[u16], order: &[u16], p: usize) -> u32
     requires { Listed counts.now order.now × (1 ≤ p) × (p ≤ length order.now) }
     ensures { result ≡ of_node (counts_in counts.now order.now) p }
 {
-    let node = wide(order[p - 1]);
-    amount(counts[node - 1])
+    let node = usize::from(order[p - 1]);
+    u32::from(counts[node - 1])
 }
 
 // How many unknowns the nodes of the numbers from .. q − 1 have.
@@ -58,10 +50,8 @@ fn width(counts: &[u16], order: &[u16], from: usize, q: usize) -> u32
         × (result ≤ 24576) }
 {
     let mut sum = 0;
-    let mut p = from;
-    while p < q {
+    for p in from..q {
         sum += count_of(counts, order, p);
-        p += 1;
     }
     sum
 }
@@ -75,10 +65,8 @@ fn expand(counts: &[u16], order: &[u16], bytes: &mut [u8], row: Row)
     let first = row.first;
     let source = row.source;
     let start = row.start;
-    let mut p = row.q;
     let mut at = row.width;
-    while p > first {
-        p -= 1;
+    for p in (first..row.q).rev() {
         let c = count_of(counts, order, p);
         at -= c;
         shift(bytes, source + (p - first) as u32, start + at, c);
@@ -101,12 +89,12 @@ fn row_of(
 {
     let nodes = ends.nodes;
     let unknowns = ends.unknowns;
-    let node = wide(order[q - 1]);
+    let node = usize::from(order[q - 1]);
     let f = first(starts, neighbours, numbering, node);
     let c = count_of(counts, order, q);
     let w = width(counts, order, f, q);
     Row {
-        q: q,
+        q,
         first: f,
         count: c,
         width: w,
@@ -162,9 +150,7 @@ pub fn spread(
     ensures { bytes.new ≡ mark_bytes (renumbered_unknowns (graph_was starts neighbours) counts.now numbering.now) }
 {
     let mut ends = Ends { nodes, unknowns };
-    let mut q = order.len();
-    while q > 0 {
+    for q in (1..=order.len()).rev() {
         ends = spread_row(starts, neighbours, numbering, counts, order, bytes, q, ends);
-        q -= 1;
     }
 }

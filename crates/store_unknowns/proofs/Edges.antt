@@ -1,15 +1,11 @@
 -- The pairs of unknowns that are joined at first, walked by old number. Assumes nothing.
-use mathlib.Core.Path.{◌≡◌, refl, sym, ap, ap₂, ◌∙◌}
+use mathlib.Core.Path.{◌≡◌, sym, ap, ap₂, ◌∙◌}
 use mathlib.Core.Bool.{Bool, true, false}
 use mathlib.Core.List.{List, map}
-use Prim.Native.Nat.{ℕ, ◌+◌, ◌-◌, ◌*◌, ◌≤◌, ◌<◌}
+use Prim.Native.Nat.{ℕ, ◌+◌, ◌-◌, ◌*◌, ◌≤◌}
 use native.Mathlib.Nat.{mul-le-mul}
-use native.Mathlib.Numerals.{add-one}
 use native.Mathlib.Omega.{arith}
 use lib.Dec.{ltb}
-use borrow.Author.Tests.{lt-ltb, le-ltb}
-use lib.ListN.{length, get_or, drop}
-use lib.Seq.{drop-cons, drop-length}
 use Rattle.basis.specs.Lists.{bit, up_from, sum}
 use Rattle.basis.proofs.Lists.{sum_cong, sum-within}
 use Rattle.spec.specs.Graph.{Graph, nodes, adjoins, of_node}
@@ -22,17 +18,11 @@ use Rattle.laws.proofs.Legal.{node_in_lem, row-sum, as_map}
 use Rattle.laws.proofs.Renumber.{renumbered-adjoins}
 use Rattle.laws.proofs.UnknownBounds.{counts_size, unknowns_most}
 use Rattle.laws.proofs.UnknownMeasures.{triangle_is}
+use Rattle.graph_envelope.proofs.Folds.{sum_more}
 use Rattle.graph_envelope.proofs.InUnknowns.{new_counts, sum-old, count_is, count_few}
 use Rattle.store_unknowns.specs.Edges.{lower, lowers, edges_at}
 
--- ---- a sum over a list, as far as the walk has come
-
--- one more: what is left, with the sum in hand, is what the whole is
-pub sum_left : (f : ℕ → ℕ) (l : List ℕ) (j : ℕ) → j < length l → sum (map f (drop j l)) ≡ f (get_or l j 0) + sum (map f (drop (j + 1) l))
-sum_left f l j h = rw (add-one, drop-cons l j 0 h) refl
-
-pub sum_done : (f : ℕ → ℕ) (l : List ℕ) (j : ℕ) → j ≡ length l → sum (map f (drop j l)) ≡ 0
-sum_done f l j e = rw (e, drop-length l) refl
+-- ---- the pairs of nodes
 
 -- the pairs of node a, and of the nodes 1 .. p together
 abbrev pub edges_of : Graph → List ℕ → List ℕ → ℕ → ℕ
@@ -40,14 +30,6 @@ edges_of g K x a = edges_at (renumbered g x) (new_counts K x) (of_node x a)
 
 abbrev pub edges_to : Graph → List ℕ → List ℕ → ℕ → ℕ
 edges_to g K x p = sum (map (edges_of g K x) (up_from 1 p))
-
--- ---- the unknowns of a lower number
-
-pub lower_yes : (K x : List ℕ) (own q : ℕ) → of_node x q < own → of_node K q ≡ lower K x own q
-lower_yes K x own q h = rw (lt-ltb (of_node x q) own h) (omega arith)
-
-pub lower_no : (K x : List ℕ) (own q : ℕ) → own ≤ of_node x q → 0 ≡ lower K x own q
-lower_no K x own q h = rw (le-ltb (of_node x q) own h) (omega arith)
 
 -- ---- a sum over a row
 
@@ -99,6 +81,14 @@ module _ {g : Graph} (G : LegalGraph g) (x : List ℕ) (ok : is_numbering g.size
       where
         squares : (c : ℕ) → c ≤ 6 → c * (c - 1) ≤ 30
         squares c h = let l : c - 1 ≤ 5 = omega arith in mul-le-mul h l
+
+    -- one node more
+    pub edges_step : (p : ℕ) → Node g p → g.size ≤ 4096 → {t r : ℕ} → t ≤ 147471 * (p - 1) → t ≡ edges_to g K x (p - 1) → r ≡ edges_of g K x p
+        → (t + r ≤ 147471 * p) × (t + r ≡ edges_to g K x p)
+    edges_step p A few {t} {r} small et er =
+        let e : p - 1 + 1 ≡ p = omega (arith, A.low) in
+        let er' : r ≡ edges_of g K x (p - 1 + 1) = rw e er in
+        (omega (arith, A.low, node_most p A few), rw e at (sum_more (edges_of g K x) (p - 1) et er'))
 
     -- and all
     pub edges_all : edges_to g K x g.size ≡ unknown_edges (renumbered g x) (new_counts K x)

@@ -1,5 +1,5 @@
 -- The two stores of a legal graph with counts, and what is known of the bytes and the scratch between the steps. Assumes nothing.
-use mathlib.Core.Path.{◌≡◌, refl, sym, ap, ap₂, ◌∙◌}
+use mathlib.Core.Path.{◌≡◌, sym, ap, ap₂, ◌∙◌}
 use mathlib.Core.Bool.{Bool, true, false, cond}
 use mathlib.Core.List.{List, ◌++◌, append-nil}
 use Prim.Native.Nat.{ℕ, zero, suc, ◌+◌, ◌-◌, ◌/◌, ◌≤◌}
@@ -15,7 +15,6 @@ use Rattle.spec.specs.Store.{mark_bytes, mark_byte_count}
 use Rattle.spec.specs.Unknowns.{bad_counts, counts_in, in_unknowns, renumbered_unknowns}
 use Rattle.laws.proofs.ByTest.{renumbered_legal}
 use Rattle.laws.proofs.Legal.{as_map}
-use Rattle.laws.proofs.Lent.{zeroed-all}
 use Rattle.laws.proofs.Numberings.{numbering_length, order_of_perm}
 use Rattle.laws.proofs.Places.{start_profile}
 use Rattle.laws.proofs.Renumber.{renumbered_size}
@@ -30,7 +29,7 @@ use Rattle.graph_envelope.proofs.Envelope as envelope
 use Rattle.graph_envelope.proofs.InUnknowns.{big_is, order-words}
 use Rattle.store_eliminate.specs.Walk.{Given as NodesGiven, new_graph}
 use Rattle.store_spread.specs.Rows.{Given, new_counts}
-use Rattle.store_spread.proofs.Spreading.{new_legal, order_size, given_size, given_counted}
+use Rattle.store_spread.proofs.Spreading.{new_legal, given_size, given_counted}
 
 -- zeros behind zeros
 drop-zeros : (m n : ℕ) → drop {A = ℕ} m (replicate {A = ℕ} n 0) ≡ replicate (n - m) 0
@@ -57,10 +56,10 @@ module _ {S N x : List ℕ} (Γ : NodesGiven S N x) where
   nodes_bytes e = ap (λ (n : ℕ). (n + 7) / 8) e
 
   -- the bytes after the elimination of the nodes: b the whole, cleared to z, of which the front of m became f
-  pub front_bytes : (b z f : List ℕ) (m : ℕ) → z ≡ zeroed (length b) b → m ≡ mark_byte_count (new_graph S N x) → f ≡ mark_bytes (new_graph S N x)
+  pub front_bytes : (b z f : List ℕ) (m : ℕ) → z ≡ replicate (length b) 0 → m ≡ mark_byte_count (new_graph S N x) → f ≡ mark_bytes (new_graph S N x)
       → f ++ drop m z ≡ mark_bytes (new_graph S N x) ++ replicate (length b - mark_byte_count (new_graph S N x)) 0
   front_bytes b z f m ez em ef =
-      ap₂ ◌++◌ ef (ap₂ drop em (ez ∙ zeroed-all (length b) b refl) ∙ drop-zeros (mark_byte_count (new_graph S N x)) (length b))
+      ap₂ ◌++◌ ef (ap₂ drop em ez ∙ drop-zeros (mark_byte_count (new_graph S N x)) (length b))
 
 -- ---- the store in unknowns
 
@@ -116,7 +115,3 @@ module _ {S N x K o : List ℕ} (Γ : Given S N x K o) where
             node_start_later (new_legal Γ) (given_counted Γ) (suc (new_graph S N x).size) (omega arith),
             node_start-end (new_legal Γ) (given_counted Γ),
           )
-
-  -- scratch d with the order is cleared
-  pub scratch_cleared : (d z : List ℕ) → d ≡ order_of x → z ≡ zeroed (length d) d → z ≡ replicate (size_of S) 0
-  scratch_cleared d z e ez = ez ∙ zeroed-all (length d) d refl ∙ ap (λ (n : ℕ). replicate n 0) (ap length e ∙ order_size Γ)

@@ -76,7 +76,7 @@ fn mark_nodes(
     ensures scratch_value { scratch.new ≡ replicate (size_was starts) 0 }
 {
     let m = ((nodes + 7) / 8) as usize;
-    store_marks::legal::clear(bytes, bytes.len());
+    bytes.fill(0);
     store_eliminate::legal::mark(starts, neighbours, numbering, scratch, &mut bytes[..m]);
 }
 
@@ -103,7 +103,7 @@ fn mark_both(
     store_spread::legal::spread(
         starts, neighbours, numbering, counts, scratch, bytes, nodes, unknowns,
     );
-    graph_words::legal::clear(scratch, scratch.len());
+    scratch.fill(0);
 }
 
 // The same, where the places of both stores are still to be counted.
@@ -142,7 +142,7 @@ fn figures(
     let marked = store_marks::legal::counting::count(bytes);
     let joined = edges::edges(starts, neighbours, counts, numbering);
     Counts {
-        marked: marked,
+        marked,
         new: marked - joined,
     }
 }

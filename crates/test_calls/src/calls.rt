@@ -1,16 +1,11 @@
 // The entry points, each with its answer written.
-use graph::Adjacency;
-use levels::answer::{CombinedAnswer, EndsAnswer, RootedAnswer};
-use mesh::Entries;
-use numbering::answer::RunAnswer;
-use numbering_import::{ImportAnswer, SuppliedFigures};
-use numbering_measures::MeasuresAnswer;
-use numbering_report::answer::{Direction, PartReport, ReportAnswer};
+use numbering_import::SuppliedFigures;
+use numbering_report::answer::{Direction, PartReport};
 use numbering_whole::shape::RunFigures;
+use refusals::Refusal;
 use std::io;
 use std::io::{Read, Write};
-use store::{Counts, Elimination, RunElimination};
-use store_map::StoreMap;
+use store::{Counts, RunElimination};
 use test_vectors::{accepted, refused};
 
 // A given node as a word: 65,535 for a larger one.
@@ -24,8 +19,8 @@ pub(crate) fn adjacency(
     neighbours: &[u16],
 ) -> io::Result<()> {
     match graph::test_adjacency(starts, neighbours) {
-        Adjacency::Refused(number) => refused(output, number),
-        Adjacency::Legal => accepted(output, &[0u64; 0]),
+        Err(refusal) => refused(output, u16::from(refusal)),
+        Ok(()) => accepted(output, &[0u64; 0]),
     }
 }
 
@@ -38,12 +33,11 @@ pub(crate) fn rooted(
     sizes: &mut [u16],
 ) -> io::Result<()> {
     match levels::rooted_levels(starts, neighbours, word(root), levels, sizes) {
-        RootedAnswer::Refused(number) => refused(output, number),
-        RootedAnswer::Levels {
-            depth,
-            width,
-            reached,
-        } => accepted(output, &[depth as u64, width as u64, reached as u64]),
+        Err(refusal) => refused(output, u16::from(refusal)),
+        Ok(f) => accepted(
+            output,
+            &[u64::from(f.depth), u64::from(f.width), u64::from(f.reached)],
+        ),
     }
 }
 
@@ -55,23 +49,16 @@ pub(crate) fn ends(
     scratch: &mut [u16],
 ) -> io::Result<()> {
     match levels::ends(starts, neighbours, word(node), scratch) {
-        EndsAnswer::Refused(number) => refused(output, number),
-        EndsAnswer::Ends {
-            v,
-            u,
-            k,
-            widthv,
-            widthu,
-            passes,
-        } => accepted(
+        Err(refusal) => refused(output, u16::from(refusal)),
+        Ok(e) => accepted(
             output,
             &[
-                v as u64,
-                u as u64,
-                k as u64,
-                widthv as u64,
-                widthu as u64,
-                passes as u64,
+                u64::from(e.v),
+                u64::from(e.u),
+                u64::from(e.k),
+                u64::from(e.widthv),
+                u64::from(e.widthu),
+                u64::from(e.passes),
             ],
         ),
     }
@@ -86,8 +73,8 @@ pub(crate) fn combined(
     scratch: &mut [u16],
 ) -> io::Result<()> {
     match levels::combined_levels(starts, neighbours, word(node), levels, scratch) {
-        CombinedAnswer::Refused(number) => refused(output, number),
-        CombinedAnswer::Levels { k, width } => accepted(output, &[k as u64, width as u64]),
+        Err(refusal) => refused(output, u16::from(refusal)),
+        Ok(f) => accepted(output, &[u64::from(f.k), u64::from(f.width)]),
     }
 }
 
@@ -102,11 +89,11 @@ fn report_figures(output: &mut impl Write, r: PartReport) -> io::Result<()> {
     accepted(
         output,
         &[
-            r.v as u64,
-            r.u as u64,
-            r.k as u64,
-            r.width as u64,
-            r.passes as u64,
+            u64::from(r.v),
+            u64::from(r.u),
+            u64::from(r.k),
+            u64::from(r.width),
+            u64::from(r.passes),
         ],
     )?;
     let way = r.direction;
@@ -122,8 +109,8 @@ pub(crate) fn part_report(
     scratch: &mut [u16],
 ) -> io::Result<()> {
     match numbering_report::part_report(starts, neighbours, counts, word(node), scratch) {
-        ReportAnswer::Refused(number) => refused(output, number),
-        ReportAnswer::Report(r) => report_figures(output, r),
+        Err(refusal) => refused(output, u16::from(refusal)),
+        Ok(r) => report_figures(output, r),
     }
 }
 
@@ -136,11 +123,15 @@ pub(crate) fn measures(
     scratch: &mut [u16],
 ) -> io::Result<()> {
     match numbering_measures::measures(starts, neighbours, counts, numbering, scratch) {
-        MeasuresAnswer::Refused(number) => refused(output, number),
-        MeasuresAnswer::Accepted(m) => {
+        Err(refusal) => refused(output, u16::from(refusal)),
+        Ok(m) => {
             accepted(
                 output,
-                &[m.bandwidth as u64, m.profile as u64, m.front as u64],
+                &[
+                    u64::from(m.bandwidth),
+                    u64::from(m.profile),
+                    u64::from(m.front),
+                ],
             )
         }
     }
@@ -175,8 +166,8 @@ pub(crate) fn import_numbering(
     match numbering_import::import_numbering(
         starts, neighbours, counts, pairs, figures, numbers, scratch,
     ) {
-        ImportAnswer::Refused(number) => refused(output, number),
-        ImportAnswer::Accepted => accepted(output, &[0u64; 0]),
+        Err(refusal) => refused(output, u16::from(refusal)),
+        Ok(()) => accepted(output, &[0u64; 0]),
     }
 }
 
@@ -185,27 +176,35 @@ fn run_figures(output: &mut impl Write, f: RunFigures) -> io::Result<()> {
     accepted(
         output,
         &[
-            f.nodes as u64,
-            f.parts as u64,
-            f.bandwidth as u64,
-            f.profile as u64,
-            f.front as u64,
-            f.levels as u64,
-            f.width as u64,
+            u64::from(f.nodes),
+            u64::from(f.parts),
+            u64::from(f.bandwidth),
+            u64::from(f.profile),
+            u64::from(f.front),
+            u64::from(f.levels),
+            u64::from(f.width),
         ],
     )
 }
 
 // What a numbering call answers.
-fn numbered(output: &mut impl Write, answer: RunAnswer) -> io::Result<()> {
+fn numbered(output: &mut impl Write, answer: Result<RunFigures, Refusal>) -> io::Result<()> {
     match answer {
-        RunAnswer::Refused(number) => refused(output, number),
-        RunAnswer::Numbered(f) => run_figures(output, f),
+        Err(refusal) => refused(output, u16::from(refusal)),
+        Ok(f) => run_figures(output, f),
     }
 }
 
 fn elimination_counts(output: &mut impl Write, c: Counts) -> io::Result<()> {
-    accepted(output, &[c.marked as u64, c.new as u64])
+    accepted(output, &[u64::from(c.marked), u64::from(c.new)])
+}
+
+// What the elimination answers.
+fn counted(output: &mut impl Write, answer: Result<Counts, Refusal>) -> io::Result<()> {
+    match answer {
+        Err(refusal) => refused(output, u16::from(refusal)),
+        Ok(c) => elimination_counts(output, c),
+    }
 }
 
 pub(crate) fn eliminate(
@@ -217,10 +216,10 @@ pub(crate) fn eliminate(
     scratch: &mut [u16],
     bytes: &mut [u8],
 ) -> io::Result<()> {
-    match store::eliminate(starts, neighbours, counts, numbering, scratch, bytes) {
-        Elimination::Refused(number) => refused(output, number),
-        Elimination::Accepted(c) => elimination_counts(output, c),
-    }
+    counted(
+        output,
+        store::eliminate(starts, neighbours, counts, numbering, scratch, bytes),
+    )
 }
 
 fn mapped(
@@ -234,8 +233,8 @@ fn mapped(
     place: &mut [u32],
 ) -> io::Result<()> {
     match store_map::store_map(starts, neighbours, counts, numbering, scratch, first, place) {
-        StoreMap::Refused(number) => refused(output, number),
-        StoreMap::Accepted(f) => accepted(output, &[f.profile as u64, f.unknowns as u64]),
+        Err(refusal) => refused(output, u16::from(refusal)),
+        Ok(f) => accepted(output, &[u64::from(f.profile), u64::from(f.unknowns)]),
     }?;
     test_vectors::show_places(output, place)
 }
@@ -266,18 +265,13 @@ pub(crate) fn store_map(
 }
 
 // What a numbering call with the elimination after it answers: its figures are followed by the elimination's answer.
-fn eliminated(output: &mut impl Write, answer: RunElimination) -> io::Result<()> {
+fn eliminated(output: &mut impl Write, answer: Result<RunElimination, Refusal>) -> io::Result<()> {
     match answer {
-        RunElimination::Refused(number) => refused(output, number),
-        RunElimination::RunOnly { figures, refusal } => {
-            run_figures(output, figures)?;
+        Err(refusal) => refused(output, u16::from(refusal)),
+        Ok(both) => {
+            run_figures(output, both.figures)?;
             output.write_all(b" ")?;
-            refused(output, refusal)
-        }
-        RunElimination::Both { figures, counts } => {
-            run_figures(output, figures)?;
-            output.write_all(b" ")?;
-            elimination_counts(output, counts)
+            counted(output, both.elimination)
         }
     }
 }
@@ -331,7 +325,7 @@ pub(crate) fn mesh(
     scratch: &mut [u16],
 ) -> io::Result<()> {
     match mesh::mesh_lists(n, elements, starts, neighbours, scratch) {
-        Entries::Refused(number) => refused(output, number),
-        Entries::Accepted(count) => accepted(output, &[count as u64]),
+        Err(refusal) => refused(output, u16::from(refusal)),
+        Ok(count) => accepted(output, &[u64::from(count)]),
     }
 }

@@ -3,7 +3,6 @@
 
 ghost use Rattle.std.specs.Prelude.{◌<◌};
 
-use graph::Adjacency;
 use std::io;
 use std::io::Write;
 
@@ -11,8 +10,8 @@ use std::io::Write;
 fn say(output: &mut impl Write, name: &[u8], starts: &[u16], neighbours: &[u16]) -> io::Result<()> {
     output.write_all(name)?;
     match graph::test_adjacency(starts, neighbours) {
-        Adjacency::Legal => output.write_all(b": legal\n"),
-        Adjacency::Refused(number) => writeln!(output, ": refused {number}"),
+        Ok(()) => output.write_all(b": legal\n"),
+        Err(refusal) => writeln!(output, ": refused {}", u16::from(refusal)),
     }
 }
 

@@ -4,7 +4,7 @@
 
 ghost use Rattle.std.specs.Prelude.{◌≤◌, length};
 
-use mesh::Entries;
+use refusals::Refusal;
 use std::io;
 use std::io::{BufReader, BufWriter, Read, Write};
 
@@ -16,24 +16,18 @@ fn read(
     neighbours: &mut [u16; 32780],
     scratch: &mut [u16; 4100],
     counts: &mut [u16; 4100],
-) -> Entries
+) -> Result<u32, Refusal>
     requires { length file.now ≤ 70000 }
 {
-    let refusal = file_reading::header_refusal(file);
-    if refusal != 0 {
-        return Entries::Refused(refusal);
-    }
-    let refusal = file_reading::legal::counts::read_counts(file, counts);
-    if refusal != 0 {
-        return Entries::Refused(refusal);
-    }
+    file_reading::test_header(file)?;
+    file_reading::legal::counts::read_counts(file, counts)?;
     file_reading::legal::read_mesh(file, list, starts, neighbours, scratch)
 }
 
-fn say(output: &mut impl Write, answer: Entries) -> io::Result<()> {
+fn say(output: &mut impl Write, answer: Result<u32, Refusal>) -> io::Result<()> {
     match answer {
-        Entries::Accepted(count) => test_vectors::accepted(output, &[count as u64]),
-        Entries::Refused(number) => test_vectors::refused(output, number),
+        Ok(count) => test_vectors::accepted(output, &[u64::from(count)]),
+        Err(refusal) => test_vectors::refused(output, u16::from(refusal)),
     }
 }
 

@@ -7,16 +7,10 @@ use std::io::{ErrorKind, Read};
 // What `number` answers where the input has ended.
 pub const NONE: usize = 4294967295;
 
-fn wide(x: u8) -> usize
-    ensures { result ≤ 255 }
-{
-    x as usize
-}
-
 fn join(low: u8, high: u8) -> usize
     ensures { result ≤ 65535 }
 {
-    wide(low) + 256 * wide(high)
+    usize::from(low) + 256 * usize::from(high)
 }
 
 // Fills the bytes, and says whether the input had so many.
@@ -58,8 +52,8 @@ pub fn read(input: &mut impl Read, words: &mut [u16]) -> io::Result<usize>
     if words.len() < count {
         return Ok(0);
     }
-    for i in 0..count {
-        words[i] = word(input)?;
+    for x in words[..count].iter_mut() {
+        *x = word(input)?;
     }
     Ok(count)
 }

@@ -15,14 +15,14 @@ fn byte_pattern(i: usize) -> u8 {
 }
 
 pub fn fill(words: &mut [u16]) {
-    for i in 0..words.len() {
-        words[i] = pattern(i);
+    for (i, x) in words.iter_mut().enumerate() {
+        *x = pattern(i);
     }
 }
 
 fn fill_bytes(bytes: &mut [u8]) {
-    for i in 0..bytes.len() {
-        bytes[i] = byte_pattern(i);
+    for (i, x) in bytes.iter_mut().enumerate() {
+        *x = byte_pattern(i);
     }
 }
 

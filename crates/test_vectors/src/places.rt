@@ -2,7 +2,7 @@
 ghost use Rattle.std.specs.Prelude.{◌≤◌, length, IfOk};
 
 use crate::input::number;
-use crate::output::{wide_step, write_count, write_number};
+use crate::output::write_items;
 use std::io;
 use std::io::{Read, Write};
 
@@ -12,8 +12,8 @@ fn pattern(i: usize) -> u32 {
 }
 
 fn fill(places: &mut [u32]) {
-    for i in 0..places.len() {
-        places[i] = pattern(i);
+    for (i, x) in places.iter_mut().enumerate() {
+        *x = pattern(i);
     }
 }
 
@@ -33,41 +33,15 @@ pub fn lend_places(input: &mut impl Read, places: &mut [u32]) -> io::Result<usiz
 fn changed(places: &[u32]) -> usize
     ensures { result ≤ length places.now }
 {
-    let mut size = places.len();
-    while 0 < size {
-        if places[size - 1] != pattern(size - 1) {
-            return size;
+    for i in (0..places.len()).rev() {
+        if places[i] != pattern(i) {
+            return i + 1;
         }
-        size -= 1;
     }
     0
 }
 
-fn checksum(places: &[u32]) -> u64 {
-    let mut sum: u64 = 1;
-    for x in places {
-        sum = wide_step(sum, *x);
-    }
-    sum
-}
-
-fn write_place(output: &mut impl Write, x: u32) -> io::Result<()> {
-    write_number(output, x as u64)
-}
-
-fn write_places(output: &mut impl Write, places: &[u32]) -> io::Result<()> {
-    for x in places {
-        write_place(output, *x)?;
-    }
-    Ok(())
-}
-
-// The entries up to the last that isn't as it was lent, one by one or by a checksum. All behind them are untouched.
+// The entries up to the last that isn't as it was lent. All behind them are untouched.
 pub fn show_places(output: &mut impl Write, places: &[u32]) -> io::Result<()> {
-    let size = changed(places);
-    if write_count(output, size)? {
-        write_places(output, &places[..size])
-    } else {
-        write_number(output, checksum(&places[..size]))
-    }
+    write_items(output, &places[..changed(places)])
 }

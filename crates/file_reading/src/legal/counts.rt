@@ -5,9 +5,11 @@ ghost use Rattle.spec.specs.Graph.{outside};
 ghost use Rattle.spec.specs.Lent.{filled};
 ghost use Rattle.spec.specs.Unknowns.{max_count, ones};
 ghost use Rattle.spec.specs.File.{file_nodes, body_words, has_counts, count_words, file_counts, header_refusal, counts_refusal};
+ghost use Rattle.refusals.specs.Numbers.{number_in};
 
 use crate::header::word_at;
 use crate::legal::nodes;
+use refusals::Refusal;
 
 // Whether the file carries counts: version 2 does.
 fn has_counts(file: &[u8]) -> bool
@@ -33,8 +35,7 @@ fn any_outside(file: &[u8], count: usize) -> bool
     requires { count ≤ length (body_words file.now) }
     ensures { result ≡ anyb (outside max_count) (take count (body_words file.now)) }
 {
-    let mut i = 0;
-    while i < count {
+    for i in 0..count {
         let c = crate::words::word(file, i);
         if c == 0 {
             return true;
@@ -42,24 +43,23 @@ fn any_outside(file: &[u8], count: usize) -> bool
         if 6 < c {
             return true;
         }
-        i += 1;
     }
     false
 }
 
-// What the counts are refused by, 12 or 15, or 0: "where a file ending within the counts is 12 first".
-fn counts_refusal(file: &[u8]) -> u16
+// What the counts are refused by, 12 or 15: "where a file ending within the counts is 12 first".
+fn test_counts(file: &[u8]) -> Result<(), Refusal>
     requires { header_refusal file.now ≡ 0 }
-    ensures { result ≡ counts_refusal file.now }
+    ensures { number_in result ≡ counts_refusal file.now }
 {
     let count = count_words(file);
     if file.len() < 9 + 2 * count {
-        return 12;
+        return Err(Refusal::File);
     }
     if any_outside(file, count) {
-        return 15;
+        return Err(Refusal::Counts);
     }
-    0
+    Ok(())
 }
 
 // Sets the first n words to 1.
@@ -67,11 +67,7 @@ fn put_ones(list: &mut [u16], n: usize)
     requires { n ≤ length list.old }
     ensures { list.new ≡ overwrite (ones n) list.old }
 {
-    let mut i = 0;
-    while i < n {
-        list[i] = 1;
-        i += 1;
-    }
+    list[..n].fill(1);
 }
 
 // Writes the counts to the front of the list.
@@ -88,17 +84,14 @@ fn put_counts(file: &[u8], counts: &mut [u16])
     put_ones(counts, n);
 }
 
-// Writes the counts to the front of the list, and returns 0; where they are refused, writes nothing and returns the number.
-pub fn read_counts(file: &[u8], counts: &mut [u16]) -> u16
+// Writes the counts to the front of the list; where they are refused, writes nothing.
+pub fn read_counts(file: &[u8], counts: &mut [u16]) -> Result<(), Refusal>
     requires file_value { header_refusal file.now ≡ 0 }
     requires file_in_bounds { file_nodes file.now ≤ length counts.old }
-    ensures value { result ≡ counts_refusal file.now }
+    ensures value { number_in result ≡ counts_refusal file.now }
     ensures counts_value { counts.new ≡ filled (counts_refusal file.now) (file_counts file.now) counts.old }
 {
-    let refusal = counts_refusal(file);
-    if refusal != 0 {
-        return refusal;
-    }
+    test_counts(file)?;
     put_counts(file, counts);
-    0
+    Ok(())
 }

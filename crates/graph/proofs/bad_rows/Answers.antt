@@ -1,39 +1,31 @@
--- `graph::bad_rows` meets its contract: the first p rows are good.
+-- `graph::bad_rows` meets its contract: the rows before row p are good.
 -- Assumes nothing.
-use Prim.Native.Nat.{ℕ, ◌+◌}
-use mathlib.Core.Bool.{Bool}
-use mathlib.Core.List.{List}
-use mathlib.Core.Path.{◌≡◌, refl, sym, ap, ◌∙◌}
+use Prim.Native.Nat.{◌+◌, ◌-◌, ◌≤◌}
+use mathlib.Core.Logic.{⊎_elim}
+use mathlib.Core.Path.{◌≡◌, sym, ap, ◌∙◌}
 use native.Mathlib.Omega.{arith}
-use borrow.Author.Count.{below_more}
-use Rattle.spec.specs.Graph.{size_of, row_of, graph_of, bad_row, refuses3}
+use Rattle.basis.proofs.Logic.{lt_or_le}
+use Rattle.spec.specs.Graph.{size_of, graph_of, bad_row, refuses3}
 use Rattle.laws.proofs.Legal.{nodes-at, nodes_walked}
+use Rattle.graph.proofs.bad_rows.Invariants.{bad}
 use Rattle.graph.proofs.bad_rows.Goals as goal
-
--- row p is bad
-abbrev bad : List ℕ → List ℕ → ℕ → Bool
-bad S N p = bad_row (size_of S) p (row_of S N p)
-
-pub loop-p-init : goal.loop-p-init
-loop-p-init c = (omega arith, refl, (λ k l. absurd (omega arith)))
-
-pub row-row-requires : goal.row-row-requires
-row-row-requires c = record { starts = c.requires; node = record { low = omega arith; high = omega arith } }
 
 pub returns-then-bad_row : goal.returns-then-bad_row
 unfolding refuses3
 returns-then-bad_row c =
-    let tested : bad c.args.starts.now c.args.neighbours.now (c.loop-p.p + 1) ≡ c.bad_row.result = ap (bad_row (size_of c.args.starts.now) (c.loop-p.p + 1)) (sym c.row-row.ensures) ∙ sym c.bad_row.ensures in
-    sym (nodes-at (graph_of c.args.starts.now c.args.neighbours.now) (bad c.args.starts.now c.args.neighbours.now) c.loop-p.p (omega arith) (tested ∙ c.if-bad_row.true))
+    let S = c.args.starts.now in
+    let N = c.args.neighbours.now in
+    let p = c.loop-p.p in
+    let back : p - 1 + 1 ≡ p = omega arith in
+    let tested : bad S N p ≡ c.bad_row.result = ap (bad_row (size_of S) p) (sym c.row-row.ensures) ∙ sym c.bad_row.ensures in
+    sym (nodes-at (graph_of S N) (bad S N) (p - 1) (omega arith) (ap (bad S N) back ∙ tested ∙ c.if-bad_row.true))
 
-pub loop-p-preserved : goal.loop-p-preserved
-loop-p-preserved c =
-    let tested : bad c.args.starts.now c.args.neighbours.now (c.loop-p.p + 1) ≡ c.bad_row.result = ap (bad_row (size_of c.args.starts.now) (c.loop-p.p + 1)) (sym c.row-row.ensures) ∙ sym c.bad_row.ensures in (
-      omega arith,
-      refl,
-      below_more _ c.loop-p.p c.loop-p.invariant.2 (tested ∙ c.if-bad_row.false),
-    )
-
-pub returns : goal.returns
+pub returns-else-bad_row : goal.returns-else-bad_row
 unfolding refuses3
-returns c = sym (nodes_walked (graph_of c.args.starts.now c.args.neighbours.now) (bad c.args.starts.now c.args.neighbours.now) (λ k b. c.loop-p.invariant.2 k (omega arith)))
+returns-else-bad_row c =
+    let S = c.args.starts.now in
+    let N = c.args.neighbours.now in
+    let p = c.loop-p.p in
+    let tested : bad S N p ≡ c.bad_row.result = ap (bad_row (size_of S) p) (sym c.row-row.ensures) ∙ sym c.bad_row.ensures in
+    sym (nodes_walked (graph_of S N) (bad S N)
+    (λ k b. ⊎_elim (c.loop-p.invariant k) (λ (l : p ≤ k + 1). let e : k + 1 ≡ p = omega arith in ap (bad S N) e ∙ tested ∙ c.if-bad_row.false) (lt_or_le (k + 1) p)))

@@ -1,6 +1,6 @@
--- `graph::bad_rows` meets its contract: the first p rows are good.
+-- `graph::bad_rows` meets its contract: the rows before row p are good.
 -- Assumes nothing.
-use Prim.Native.Nat.{ℕ, ◌+◌, ◌-◌, ◌≤◌, ◌<◌}
+use Prim.Native.Nat.{ℕ, ◌+◌, ◌<◌}
 use mathlib.Core.Bool.{Bool, false}
 use mathlib.Core.List.{List}
 use mathlib.Core.Path.{◌≡◌}
@@ -12,7 +12,4 @@ abbrev pub bad : List ℕ → List ℕ → ℕ → Bool
 bad S N p = bad_row (size_of S) p (row_of S N p)
 
 abbrev pub invariant-loop-p : goal.invariant-loop-p
-invariant-loop-p l = (l.p ≤ l.n) × (l.n ≡ size_of l.starts) × ((k : ℕ) → k < l.p → bad l.starts l.neighbours (k + 1) ≡ false)
-
-abbrev pub decreases-loop-p : goal.decreases-loop-p
-decreases-loop-p l = l.n - l.p
+invariant-loop-p l = (k : ℕ) → k + 1 < l.p → bad l.starts l.neighbours (k + 1) ≡ false

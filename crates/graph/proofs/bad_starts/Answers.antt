@@ -1,27 +1,24 @@
 -- `graph::bad_starts` meets its contract.
 -- Assumes nothing.
-use Prim.Native.Nat.{◌-◌}
 use mathlib.Core.Bool.{not}
 use mathlib.Core.Path.{sym, ap, ◌∙◌}
 use native.Mathlib.Omega.{arith}
-use lib.ListN.{length}
-use Rattle.graph.proofs.Rows.{first_start, last_start, over_start, between_starts}
+use Rattle.graph.proofs.Rows.{first_start, last_start, over_start, between_starts, starts_sorted}
 use Rattle.graph.proofs.bad_starts.Goals as goal
+use Rattle.graph.proofs.bad_starts.Goals.{then-starts-ne0-via-then-starts-ne0, then-starts-ne0-via-else-starts-ne0+then-last-neighbours, then-starts-ne0-via-else-starts-ne0+else-last-neighbours+then-last-gt-MAX_ENTRIES}
 
 pub returns-then-starts-ne0 : goal.returns-then-starts-ne0
-returns-then-starts-ne0 c = sym (first_start c.args.starts.now c.args.neighbours.now c.requires c.if-starts-ne0.true)
-
-pub overflow_cast-last : goal.overflow_cast-last
-overflow_cast-last c = omega (arith, c.shared_slice_known-4-1.given (length c.args.starts.now - 1))
-
-pub returns-then-last-neighbours : goal.returns-then-last-neighbours
-returns-then-last-neighbours c = sym (last_start c.args.starts.now c.args.neighbours.now c.requires c.if-last-neighbours.true)
-
-pub returns-then-last-gt32768 : goal.returns-then-last-gt32768
-returns-then-last-gt32768 c = sym (over_start c.args.starts.now c.args.neighbours.now c.requires c.if-last-gt32768.true)
+returns-then-starts-ne0 c =
+    let S = c.args.starts.now in
+    let N = c.args.neighbours.now in
+    elim c.then-starts-ne0.branch [
+      | then-starts-ne0-via-then-starts-ne0 w ↦ sym (first_start S N c.requires w.if-starts-ne0.true)
+      | then-starts-ne0-via-else-starts-ne0+then-last-neighbours w ↦ sym (last_start S N c.requires (λ e. w.if-last-neighbours.true (c.from-last.ensures ∙ e)))
+      | then-starts-ne0-via-else-starts-ne0+else-last-neighbours+then-last-gt-MAX_ENTRIES w ↦ sym (over_start S N c.requires (omega (arith, c.from-last.ensures)))
+    ]
 
 pub returns : goal.returns
 returns c =
-    ap not c.starts_rise.ensures
+    ap not (starts_sorted c.args.starts.now c.is_sorted.result c.is_sorted.ensures.cases)
     ∙ between_starts c.args.starts.now c.args.neighbours.now c.requires
-    c.if-starts-ne0.false c.if-last-neighbours.false c.if-last-gt32768.false
+    c.if-starts-ne0.false (omega (arith, c.from-last.ensures, c.if-last-neighbours.false)) (omega (arith, c.from-last.ensures))

@@ -11,7 +11,6 @@ ghost use Rattle.graph_envelope.specs.Numbers.{Words};
 ghost use Rattle.graph_envelope.specs.Aheads.{aheads, Rises};
 
 use crate::legal::{first, number};
-use graph_words::wide;
 
 // In place of each node of an order, how many unknowns stand ahead of it: at most 24,570.
 pub fn add_up(counts: &[u16], order: &mut [u16])
@@ -20,14 +19,11 @@ pub fn add_up(counts: &[u16], order: &mut [u16])
     requires order_len_bound { length order.old ≤ 4096 }
     ensures { order.new ≡ aheads counts.now order.old }
 {
-    let n = order.len();
     let mut sum = 0;
-    let mut i = 0;
-    while i < n {
-        let p = wide(order[i]);
+    for i in 0..order.len() {
+        let p = usize::from(order[i]);
         order[i] = sum as u16;
         sum += number(counts, p);
-        i += 1;
     }
 }
 
@@ -98,11 +94,8 @@ pub fn profile(
     requires ahead_value { ahead.now ≡ aheads counts.now (order_of numbering.now) }
     ensures { result ≡ profile (renumbered_unknowns (graph_was starts neighbours) counts.now numbering.now) }
 {
-    let n = numbering.len();
     let mut sum: u32 = 0;
-    let mut p = 0;
-    while p < n {
-        p += 1;
+    for p in 1..starts.len() {
         sum += share_of(starts, neighbours, counts, numbering, ahead, p);
     }
     sum

@@ -12,46 +12,42 @@ use Rattle.spec.specs.Lent.{words_per_node, short}
 use Rattle.graph.specs.Facts.{LegalLists}
 use Rattle.graph.proofs.Answers.{legal_lists, refused_lists}
 use Rattle.graph.proofs.Ways.{by_lists, by_short, by_last}
+use Rattle.std.proofs.lemmas.Result.{err_from_is_err_and}
 use Rattle.levels.proofs.Refusals.{node_inside, first_short, both_long, combined_refused, combined_accepted}
 use Rattle.levels.proofs.combined_levels.Goals as goal
 use Rattle.levels.proofs.combined_levels.Goals.{then-levels-n-via-then-levels-n, then-levels-n-via-else-levels-n+then-scratch-n}
 
 pub returns-then-levels-n : goal.returns-then-levels-n
 returns-then-levels-n c =
-    let legal : LegalLists c.args.starts.now c.args.neighbours.now = legal_lists c.args.starts.now c.args.neighbours.now c.test_adjacency.ensures c.in-Legal.is in
+    let legal : LegalLists c.args.starts.now c.args.neighbours.now = legal_lists c.args.starts.now c.args.neighbours.now c.test_adjacency.ensures c.in_ok-test_adjacency.was in
     let n = size_of c.args.starts.now in
     let done = combined_refused c.args.starts.now c.args.neighbours.now c.args.node c.args.levels.now c.args.scratch.now
     (λ T. by_short T legal (elim c.then-levels-n.branch [ then-levels-n-via-then-levels-n w ↦ first_short c.args.levels.now n c.args.scratch.now (words_per_node * n) w.if-levels-n.true | then-levels-n-via-else-levels-n+then-scratch-n w ↦ or_right (short c.args.levels.now n) (lt-ltb (length c.args.scratch.now) (words_per_node * n) w.if-scratch-n.true) ])) in record { result_value = done.0; levels_value = done.1.0; scratch_value = done.1.1 }
 
 pub returns-then-no_node : goal.returns-then-no_node
 returns-then-no_node c =
-    let legal : LegalLists c.args.starts.now c.args.neighbours.now = legal_lists c.args.starts.now c.args.neighbours.now c.test_adjacency.ensures c.in-Legal.is in
+    let legal : LegalLists c.args.starts.now c.args.neighbours.now = legal_lists c.args.starts.now c.args.neighbours.now c.test_adjacency.ensures c.in_ok-test_adjacency.was in
     let n = size_of c.args.starts.now in
     let done = combined_refused c.args.starts.now c.args.neighbours.now c.args.node c.args.levels.now c.args.scratch.now
     (λ T. by_last T legal (both_long c.args.levels.now n c.args.scratch.now (words_per_node * n) c.if-levels-n.false (le-ltb (length c.args.scratch.now) (words_per_node * n) c.if-scratch-n.false)) (sym c.no_node.ensures ∙ c.if-no_node.true) (omega arith)) in record { result_value = done.0; levels_value = done.1.0; scratch_value = done.1.1 }
 
-pub returns-in-Refused : goal.returns-in-Refused
-returns-in-Refused c =
+pub returns-in_err-test_adjacency : goal.returns-in_err-test_adjacency
+returns-in_err-test_adjacency c =
+    let p = err_from_is_err_and c.from_residual.result c.from_residual.ensures.1 in
     let done = combined_refused c.args.starts.now c.args.neighbours.now c.args.node c.args.levels.now c.args.scratch.now
-    (λ T. by_lists T (refused_lists c.args.starts.now c.args.neighbours.now c.test_adjacency.ensures c.in-Refused.is)) in record { result_value = done.0; levels_value = done.1.0; scratch_value = done.1.1 }
-
--- ---- the call
--- the levels are lent as far as there are nodes
-pub slice_bounds-find_levels-end-in-Legal : goal.slice_bounds-find_levels-end-in-Legal
-slice_bounds-find_levels-end-in-Legal c =
-    let room : size_of c.args.starts.now ≤ length c.args.levels.now = c.if-levels-n.false in
-    sym (length-take-le _ c.args.levels.now room)
+    (λ T. by_lists T (refused_lists c.args.starts.now c.args.neighbours.now c.test_adjacency.ensures c.in_err-test_adjacency.was)) in
+    rw (p.1, p.2) record { result_value = done.0; levels_value = done.1.0; scratch_value = done.1.1 }
 
 pub find_levels-f-requires : goal.find_levels-f-requires
 find_levels-f-requires c =
-    let legal : LegalLists c.args.starts.now c.args.neighbours.now = legal_lists c.args.starts.now c.args.neighbours.now c.test_adjacency.ensures c.in-Legal.is in
+    let legal : LegalLists c.args.starts.now c.args.neighbours.now = legal_lists c.args.starts.now c.args.neighbours.now c.test_adjacency.ensures c.in_ok-test_adjacency.was in
     let inside : outside (size_of c.args.starts.now) c.args.node ≡ false = sym c.no_node.ensures ∙ c.if-no_node.false in
     let room : size_of c.args.starts.now ≤ length c.args.levels.now = c.if-levels-n.false in
     record { neighbours_value = legal.refusal; le_node = node_inside (size_of c.args.starts.now) c.args.node inside; levels_len = length-take-le _ c.args.levels.now room; starts_in_bounds = c.if-scratch-n.false }
 
-pub returns-else-no_node : goal.returns-else-no_node
-returns-else-no_node c =
-    let legal : LegalLists c.args.starts.now c.args.neighbours.now = legal_lists c.args.starts.now c.args.neighbours.now c.test_adjacency.ensures c.in-Legal.is in
+pub returns : goal.returns
+returns c =
+    let legal : LegalLists c.args.starts.now c.args.neighbours.now = legal_lists c.args.starts.now c.args.neighbours.now c.test_adjacency.ensures c.in_ok-test_adjacency.was in
     let inside : outside (size_of c.args.starts.now) c.args.node ≡ false = sym c.no_node.ensures ∙ c.if-no_node.false in
     let room : size_of c.args.starts.now ≤ length c.args.levels.now = c.if-levels-n.false in
     let n = size_of c.args.starts.now in
@@ -60,15 +56,10 @@ returns-else-no_node c =
 
 pub overflow_sub-n : goal.overflow_sub-n
 overflow_sub-n c =
-    let legal : LegalLists c.args.starts.now c.args.neighbours.now = legal_lists c.args.starts.now c.args.neighbours.now c.test_adjacency.ensures c.in-Legal.is in
+    let legal : LegalLists c.args.starts.now c.args.neighbours.now = legal_lists c.args.starts.now c.args.neighbours.now c.test_adjacency.ensures c.in_ok-test_adjacency.was in
     omega (arith, legal.starts.count)
 
 pub overflow_mul-n : goal.overflow_mul-n
 overflow_mul-n c =
-    let legal : LegalLists c.args.starts.now c.args.neighbours.now = legal_lists c.args.starts.now c.args.neighbours.now c.test_adjacency.ensures c.in-Legal.is in
+    let legal : LegalLists c.args.starts.now c.args.neighbours.now = legal_lists c.args.starts.now c.args.neighbours.now c.test_adjacency.ensures c.in_ok-test_adjacency.was in
     omega (arith, legal.starts.few)
-
-pub slice_bounds-find_levels-end : goal.slice_bounds-find_levels-end
-slice_bounds-find_levels-end c =
-    let room : size_of c.args.starts.now ≤ length c.args.levels.now = c.if-levels-n.false in
-    room

@@ -23,11 +23,12 @@ pub fn add_listed(bits: &mut [u64], lists: &[u16], elements: &[u16], rows: usize
     ensures added { Added (held (node_in elements.now) rows lists.now row) bits.old bits.new }
 {
     let mut mask: u64 = 0;
-    let mut cell = graph_words::wide(lists[row]);
+    let mut cell = usize::from(lists[row]);
+    // A while: it follows a list from cell to cell.
     while cell != 0 {
         let to = rows + 2 * cell;
-        mask = add_element(bits, elements, graph_words::wide(lists[to]), mask);
-        cell = graph_words::wide(lists[to + 1]);
+        mask = add_element(bits, elements, usize::from(lists[to]), mask);
+        cell = usize::from(lists[to + 1]);
     }
     mask
 }

@@ -10,7 +10,7 @@ ghost use Rattle.mesh_incidence.specs.Cells.{Cells, pushed, Entered, Listed};
 pub fn row_of(p: u16, base: usize) -> usize
     ensures { (k : ℕ) → k < 4096 → (base + suc k == p) ≡ (k == result) }
 {
-    std::num::wrapping_sub_usize(graph_words::wide(p), graph_words::smaller(base, 65535) + 1)
+    usize::from(p).wrapping_sub(base.min(65535) + 1)
 }
 
 // Puts a position in front of the list of a row, as this cell.
@@ -45,16 +45,14 @@ fn enter(lists: &mut [u16], nodes: &[u16], at: u16, base: usize, rows: usize, ce
     ensures { (result ≢ 0) → Entered at rows (λ k. memb (base + suc k) nodes.now) lists.old cell lists.new result }
 {
     let mut free = cell;
-    let mut j = 0;
-    while j < nodes.len() {
-        let row = row_of(nodes[j], base);
+    for &node in nodes {
+        let row = row_of(node, base);
         if row < rows {
             free = enter_row(lists, row, rows, free, at);
             if free == 0 {
                 return 0;
             }
         }
-        j += 1;
     }
     free
 }
@@ -65,9 +63,10 @@ fn list(lists: &mut [u16], elements: &[u16], base: usize, rows: usize) -> bool
     requires elements_value { elements_refusal (length elements.now) (length lists.old) elements.now ≡ 0 }
     ensures { result ≡ true → Listed elements.now base rows lists.new }
 {
-    graph_words::legal::clear(lists, rows);
+    lists[..rows].fill(0);
     let mut cell = 1;
     let mut at = 0;
+    // A while: a step takes the words of one element.
     while at < elements.len() {
         let first = at + 1;
         let next = first + mesh_elements::node_count(elements[at]);
@@ -88,11 +87,12 @@ pub fn list_rows(lists: &mut [u16], elements: &[u16], base: usize, most: usize) 
     ensures { (result ≤ most) × (1 ≤ result → Listed elements.now base result lists.new) }
 {
     let mut rows = most;
+    // A while: a step halves.
     while 64 < rows {
         if list(lists, elements, base, rows) {
             return rows;
         }
-        rows = rows / 2;
+        rows /= 2;
     }
     0
 }

@@ -12,9 +12,10 @@ fn to_try(guess: usize, last: usize) -> usize
     ensures { result ≤ guess }
 {
     if last == 0 {
-        return guess;
+        guess
+    } else {
+        guess.min(2 * last)
     }
-    graph_words::smaller(guess, 2 * last)
 }
 
 // Lists the elements of some rows after base, and returns of how many: 0 where 64 rows or fewer have room, or positions don't fit a word.
@@ -34,7 +35,7 @@ fn list_some(lists: &mut [u16], elements: &[u16], base: usize, last: usize) -> u
     }
     let mean = elements.len() / n;
     let rows = to_try(n / (2 * mean + 2), last);
-    let most = graph_words::smaller(graph_words::smaller(rows, n - base), n - 2);
+    let most = rows.min(n - base).min(n - 2);
     mesh_incidence::legal::listing::list_rows(lists, elements, base, most)
 }
 
@@ -44,8 +45,8 @@ fn next_rows(lists: &mut [u16], elements: &[u16], base: usize, last: usize) -> u
     requires elements_value { elements_refusal (length elements.now) (length lists.old) elements.now ≡ 0 }
     ensures { (1 ≤ result) × (base + result ≤ length lists.old) × (64 < result → Listed elements.now base result lists.new) }
 {
-    let group = graph_words::smaller(lists.len() - base, 64);
-    graph_words::larger(list_some(lists, elements, base, last), group)
+    let group = (lists.len() - base).min(64);
+    list_some(lists, elements, base, last).max(group)
 }
 
 // The rows after base whose elements are listed.
@@ -66,12 +67,10 @@ fn listed_rows(
     ensures goes { Goes (graph_of_elements (length lists.now) elements.now) base starts.old neighbours.old (base + rows) starts.new neighbours.new result }
 {
     let mut to = at;
-    let mut row = 0;
-    while row < rows {
+    for row in 0..rows {
         to = super::row::listed_row(
             bits, lists, elements, base, rows, row, to, starts, neighbours,
         );
-        row += 1;
     }
     to
 }
@@ -94,10 +93,8 @@ fn gathered_rows(
 {
     mesh_gather::legal::gather(group, elements, base);
     let mut to = at;
-    let mut row = 0;
-    while row < rows {
+    for row in 0..rows {
         to = super::row::gathered_row(group, base, row, to, starts, neighbours);
-        row += 1;
     }
     to
 }
@@ -163,6 +160,7 @@ pub(crate) fn all_rows(
     let mut to = 0;
     let mut base = 0;
     let mut rows = 0;
+    // A while: a step takes as many rows as there is room for.
     while base < n {
         rows = next_rows(lists, elements, base, rows);
         to = some_rows(bits, lists, elements, base, rows, to, starts, neighbours);

@@ -10,6 +10,7 @@ pub(crate) fn few(elements: &[u16]) -> bool
 {
     let mut total: usize = 0;
     let mut at = 0;
+    // A while: a step takes the words of one element.
     while at < elements.len() {
         let count = mesh_elements::node_count(elements[at]);
         total += count * (count - 1);

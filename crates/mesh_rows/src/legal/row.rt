@@ -80,7 +80,7 @@ pub(crate) fn gathered_row(
     let next = first + 64;
     close_row(
         &mut group[first..next],
-        18446744073709551615,
+        u64::MAX,
         base + row + 1,
         at,
         starts,

@@ -1,6 +1,6 @@
 -- `numbering_import::import_numbering` meets its contract: the tests in turn, the later ones on the first n words of each buffer. Assumes nothing.
-use mathlib.Core.Path.{◌≡◌, sym, ap, ◌∙◌}
-use mathlib.Core.Bool.{Bool, false, cond}
+use mathlib.Core.Path.{◌≡◌}
+use mathlib.Core.Bool.{false}
 use Prim.Native.Nat.{◌≤◌}
 use native.Mathlib.Omega.{arith}
 use lib.ListN.{length, take}
@@ -13,43 +13,46 @@ use Rattle.graph.proofs.Answers.{legal_lists, refused_lists}
 use Rattle.graph_words.proofs.Unknowns.{unknowns_kept, unknowns_refused}
 use Rattle.numbering_import.specs.Answer.{sent_three}
 use Rattle.numbering_import.proofs.Answers.{answered_lists, numbers_short, scratch_short, counts_refused, answered_late}
+use Rattle.std.proofs.lemmas.Result.{err_from_is_err_and}
 use Rattle.numbering_import.proofs.import_numbering.Goals as goal
 
 -- ---- the ways out
-pub returns-in-Refused : goal.returns-in-Refused
-returns-in-Refused c =
+pub returns-in_err-test_adjacency : goal.returns-in_err-test_adjacency
+returns-in_err-test_adjacency c =
+    let p = err_from_is_err_and c.from_residual.result c.from_residual.ensures.1 in
     let r =
     answered_lists c.args.starts.now c.args.neighbours.now c.args.counts.now c.args.pairs.now (sent_three c.args.sent) c.args.numbers.now c.args.scratch.now
-    (refused_lists c.args.starts.now c.args.neighbours.now c.test_adjacency-tested.ensures c.in-Refused.is) in
-    record { result_value = r.answer; numbers_value = r.numbers; scratch_value = r.scratch }
+    (refused_lists c.args.starts.now c.args.neighbours.now c.test_adjacency.ensures c.in_err-test_adjacency.was) in
+    rw (p.1, p.2) record { result_value = r.answer; numbers_value = r.numbers; scratch_value = r.scratch }
 
 pub returns-then-numbers-n : goal.returns-then-numbers-n
 returns-then-numbers-n c =
-    let legal : LegalLists c.args.starts.now c.args.neighbours.now = legal_lists c.args.starts.now c.args.neighbours.now c.test_adjacency-tested.ensures c.in_default.is in
+    let legal : LegalLists c.args.starts.now c.args.neighbours.now = legal_lists c.args.starts.now c.args.neighbours.now c.test_adjacency.ensures c.in_ok-test_adjacency.was in
     let r =
     numbers_short c.args.starts.now c.args.neighbours.now c.args.counts.now c.args.pairs.now (sent_three c.args.sent) c.args.numbers.now c.args.scratch.now legal c.if-numbers-n.true in
     record { result_value = r.answer; numbers_value = r.numbers; scratch_value = r.scratch }
 
 pub returns-then-scratch-n : goal.returns-then-scratch-n
 returns-then-scratch-n c =
-    let legal : LegalLists c.args.starts.now c.args.neighbours.now = legal_lists c.args.starts.now c.args.neighbours.now c.test_adjacency-tested.ensures c.in_default.is in
+    let legal : LegalLists c.args.starts.now c.args.neighbours.now = legal_lists c.args.starts.now c.args.neighbours.now c.test_adjacency.ensures c.in_ok-test_adjacency.was in
     let r =
     scratch_short c.args.starts.now c.args.neighbours.now c.args.counts.now c.args.pairs.now (sent_three c.args.sent) c.args.numbers.now c.args.scratch.now legal c.if-scratch-n.true in
     record { result_value = r.answer; numbers_value = r.numbers; scratch_value = r.scratch }
 
-pub returns-then-total-eq0 : goal.returns-then-total-eq0
-returns-then-total-eq0 c =
-    let legal : LegalLists c.args.starts.now c.args.neighbours.now = legal_lists c.args.starts.now c.args.neighbours.now c.test_adjacency-tested.ensures c.in_default.is in
+pub returns-in_err-total : goal.returns-in_err-total
+returns-in_err-total c =
+    let p = err_from_is_err_and c.from_residual-in_err-total.result c.from_residual-in_err-total.ensures.1 in
+    let legal : LegalLists c.args.starts.now c.args.neighbours.now = legal_lists c.args.starts.now c.args.neighbours.now c.test_adjacency.ensures c.in_ok-test_adjacency.was in
     let r =
     counts_refused c.args.starts.now c.args.neighbours.now c.args.counts.now c.args.pairs.now (sent_three c.args.sent) c.args.numbers.now c.args.scratch.now legal c.if-numbers-n.false
-    c.if-scratch-n.false (unknowns_refused _ _ legal.starts.some (sym c.unknowns-total.ensures ∙ c.if-total-eq0.true)) in
-    record { result_value = r.answer; numbers_value = r.numbers; scratch_value = r.scratch }
+    c.if-scratch-n.false ((unknowns_refused _ _ c.unknowns.ensures c.in_err-total.was).0) in
+    rw (p.1, p.2, (unknowns_refused _ _ c.unknowns.ensures c.in_err-total.was).1) record { result_value = r.answer; numbers_value = r.numbers; scratch_value = r.scratch }
 
 pub import-requires : goal.import-requires
 import-requires c =
-    let legal : LegalLists c.args.starts.now c.args.neighbours.now = legal_lists c.args.starts.now c.args.neighbours.now c.test_adjacency-tested.ensures c.in_default.is in
-    let fit : bad_counts (size_of c.args.starts.now) c.args.counts.now ≡ false = unknowns_kept _ _ (λ z. c.if-total-eq0.false (c.unknowns-total.ensures ∙ z)) in
-    let total : c.unknowns-total.result ≡ sum c.args.counts.now = c.unknowns-total.ensures ∙ ap (λ (b : Bool). cond b 0 (sum c.args.counts.now)) fit in
+    let legal : LegalLists c.args.starts.now c.args.neighbours.now = legal_lists c.args.starts.now c.args.neighbours.now c.test_adjacency.ensures c.in_ok-test_adjacency.was in
+    let fit : bad_counts (size_of c.args.starts.now) c.args.counts.now ≡ false = (unknowns_kept _ _ c.unknowns.ensures c.in_ok-total.was).0 in
+    let total : c.in_ok-total.total ≡ sum c.args.counts.now = (unknowns_kept _ _ c.unknowns.ensures c.in_ok-total.was).1 in
     let numbers-room : size_of c.args.starts.now ≤ length c.args.numbers.now = c.if-numbers-n.false in
     let numbers-part : length (take (size_of c.args.starts.now) c.args.numbers.now) ≡ size_of c.args.starts.now = length-take-le _ _ numbers-room in
     let scratch-room : size_of c.args.starts.now ≤ length c.args.scratch.now = c.if-scratch-n.false in
@@ -58,8 +61,8 @@ import-requires c =
 
 pub returns : goal.returns
 returns c =
-    let legal : LegalLists c.args.starts.now c.args.neighbours.now = legal_lists c.args.starts.now c.args.neighbours.now c.test_adjacency-tested.ensures c.in_default.is in
-    let fit : bad_counts (size_of c.args.starts.now) c.args.counts.now ≡ false = unknowns_kept _ _ (λ z. c.if-total-eq0.false (c.unknowns-total.ensures ∙ z)) in
+    let legal : LegalLists c.args.starts.now c.args.neighbours.now = legal_lists c.args.starts.now c.args.neighbours.now c.test_adjacency.ensures c.in_ok-test_adjacency.was in
+    let fit : bad_counts (size_of c.args.starts.now) c.args.counts.now ≡ false = (unknowns_kept _ _ c.unknowns.ensures c.in_ok-total.was).0 in
     let numbers-room : size_of c.args.starts.now ≤ length c.args.numbers.now = c.if-numbers-n.false in
     let scratch-room : size_of c.args.starts.now ≤ length c.args.scratch.now = c.if-scratch-n.false in
     let r =
@@ -69,22 +72,10 @@ returns c =
 
 pub overflow_sub-n : goal.overflow_sub-n
 overflow_sub-n c =
-    let legal : LegalLists c.args.starts.now c.args.neighbours.now = legal_lists c.args.starts.now c.args.neighbours.now c.test_adjacency-tested.ensures c.in_default.is in
+    let legal : LegalLists c.args.starts.now c.args.neighbours.now = legal_lists c.args.starts.now c.args.neighbours.now c.test_adjacency.ensures c.in_ok-test_adjacency.was in
     omega (arith, legal.starts.count)
 
-pub unknowns-total-requires : goal.unknowns-total-requires
-unknowns-total-requires c =
-    let legal : LegalLists c.args.starts.now c.args.neighbours.now = legal_lists c.args.starts.now c.args.neighbours.now c.test_adjacency-tested.ensures c.in_default.is in
+pub unknowns-requires : goal.unknowns-requires
+unknowns-requires c =
+    let legal : LegalLists c.args.starts.now c.args.neighbours.now = legal_lists c.args.starts.now c.args.neighbours.now c.test_adjacency.ensures c.in_ok-test_adjacency.was in
     legal.starts.few
-
-pub slice_bounds-import-end-2 : goal.slice_bounds-import-end-2
-slice_bounds-import-end-2 c =
-    let numbers-room : size_of c.args.starts.now ≤ length c.args.numbers.now = c.if-numbers-n.false in
-    let numbers-part : length (take (size_of c.args.starts.now) c.args.numbers.now) ≡ size_of c.args.starts.now = length-take-le _ _ numbers-room in
-    sym numbers-part
-
-pub slice_bounds-import-end-4 : goal.slice_bounds-import-end-4
-slice_bounds-import-end-4 c =
-    let scratch-room : size_of c.args.starts.now ≤ length c.args.scratch.now = c.if-scratch-n.false in
-    let scratch_part : length (take (size_of c.args.starts.now) c.args.scratch.now) ≡ size_of c.args.starts.now = length-take-le _ _ scratch-room in
-    sym scratch_part

@@ -11,76 +11,73 @@ use Rattle.spec.specs.Lent.{accepted}
 use Rattle.spec.specs.Unknowns.{bad_counts}
 use Rattle.graph.specs.Facts.{LegalLists}
 use Rattle.graph.proofs.Answers.{legal_lists, refused_lists}
-use Rattle.graph_words.proofs.Unknowns.{unknowns_kept, unknowns_refused, unknowns_total}
+use Rattle.graph_words.proofs.Unknowns.{unknowns_kept, unknowns_refused}
 use Rattle.graph_envelope.proofs.Lent.{Numbered, numbered_yes, numbered-zeroed, numbered_no}
 use Rattle.numbering_measures.proofs.Answers.{lists_refused, scratch_short, counts_refused, misnumbered, measured}
+use Rattle.std.proofs.lemmas.Result.{err_from_is_err_and}
 use Rattle.numbering_measures.proofs.measures.Goals as goal
 
-pub returns-in-Refused : goal.returns-in-Refused
-returns-in-Refused c =
+pub returns-in_err-test_adjacency : goal.returns-in_err-test_adjacency
+returns-in_err-test_adjacency c =
+    let p = err_from_is_err_and c.from_residual.result c.from_residual.ensures.1 in
     let done = lists_refused c.args.starts.now c.args.neighbours.now c.args.counts.now c.args.numbering.now c.args.scratch.now
-    (refused_lists c.args.starts.now c.args.neighbours.now c.test_adjacency-tested.ensures c.in-Refused.is) in record { result_value = done.0; scratch_value = done.1 }
+    (refused_lists c.args.starts.now c.args.neighbours.now c.test_adjacency.ensures c.in_err-test_adjacency.was) in rw (p.1, p.2) record { result_value = done.0; scratch_value = done.1 }
 
 pub overflow_sub-n : goal.overflow_sub-n
 overflow_sub-n c =
-    let legal : LegalLists c.args.starts.now c.args.neighbours.now = legal_lists c.args.starts.now c.args.neighbours.now c.test_adjacency-tested.ensures c.in_default.is in
+    let legal : LegalLists c.args.starts.now c.args.neighbours.now = legal_lists c.args.starts.now c.args.neighbours.now c.test_adjacency.ensures c.in_ok-test_adjacency.was in
     omega (arith, legal.starts.count)
 
 pub returns-then-scratch-n : goal.returns-then-scratch-n
 returns-then-scratch-n c =
-    let legal : LegalLists c.args.starts.now c.args.neighbours.now = legal_lists c.args.starts.now c.args.neighbours.now c.test_adjacency-tested.ensures c.in_default.is in
+    let legal : LegalLists c.args.starts.now c.args.neighbours.now = legal_lists c.args.starts.now c.args.neighbours.now c.test_adjacency.ensures c.in_ok-test_adjacency.was in
     let done = scratch_short c.args.starts.now c.args.neighbours.now c.args.counts.now c.args.numbering.now c.args.scratch.now legal c.if-scratch-n.true in record { result_value = done.0; scratch_value = done.1 }
 
-pub returns-then-total-eq0 : goal.returns-then-total-eq0
-returns-then-total-eq0 c =
-    let legal : LegalLists c.args.starts.now c.args.neighbours.now = legal_lists c.args.starts.now c.args.neighbours.now c.test_adjacency-tested.ensures c.in_default.is in
+pub returns-in_err-total : goal.returns-in_err-total
+returns-in_err-total c =
+    let p = err_from_is_err_and c.from_residual-in_err-total.result c.from_residual-in_err-total.ensures.1 in
+    let legal : LegalLists c.args.starts.now c.args.neighbours.now = legal_lists c.args.starts.now c.args.neighbours.now c.test_adjacency.ensures c.in_ok-test_adjacency.was in
     let done = counts_refused c.args.starts.now c.args.neighbours.now c.args.counts.now c.args.numbering.now c.args.scratch.now legal c.if-scratch-n.false
-    (unknowns_refused _ _ legal.starts.some (sym c.unknowns-total.ensures ∙ c.if-total-eq0.true)) in record { result_value = done.0; scratch_value = done.1 }
+    ((unknowns_refused _ _ c.unknowns.ensures c.in_err-total.was).0) in rw (p.1, p.2, (unknowns_refused _ _ c.unknowns.ensures c.in_err-total.was).1) record { result_value = done.0; scratch_value = done.1 }
 
 pub numbered-requires : goal.numbered-requires
 numbered-requires c =
-    let legal : LegalLists c.args.starts.now c.args.neighbours.now = legal_lists c.args.starts.now c.args.neighbours.now c.test_adjacency-tested.ensures c.in_default.is in
+    let legal : LegalLists c.args.starts.now c.args.neighbours.now = legal_lists c.args.starts.now c.args.neighbours.now c.test_adjacency.ensures c.in_ok-test_adjacency.was in
     (legal.starts.few, c.if-scratch-n.false)
 
-pub figures-m-requires : goal.figures-m-requires
-figures-m-requires c =
-    let legal : LegalLists c.args.starts.now c.args.neighbours.now = legal_lists c.args.starts.now c.args.neighbours.now c.test_adjacency-tested.ensures c.in_default.is in
-    let fit : bad_counts (size_of c.args.starts.now) c.args.counts.now ≡ false = unknowns_kept _ _ (λ e. c.if-total-eq0.false (c.unknowns-total.ensures ∙ e)) in
-    let total : c.unknowns-total.result ≡ sum c.args.counts.now = unknowns_total _ _ fit c.unknowns-total.ensures in
-    let numbered : Numbered (size_of c.args.starts.now) c.args.numbering.now c.args.scratch.now c.numbered.new.scratch = numbered_yes _ _ _ _ c.numbered.result c.numbered.ensures.value c.numbered.ensures.scratch_value c.if-numbered.true in
+pub figures-requires : goal.figures-requires
+figures-requires c =
+    let legal : LegalLists c.args.starts.now c.args.neighbours.now = legal_lists c.args.starts.now c.args.neighbours.now c.test_adjacency.ensures c.in_ok-test_adjacency.was in
+    let fit : bad_counts (size_of c.args.starts.now) c.args.counts.now ≡ false = (unknowns_kept _ _ c.unknowns.ensures c.in_ok-total.was).0 in
+    let total : c.in_ok-total.total ≡ sum c.args.counts.now = (unknowns_kept _ _ c.unknowns.ensures c.in_ok-total.was).1 in
+    let numbered : Numbered (size_of c.args.starts.now) c.args.numbering.now c.args.scratch.now c.numbered.new.scratch = numbered_yes _ _ _ _ c.numbered.result c.numbered.ensures.value c.numbered.ensures.scratch_value c.if-not-numbered.false in
     let room : size_of c.args.starts.now ≤ length c.args.scratch.now = c.if-scratch-n.false in
     let part : length (take (size_of c.args.starts.now) c.numbered.new.scratch) ≡ size_of c.args.starts.now = length-take-le (size_of c.args.starts.now) c.numbered.new.scratch (omega (arith, c.numbered.auto.scratch, room)) in
     record { legal_lists = legal; counts_value = fit; numbering_value = numbered.numbering; words_len = part; total_value = total }
 
-pub returns-then-numbered : goal.returns-then-numbered
-returns-then-numbered c =
-    let legal : LegalLists c.args.starts.now c.args.neighbours.now = legal_lists c.args.starts.now c.args.neighbours.now c.test_adjacency-tested.ensures c.in_default.is in
-    let fit : bad_counts (size_of c.args.starts.now) c.args.counts.now ≡ false = unknowns_kept _ _ (λ e. c.if-total-eq0.false (c.unknowns-total.ensures ∙ e)) in
+pub returns : goal.returns
+returns c =
+    let legal : LegalLists c.args.starts.now c.args.neighbours.now = legal_lists c.args.starts.now c.args.neighbours.now c.test_adjacency.ensures c.in_ok-test_adjacency.was in
+    let fit : bad_counts (size_of c.args.starts.now) c.args.counts.now ≡ false = (unknowns_kept _ _ c.unknowns.ensures c.in_ok-total.was).0 in
     let room : size_of c.args.starts.now ≤ length c.args.scratch.now = c.if-scratch-n.false in
-    let numbered : Numbered (size_of c.args.starts.now) c.args.numbering.now c.args.scratch.now c.numbered.new.scratch = numbered_yes _ _ _ _ c.numbered.result c.numbered.ensures.value c.numbered.ensures.scratch_value c.if-numbered.true in
+    let numbered : Numbered (size_of c.args.starts.now) c.args.numbering.now c.args.scratch.now c.numbered.new.scratch = numbered_yes _ _ _ _ c.numbered.result c.numbered.ensures.value c.numbered.ensures.scratch_value c.if-not-numbered.false in
     let M = numbered in
     let r =
     measured c.args.starts.now c.args.neighbours.now c.args.counts.now c.args.numbering.now c.args.scratch.now legal room fit
     M.numbering in
-    record { result_value = ap accepted c.figures-m.ensures.result_value ∙ r.0; scratch_value = numbered-zeroed M c.figures-m.ensures.words_value ∙ r.1 }
+    record { result_value = ap accepted c.figures.ensures.result_value ∙ r.0; scratch_value = numbered-zeroed M c.figures.ensures.words_value ∙ r.1 }
 
-pub returns-else-numbered : goal.returns-else-numbered
-returns-else-numbered c =
-    let legal : LegalLists c.args.starts.now c.args.neighbours.now = legal_lists c.args.starts.now c.args.neighbours.now c.test_adjacency-tested.ensures c.in_default.is in
-    let fit : bad_counts (size_of c.args.starts.now) c.args.counts.now ≡ false = unknowns_kept _ _ (λ e. c.if-total-eq0.false (c.unknowns-total.ensures ∙ e)) in
+pub returns-then-not-numbered : goal.returns-then-not-numbered
+returns-then-not-numbered c =
+    let legal : LegalLists c.args.starts.now c.args.neighbours.now = legal_lists c.args.starts.now c.args.neighbours.now c.test_adjacency.ensures c.in_ok-test_adjacency.was in
+    let fit : bad_counts (size_of c.args.starts.now) c.args.counts.now ≡ false = (unknowns_kept _ _ c.unknowns.ensures c.in_ok-total.was).0 in
     let room : size_of c.args.starts.now ≤ length c.args.scratch.now = c.if-scratch-n.false in
     let r =
     misnumbered c.args.starts.now c.args.neighbours.now c.args.counts.now c.args.numbering.now c.args.scratch.now legal room fit
-    (sym c.numbered.ensures.value ∙ c.if-numbered.false) in
-    record { result_value = r.0; scratch_value = numbered_no (size_of c.args.starts.now) c.args.numbering.now c.args.scratch.now _ c.numbered.result c.numbered.ensures.scratch_value c.if-numbered.false ∙ r.1 }
+    (sym c.numbered.ensures.value ∙ c.if-not-numbered.true) in
+    record { result_value = r.0; scratch_value = numbered_no (size_of c.args.starts.now) c.args.numbering.now c.args.scratch.now _ c.numbered.result c.numbered.ensures.scratch_value c.if-not-numbered.true ∙ r.1 }
 
-pub unknowns-total-requires : goal.unknowns-total-requires
-unknowns-total-requires c =
-    let legal : LegalLists c.args.starts.now c.args.neighbours.now = legal_lists c.args.starts.now c.args.neighbours.now c.test_adjacency-tested.ensures c.in_default.is in
+pub unknowns-requires : goal.unknowns-requires
+unknowns-requires c =
+    let legal : LegalLists c.args.starts.now c.args.neighbours.now = legal_lists c.args.starts.now c.args.neighbours.now c.test_adjacency.ensures c.in_ok-test_adjacency.was in
     legal.starts.few
-
-pub slice_bounds-figures-end-then-numbered : goal.slice_bounds-figures-end-then-numbered
-slice_bounds-figures-end-then-numbered c =
-    let room : size_of c.args.starts.now ≤ length c.args.scratch.now = c.if-scratch-n.false in
-    let part : length (take (size_of c.args.starts.now) c.numbered.new.scratch) ≡ size_of c.args.starts.now = length-take-le (size_of c.args.starts.now) c.numbered.new.scratch (omega (arith, c.numbered.auto.scratch, room)) in
-    sym part

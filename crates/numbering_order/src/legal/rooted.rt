@@ -26,9 +26,7 @@ fn befores(
 {
     let mut a = 0;
     let mut b = 1;
-    let mut i: u16 = 1;
-    while i < k {
-        i += 1;
+    for i in 2..=k {
         let e = from_before(starts, neighbours, work, n, at, a, b, i);
         a = b;
         b = e;

@@ -9,58 +9,61 @@ use Rattle.graph.specs.Facts.{LegalLists}
 use Rattle.graph.proofs.Answers.{legal_lists, refused_lists}
 use Rattle.levels.proofs.Refusals.{node_inside}
 use Rattle.numbering_report.proofs.Refusals.{lists_refused, short_refused, counts_refused, node_refused, report_accepted}
+use Rattle.std.proofs.lemmas.Result.{err_from_is_err_and}
 use Rattle.numbering_report.proofs.part_report.Goals as goal
 
 pub returns-then-scratch-n : goal.returns-then-scratch-n
 returns-then-scratch-n c =
-    let legal : LegalLists c.args.starts.now c.args.neighbours.now = legal_lists c.args.starts.now c.args.neighbours.now c.test_adjacency.ensures c.in-Legal.is in
+    let legal : LegalLists c.args.starts.now c.args.neighbours.now = legal_lists c.args.starts.now c.args.neighbours.now c.test_adjacency.ensures c.in_ok-test_adjacency.was in
     let done = short_refused c.args.starts.now c.args.neighbours.now c.args.counts.now c.args.node c.args.scratch.now legal c.if-scratch-n.true in record { result_value = done.0; scratch_value = done.1 }
 
-pub returns-then-unknowns-eq0 : goal.returns-then-unknowns-eq0
-returns-then-unknowns-eq0 c =
-    let legal : LegalLists c.args.starts.now c.args.neighbours.now = legal_lists c.args.starts.now c.args.neighbours.now c.test_adjacency.ensures c.in-Legal.is in
-    let bad = unknowns_refused (size_of c.args.starts.now) c.args.counts.now legal.starts.some (sym c.unknowns.ensures ∙ c.if-unknowns-eq0.true) in
-    let done = counts_refused c.args.starts.now c.args.neighbours.now c.args.counts.now c.args.node c.args.scratch.now legal c.if-scratch-n.false bad in record { result_value = done.0; scratch_value = done.1 }
+pub returns-in_err-unknowns : goal.returns-in_err-unknowns
+returns-in_err-unknowns c =
+    let p = err_from_is_err_and c.from_residual-in_err-unknowns.result c.from_residual-in_err-unknowns.ensures.1 in
+    let legal : LegalLists c.args.starts.now c.args.neighbours.now = legal_lists c.args.starts.now c.args.neighbours.now c.test_adjacency.ensures c.in_ok-test_adjacency.was in
+    let bad = (unknowns_refused _ _ c.unknowns.ensures c.in_err-unknowns.was).0 in
+    let done = counts_refused c.args.starts.now c.args.neighbours.now c.args.counts.now c.args.node c.args.scratch.now legal c.if-scratch-n.false bad in rw (p.1, p.2, (unknowns_refused _ _ c.unknowns.ensures c.in_err-unknowns.was).1) record { result_value = done.0; scratch_value = done.1 }
 
 pub returns-then-no_node : goal.returns-then-no_node
 returns-then-no_node c =
-    let legal : LegalLists c.args.starts.now c.args.neighbours.now = legal_lists c.args.starts.now c.args.neighbours.now c.test_adjacency.ensures c.in-Legal.is in
-    let counted : bad_counts (size_of c.args.starts.now) c.args.counts.now ≡ false = unknowns_kept (size_of c.args.starts.now) c.args.counts.now (λ z. c.if-unknowns-eq0.false (c.unknowns.ensures ∙ z)) in
+    let legal : LegalLists c.args.starts.now c.args.neighbours.now = legal_lists c.args.starts.now c.args.neighbours.now c.test_adjacency.ensures c.in_ok-test_adjacency.was in
+    let counted : bad_counts (size_of c.args.starts.now) c.args.counts.now ≡ false = (unknowns_kept _ _ c.unknowns.ensures c.in_ok-unknowns.was).0 in
     let done = node_refused c.args.starts.now c.args.neighbours.now c.args.counts.now c.args.node c.args.scratch.now legal c.if-scratch-n.false counted
     (sym c.no_node.ensures ∙ c.if-no_node.true) in record { result_value = done.0; scratch_value = done.1 }
 
-pub returns-in-Refused : goal.returns-in-Refused
-returns-in-Refused c =
+pub returns-in_err-test_adjacency : goal.returns-in_err-test_adjacency
+returns-in_err-test_adjacency c =
+    let p = err_from_is_err_and c.from_residual.result c.from_residual.ensures.1 in
     let done = lists_refused c.args.starts.now c.args.neighbours.now c.args.counts.now c.args.node c.args.scratch.now
-    (refused_lists c.args.starts.now c.args.neighbours.now c.test_adjacency.ensures c.in-Refused.is) in record { result_value = done.0; scratch_value = done.1 }
+    (refused_lists c.args.starts.now c.args.neighbours.now c.test_adjacency.ensures c.in_err-test_adjacency.was) in rw (p.1, p.2) record { result_value = done.0; scratch_value = done.1 }
 
 -- ---- the call
 pub find_report-requires : goal.find_report-requires
 find_report-requires c =
-    let legal : LegalLists c.args.starts.now c.args.neighbours.now = legal_lists c.args.starts.now c.args.neighbours.now c.test_adjacency.ensures c.in-Legal.is in
-    let counted : bad_counts (size_of c.args.starts.now) c.args.counts.now ≡ false = unknowns_kept (size_of c.args.starts.now) c.args.counts.now (λ z. c.if-unknowns-eq0.false (c.unknowns.ensures ∙ z)) in
+    let legal : LegalLists c.args.starts.now c.args.neighbours.now = legal_lists c.args.starts.now c.args.neighbours.now c.test_adjacency.ensures c.in_ok-test_adjacency.was in
+    let counted : bad_counts (size_of c.args.starts.now) c.args.counts.now ≡ false = (unknowns_kept _ _ c.unknowns.ensures c.in_ok-unknowns.was).0 in
     let inside : outside (size_of c.args.starts.now) c.args.node ≡ false = sym c.no_node.ensures ∙ c.if-no_node.false in
     record { neighbours_value = legal.refusal; counts_value = counted; le_node = node_inside (size_of c.args.starts.now) c.args.node inside; starts_in_bounds = c.if-scratch-n.false }
 
-pub returns-else-no_node : goal.returns-else-no_node
-returns-else-no_node c =
-    let legal : LegalLists c.args.starts.now c.args.neighbours.now = legal_lists c.args.starts.now c.args.neighbours.now c.test_adjacency.ensures c.in-Legal.is in
-    let counted : bad_counts (size_of c.args.starts.now) c.args.counts.now ≡ false = unknowns_kept (size_of c.args.starts.now) c.args.counts.now (λ z. c.if-unknowns-eq0.false (c.unknowns.ensures ∙ z)) in
+pub returns : goal.returns
+returns c =
+    let legal : LegalLists c.args.starts.now c.args.neighbours.now = legal_lists c.args.starts.now c.args.neighbours.now c.test_adjacency.ensures c.in_ok-test_adjacency.was in
+    let counted : bad_counts (size_of c.args.starts.now) c.args.counts.now ≡ false = (unknowns_kept _ _ c.unknowns.ensures c.in_ok-unknowns.was).0 in
     let inside : outside (size_of c.args.starts.now) c.args.node ≡ false = sym c.no_node.ensures ∙ c.if-no_node.false in
     let done = report_accepted c.args.starts.now c.args.neighbours.now c.args.counts.now c.args.node c.args.scratch.now legal c.if-scratch-n.false counted inside
     c.find_report.ensures.result_value c.find_report.ensures.scratch_value in record { result_value = done.0; scratch_value = done.1 }
 
 pub overflow_sub-n : goal.overflow_sub-n
 overflow_sub-n c =
-    let legal : LegalLists c.args.starts.now c.args.neighbours.now = legal_lists c.args.starts.now c.args.neighbours.now c.test_adjacency.ensures c.in-Legal.is in
+    let legal : LegalLists c.args.starts.now c.args.neighbours.now = legal_lists c.args.starts.now c.args.neighbours.now c.test_adjacency.ensures c.in_ok-test_adjacency.was in
     omega (arith, legal.starts.count)
 
 pub overflow_mul-n : goal.overflow_mul-n
 overflow_mul-n c =
-    let legal : LegalLists c.args.starts.now c.args.neighbours.now = legal_lists c.args.starts.now c.args.neighbours.now c.test_adjacency.ensures c.in-Legal.is in
+    let legal : LegalLists c.args.starts.now c.args.neighbours.now = legal_lists c.args.starts.now c.args.neighbours.now c.test_adjacency.ensures c.in_ok-test_adjacency.was in
     omega (arith, legal.starts.few)
 
 pub unknowns-requires : goal.unknowns-requires
 unknowns-requires c =
-    let legal : LegalLists c.args.starts.now c.args.neighbours.now = legal_lists c.args.starts.now c.args.neighbours.now c.test_adjacency.ensures c.in-Legal.is in
+    let legal : LegalLists c.args.starts.now c.args.neighbours.now = legal_lists c.args.starts.now c.args.neighbours.now c.test_adjacency.ensures c.in_ok-test_adjacency.was in
     legal.starts.few

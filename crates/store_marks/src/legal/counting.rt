@@ -33,10 +33,8 @@ fn count_words(bytes: &[u8], to: usize) -> u32
     ensures { result ≡ ones_in bytes.now 0 to }
 {
     let mut total: u32 = 0;
-    let mut i = 0;
-    while i < to {
-        total += u64::count_ones(eight(bytes, i));
-        i += 8;
+    for word in 0..to / 8 {
+        total += eight(bytes, 8 * word).count_ones();
     }
     total
 }
@@ -47,10 +45,8 @@ fn count_bytes(bytes: &[u8], from: usize) -> u32
     ensures { result ≡ ones_in bytes.now from (length bytes.now - from) }
 {
     let mut total: u32 = 0;
-    let mut i = from;
-    while i < bytes.len() {
-        total += u8::count_ones(bytes[i]);
-        i += 1;
+    for byte in &bytes[from..] {
+        total += byte.count_ones();
     }
     total
 }

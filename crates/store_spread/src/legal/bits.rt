@@ -8,7 +8,7 @@ fn unset(bytes: &mut [u8], t: u32)
     ensures { bytes.new ≡ turned_mark bytes.old t }
 {
     let at = (t / 8) as usize;
-    bytes[at] = bytes[at] ^ (1u8 << (t % 8));
+    bytes[at] ^= 1 << (t % 8);
 }
 
 // Marks c places from t on.
@@ -16,10 +16,8 @@ fn fill(bytes: &mut [u8], t: u32, c: u32)
     requires { Room (length bytes.old) (t + c) }
     ensures { Filled bytes.old bytes.new t c }
 {
-    let mut i = 0;
-    while i < c {
+    for i in 0..c {
         store_marks::legal::set(bytes, t + i);
-        i += 1;
     }
 }
 
@@ -52,10 +50,8 @@ fn copy(bytes: &mut [u8], s: u32, t: u32, w: u32)
     requires w_bound { (s + w ≤ t) × Clear bytes.old t (t + w) }
     ensures { Copied bytes.old bytes.new s t w }
 {
-    let mut i = 0;
-    while i < w {
+    for i in 0..w {
         copy_mark(bytes, s + i, t + i);
-        i += 1;
     }
 }
 
@@ -66,11 +62,9 @@ pub fn repeat(bytes: &mut [u8], s: u32, w: u32, c: u32)
     ensures { Repeated bytes.old bytes.new s w c }
 {
     let mut t = s + w;
-    let mut j = 1;
-    while j < c {
+    for j in 1..c {
         copy(bytes, s, t, w);
         fill(bytes, t + w, j);
         t += w + j;
-        j += 1;
     }
 }

@@ -12,7 +12,6 @@ ghost use Rattle.store_unknowns.specs.Edges.{Counted, lower, lowers, edges_at};
 use graph::legal::row;
 use graph_envelope::legal::number;
 use graph_envelope::legal::unknowns::share;
-use graph_words::wide;
 
 // The unknowns of node q where its number is below `own`, and else none.
 fn if_lower(counts: &[u16], numbering: &[u16], q: usize, own: usize) -> usize
@@ -32,11 +31,8 @@ fn lower_row(row: &[u16], counts: &[u16], numbering: &[u16], own: usize) -> usiz
     ensures { result ≡ lowers counts.now numbering.now own row.now }
 {
     let mut sum = 0;
-    let mut j = 0;
-    while j < row.len() {
-        let q = wide(row[j]);
-        sum += if_lower(counts, numbering, q, own);
-        j += 1;
+    for &q in row {
+        sum += if_lower(counts, numbering, usize::from(q), own);
     }
     sum
 }
@@ -63,11 +59,8 @@ pub fn edges(starts: &[u16], neighbours: &[u16], counts: &[u16], numbering: &[u1
     requires { Counted starts.now neighbours.now counts.now numbering.now }
     ensures { result ≡ unknown_edges (new_graph starts.now neighbours.now numbering.now) (new_counts counts.now numbering.now) }
 {
-    let n = numbering.len();
     let mut sum: u32 = 0;
-    let mut p = 0;
-    while p < n {
-        p += 1;
+    for p in 1..=numbering.len() {
         sum += node_edges(starts, neighbours, counts, numbering, p);
     }
     sum

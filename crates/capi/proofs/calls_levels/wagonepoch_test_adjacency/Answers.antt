@@ -1,6 +1,5 @@
 -- `capi::calls_levels::wagonepoch_test_adjacency` meets its contract: the refusal is the number of the answer. Assumes nothing.
 use mathlib.Core.Path.{◌∙◌}
-use borrow.Author.Rules.{rules}
 use Rattle.spec.specs.CallsLevels.{adjacency_answer}
 use Rattle.spec.specs.Graph.{graph_refusal}
 use Rattle.capi.proofs.Calls.{number-outcome}

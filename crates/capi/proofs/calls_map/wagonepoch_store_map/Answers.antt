@@ -1,6 +1,5 @@
 -- `capi::calls_map::wagonepoch_store_map` meets its contract, which is that of the call it makes. It needs no file; with one a wrong call is
 -- refused at once, and not after many searches. Assumes nothing.
-use borrow.Author.Rules.{rules}
 use Rattle.capi.proofs.calls_map.wagonepoch_store_map.Goals as goal
 
 pub returns : goal.returns

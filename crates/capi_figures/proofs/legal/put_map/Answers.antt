@@ -1,12 +1,12 @@
 -- `capi_figures::legal::put_map` meets its contract: the answer is a refusal, or has its figures. Assumes nothing.
-use mathlib.Core.Path.{ap}
+use mathlib.Core.Path.{ap, ◌∙◌}
 use Rattle.store_map.specs.Answer.{meaning}
 use Rattle.capi_figures.specs.Figures.{map_list}
 use Rattle.capi_figures.proofs.Told.{told_refused, told_accepted, next, end}
 use Rattle.capi_figures.proofs.legal.put_map.Goals as goal
 
-pub returns-in-Refused : goal.returns-in-Refused
-returns-in-Refused c = let done = told_refused map_list c.args.list.now (ap meaning c.in-Refused.is) in record { value = done.0; list_value = done.1 }
+pub returns-in-Err : goal.returns-in-Err
+returns-in-Err c = let done = told_refused map_list c.args.list.now (ap meaning c.in-Err.is) in record { value = c.from.ensures ∙ done.0; list_value = done.1 }
 
-pub returns-in-Accepted : goal.returns-in-Accepted
-returns-in-Accepted c = let done = told_accepted map_list c.args.list.now (ap meaning c.in-Accepted.is) (next c.count.ensures (next c.count-in-Accepted.ensures end)) c.put.ensures.value c.put.ensures.list_value in record { value = done.0; list_value = done.1 }
+pub returns-in-Ok : goal.returns-in-Ok
+returns-in-Ok c = let done = told_accepted map_list c.args.list.now (ap meaning c.in-Ok.is) (next c.from-in-Ok.ensures (next c.from-in-Ok-2.ensures end)) c.put.ensures.value c.put.ensures.list_value in record { value = done.0; list_value = done.1 }

@@ -1,7 +1,6 @@
 -- `capi_levels::calls_levels::rooted_levels` meets its contract: the call is `levels::rooted_levels`. Assumes nothing.
 use mathlib.Core.Path.{refl, ap, ◌∙◌}
 use Prim.Native.Nat.{ℕ}
-use borrow.Author.Rules.{rules}
 use borrow.Author.Tests.{lt-ltb, le-ltb}
 use Rattle.spec.specs.Refusal.{◌or_else◌}
 use Rattle.capi_figures.specs.Figures.{answer_c, lent_c, figures_c}

@@ -2,7 +2,6 @@
 -- named, so that another in its place is refused by what it ensures. Assumes nothing.
 use mathlib.Core.Path.{refl, ap, ◌∙◌}
 use Prim.Native.Nat.{ℕ}
-use borrow.Author.Rules.{rules}
 use borrow.Author.Tests.{lt-ltb}
 use Rattle.spec.specs.Refusal.{◌or_else◌}
 use Rattle.capi_figures.specs.Figures.{answer_c, lent_c, figures_c}

@@ -11,4 +11,4 @@ word_at-requires c = omega (arith, (header_good c.args.file.now c.requires).0)
 pub returns : goal.returns
 returns c =
     let F = c.args.file.now in
-    c.wide.ensures ∙ c.word_at.ensures ∙ sym (nodes_is F (header_good F c.requires).0)
+    c.from.ensures ∙ c.word_at.ensures ∙ sym (nodes_is F (header_good F c.requires).0)

@@ -8,7 +8,7 @@ use lib.Seq.{length-take-le}
 use Rattle.basis.specs.Lists.{overwrite}
 use Rattle.spec.specs.Graph.{size_of}
 use Rattle.spec.specs.Numbering.{part_results, run}
-use Rattle.graph_words.proofs.Unknowns.{unknowns_total}
+use Rattle.graph_words.proofs.Unknowns.{unknowns_kept}
 use Rattle.file_writing.specs.Figures.{figures_of}
 use Rattle.file_renumbering.proofs.Texts.{Found, starts, front, sizes, passes_stay, passes_front, text_is, text_fits}
 use Rattle.file_renumbering.proofs.legal.renumber.Goals as goal
@@ -16,10 +16,8 @@ use Rattle.file_renumbering.proofs.legal.renumber.Goals as goal
 pub overflow_sub-n : goal.overflow_sub-n
 overflow_sub-n c = omega (arith, (starts c.args.starts.now c.args.neighbours.now c.requires.neighbours_value).count)
 
-pub unknowns-total-requires : goal.unknowns-total-requires
-unknowns-total-requires c =
-    let few : size_of c.args.starts.now ≤ 4096 = (starts c.args.starts.now c.args.neighbours.now c.requires.neighbours_value).few in
-    few
+pub unknowns-requires : goal.unknowns-requires
+unknowns-requires c = (starts c.args.starts.now c.args.neighbours.now c.requires.neighbours_value).few
 
 pub slice_bounds-x-end : goal.slice_bounds-x-end
 slice_bounds-x-end c =
@@ -55,11 +53,10 @@ pub number_all-f-requires : goal.number_all-f-requires
 number_all-f-requires c =
     let few : size_of c.args.starts.now ≤ 4096 = (starts c.args.starts.now c.args.neighbours.now c.requires.neighbours_value).few in
     let part : (l : List ℕ) → 4096 ≤ length l → length (take (size_of c.args.starts.now) l) ≡ size_of c.args.starts.now = λ l h. front c.args.starts.now c.args.neighbours.now c.requires.neighbours_value l h in
-    let ok = c.requires.counts_value in
     let x = part c.args.numbers.now c.requires.max_nodes_in_bounds.1.numbers_fit in
     let l = part c.args.levels.now c.requires.max_nodes_in_bounds.1.levels-fit in
     let p = part c.args.passes.now c.requires.max_nodes_in_bounds.1.passes_fit in
-    record { neighbours_value = c.requires.neighbours_value; counts_value = (ok, unknowns_total (size_of c.args.starts.now) c.args.counts.now ok c.unknowns-total.ensures); numbers_len = (x, l, p); starts_in_bounds = omega (arith, few, c.requires.max_nodes_in_bounds.0) }
+    record { neighbours_value = c.requires.neighbours_value; counts_value = unknowns_kept (size_of c.args.starts.now) c.args.counts.now c.unknowns.ensures c.unwrap-total.ensures; numbers_len = (x, l, p); starts_in_bounds = omega (arith, few, c.requires.max_nodes_in_bounds.0) }
 
 pub slice_bounds-write_listing-end : goal.slice_bounds-write_listing-end
 unfolding run part_results

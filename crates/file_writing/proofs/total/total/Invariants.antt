@@ -1,11 +1,6 @@
 -- `file_writing::total::total` meets its contract: the first i words are summed. Assumes nothing.
-use Prim.Native.Nat.{◌-◌}
-use lib.ListN.{length}
 use Rattle.file_writing.proofs.Totals.{Totalled}
 use Rattle.file_writing.proofs.total.total.Given as goal
 
-abbrev pub invariant-loop-i : goal.invariant-loop-i
-invariant-loop-i l = Totalled l.passes l.i l.sum
-
-abbrev pub decreases-loop-i : goal.decreases-loop-i
-decreases-loop-i l = length l.passes - l.i
+abbrev pub invariant-loop-x : goal.invariant-loop-x
+invariant-loop-x l = Totalled l.passes l.x-index l.sum

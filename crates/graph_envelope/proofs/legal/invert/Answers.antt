@@ -6,14 +6,6 @@ use lib.ListN.{length, length-replicate}
 use Rattle.laws.proofs.Lent.{zeroed-all}
 use Rattle.graph_envelope.proofs.legal.invert.Goals as goal
 
-pub returns-then-settle : goal.returns-then-settle
-returns-then-settle c = record { value = sym c.if-settle.true ∙ c.settle.ensures.value; scratch_value_2 = c.settle.ensures.order_value_2 c.if-settle.true }
-
-pub clear-requires : goal.clear-requires
-clear-requires c =
-    let long : length c.settle.new.order ≡ length c.args.numbering.now = omega (arith, c.settle.auto.order, ap length c.requires.scratch_value, length-replicate {A = ℕ} (length c.args.numbering.now) 0) in
-    omega (arith, long)
-
 pub returns : goal.returns
 returns c =
     let long : length c.settle.new.order ≡ length c.args.numbering.now = omega (arith, c.settle.auto.order, ap length c.requires.scratch_value, length-replicate {A = ℕ} (length c.args.numbering.now) 0) in

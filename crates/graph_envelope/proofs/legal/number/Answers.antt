@@ -5,4 +5,4 @@ use Rattle.laws.proofs.Legal.{of_node-at}
 use Rattle.graph_envelope.proofs.legal.number.Goals as goal
 
 pub returns : goal.returns
-returns c = c.wide.ensures ∙ sym (of_node-at c.args.numbering.now c.args.p (omega arith))
+returns c = c.from.ensures ∙ sym (of_node-at c.args.numbering.now c.args.p (omega arith))

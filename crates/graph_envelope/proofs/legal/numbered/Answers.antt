@@ -4,7 +4,6 @@ use mathlib.Core.Path.{◌≡◌, sym, ap, ◌∙◌}
 use mathlib.Core.Bool.{cond}
 use native.Mathlib.Omega.{arith}
 use lib.ListN.{length, take, replicate}
-use lib.Seq.{length-take-le}
 use Rattle.spec.specs.Measures.{is_numbering, order_of}
 use Rattle.laws.proofs.Lent.{zeroed-front}
 use Rattle.graph_envelope.proofs.Lent.{misfit, lent_back}
@@ -12,9 +11,6 @@ use Rattle.graph_envelope.proofs.legal.numbered.Goals as goal
 
 pub returns-then-numbering-n : goal.returns-then-numbering-n
 returns-then-numbering-n c = record { value = sym (misfit c.args.n c.args.numbering.now c.if-numbering-n.true); scratch_value = c.clear.ensures }
-
-pub slice_bounds-invert-end-2 : goal.slice_bounds-invert-end-2
-slice_bounds-invert-end-2 c = sym (length-take-le c.args.n c.clear.new.words (omega (arith, c.clear.auto.words, c.requires)))
 
 pub invert-requires : goal.invert-requires
 invert-requires c =

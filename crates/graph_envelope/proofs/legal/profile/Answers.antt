@@ -1,39 +1,43 @@
 -- `graph_envelope::legal::profile` meets its contract: the spans of the nodes passed are summed. Assumes nothing.
-use Prim.Native.Nat.{◌+◌, ◌≤◌}
-use mathlib.Core.Path.{◌≡◌, refl, ap, ◌∙◌}
+use Prim.Native.Nat.{◌-◌}
+use mathlib.Core.Path.{◌≡◌, ap, ◌∙◌}
 use native.Mathlib.Omega.{arith}
-use Rattle.spec.specs.Graph.{size_of, graph_of}
+use Rattle.spec.specs.Graph.{size_of, graph_of, of_node}
+use Rattle.spec.specs.Measures.{renumbered, row_span}
 use Rattle.laws.specs.Legal.{Node}
-use Rattle.laws.proofs.Numberings.{numbering_length}
-use Rattle.graph_envelope.proofs.Envelope.{spans, spans_more, spans_all, span_most}
+use Rattle.graph_envelope.proofs.Envelope.{spans, spans_all, span_most}
+use Rattle.graph_envelope.proofs.Folds.{sum_next}
 use Rattle.graph_envelope.proofs.legal.profile.Goals as goal
-
-pub loop-p-init : goal.loop-p-init
-loop-p-init c = record { inside = omega arith; nodes = numbering_length _ _ c.requires.numbering_value; small = omega arith; sum_is = refl }
-
-pub span-sum-requires : goal.span-sum-requires
-span-sum-requires c =
-    let next : Node (graph_of c.args.starts.now c.args.neighbours.now) (c.loop-p.p + 1) = record { low = omega arith; high = omega arith } in
-    record { starts = c.requires.starts; legal_graph = c.requires.legal_graph; numbering_value = c.requires.numbering_value; node = next }
 
 pub overflow_add-sum : goal.overflow_add-sum
 overflow_add-sum c =
-    let next : Node (graph_of c.args.starts.now c.args.neighbours.now) (c.loop-p.p + 1) = record { low = omega arith; high = omega arith } in
-    let short : c.span-sum.result ≤ 4096 = omega (arith, c.span-sum.ensures, c.requires.starts.few, span_most c.requires.legal_graph c.args.numbering.now c.requires.numbering_value (c.loop-p.p + 1) next) in
-    omega (arith, short, c.requires.starts.few)
+    let N : Node (graph_of c.args.starts.now c.args.neighbours.now) c.loop-p.p = record { low = c.loop-p.auto.p; high = omega arith } in
+    omega (
+      arith,
+      c.span-sum.ensures,
+      span_most c.requires.legal_graph c.args.numbering.now c.requires.numbering_value c.loop-p.p N,
+      c.loop-p.invariant.small,
+      c.requires.starts.few,
+    )
 
 pub loop-p-preserved : goal.loop-p-preserved
 loop-p-preserved c =
-    let next : Node (graph_of c.args.starts.now c.args.neighbours.now) (c.loop-p.p + 1) = record { low = omega arith; high = omega arith } in
-    let short : c.span-sum.result ≤ 4096 = omega (arith, c.span-sum.ensures, c.requires.starts.few, span_most c.requires.legal_graph c.args.numbering.now c.requires.numbering_value (c.loop-p.p + 1) next) in
+    let g = graph_of c.args.starts.now c.args.neighbours.now in
+    let x = c.args.numbering.now in
+    let N : Node g c.loop-p.p = record { low = c.loop-p.auto.p; high = omega arith } in
     record {
-      inside = omega arith;
-      nodes = c.loop-p.invariant.nodes;
-      small = omega (arith, short);
-      sum_is = spans_more (graph_of c.args.starts.now c.args.neighbours.now) c.args.numbering.now c.loop-p.p c.loop-p.invariant.sum_is c.span-sum.ensures;
+      small = omega (
+        arith,
+        c.span-sum.ensures,
+        span_most c.requires.legal_graph x c.requires.numbering_value c.loop-p.p N,
+        c.loop-p.invariant.small,
+        c.loop-p.auto.p,
+        c.requires.starts.few,
+      );
+      sum_is = sum_next (λ a. row_span (renumbered g x) (of_node x a)) c.loop-p.p c.loop-p.auto.p c.loop-p.invariant.sum_is c.span-sum.ensures;
     }
 
 pub returns : goal.returns
 returns c =
-    let e : c.loop-p.p ≡ size_of c.args.starts.now = omega arith in
+    let e : c.loop-p.p - 1 ≡ size_of c.args.starts.now = omega arith in
     c.loop-p.invariant.sum_is ∙ ap (spans (graph_of c.args.starts.now c.args.neighbours.now) c.args.numbering.now) e ∙ spans_all c.requires.legal_graph c.args.numbering.now c.requires.numbering_value

@@ -2,20 +2,14 @@
 use Prim.Native.Nat.{ℕ, ◌-◌, ◌*◌, ◌≤◌}
 use mathlib.Core.Path.{◌≡◌}
 use mathlib.Core.List.{List}
-use lib.ListN.{length}
-use Rattle.spec.specs.Graph.{Graph, size_of, graph_of}
+use Rattle.spec.specs.Graph.{Graph, graph_of}
 use Rattle.graph_envelope.proofs.Envelope.{spans}
 use Rattle.graph_envelope.proofs.legal.profile.Given as goal
 
--- after p nodes of the n: the sum of their spans
-pub record Summed (g : Graph) (x : List ℕ) (n sum p : ℕ) : Type 0 where
-  pub inside : p ≤ length x
-  pub nodes : length x ≡ n
-  pub small : sum ≤ 4096 * p
-  pub sum_is : sum ≡ spans g x p
+-- after the nodes before p: the sum of their spans
+pub record Summed (g : Graph) (x : List ℕ) (sum p : ℕ) : Type 0 where
+  pub small : sum ≤ 4096 * (p - 1)
+  pub sum_is : sum ≡ spans g x (p - 1)
 
 abbrev pub invariant-loop-p : goal.invariant-loop-p
-invariant-loop-p l = Summed (graph_of l.starts l.neighbours) l.numbering (size_of l.starts) l.sum l.p
-
-abbrev pub decreases-loop-p : goal.decreases-loop-p
-decreases-loop-p l = length l.numbering - l.p
+invariant-loop-p l = Summed (graph_of l.starts l.neighbours) l.numbering l.sum l.p

@@ -1,26 +1,15 @@
--- `graph_words::legal::clear` meets its contract: the words passed are 0, the others as they were. Assumes nothing.
-use Prim.Native.Nat.{ℕ}
+-- `graph_words::legal::clear` meets its contract: the front is filled with 0, the rest is as it was. Assumes nothing.
+use mathlib.Core.Path.{◌≡◌, sym, ap, ◌∙◌}
 use mathlib.Core.List.{List, ◌++◌}
-use mathlib.Core.Path.{◌≡◌, refl, sym, ◌∙◌, ap}
-use native.Mathlib.Omega.{arith}
-use borrow.Author.Fill.{fill_more}
-use lib.ListN.{set, drop, replicate, length-set}
+use Prim.Native.Nat.{ℕ}
+use lib.ListN.{drop, replicate}
+use lib.Seq.{length-take-le}
 use Rattle.laws.proofs.Lent.{zeroed_is}
 use Rattle.graph_words.proofs.legal.clear.Goals as goal
-
-pub loop-i-preserved : goal.loop-i-preserved
-loop-i-preserved c =
-    let W = c.args.words.now in (
-      omega arith,
-      simp length-set (omega arith),
-      ap (λ (w : List ℕ). set w c.loop-i.i 0) c.loop-i.invariant.2 ∙ fill_more c.loop-i.i 0 W (omega arith),
-    )
 
 pub returns : goal.returns
 returns c =
     let W = c.args.words.now in
-    let e : c.loop-i.i ≡ c.args.n = omega arith in
-    c.loop-i.invariant.2 ∙ ap (λ (k : ℕ). replicate k 0 ++ drop k W) e ∙ sym (zeroed_is c.args.n W)
-
-pub loop-i-init : goal.loop-i-init
-loop-i-init c = (omega arith, refl, refl)
+    let n = c.args.n in
+    let front : c.fill.new.self ≡ replicate n 0 = c.fill.ensures.after (λ y e. e) ∙ ap (λ (k : ℕ). replicate k 0) (length-take-le n W c.requires) in
+    ap (λ (l : List ℕ). l ++ drop n W) front ∙ sym (zeroed_is n W)

@@ -1,10 +1,6 @@
 -- `graph_words::legal::erase` meets its contract: what remains of the list does the rest. Assumes nothing.
-use Prim.Native.Nat.{◌-◌}
 use Rattle.graph_words.proofs.Erasing.{Erasing}
 use Rattle.graph_words.proofs.legal.erase.Given as goal
 
 abbrev pub invariant-loop-i : goal.invariant-loop-i
 invariant-loop-i l = Erasing l.base l.at l.count l.initial.words l.words l.i
-
-abbrev pub decreases-loop-i : goal.decreases-loop-i
-decreases-loop-i l = l.count - l.i

@@ -1,10 +1,6 @@
 -- `graph_words::legal::unknowns` meets its contract: the counts passed are tested and added up. Assumes nothing.
-use Prim.Native.Nat.{◌-◌}
 use Rattle.graph_words.proofs.Unknowns.{Totalling}
 use Rattle.graph_words.proofs.legal.unknowns.Given as goal
 
-abbrev pub invariant-loop-p : goal.invariant-loop-p
-invariant-loop-p l = Totalling l.n l.counts l.total l.strays l.p
-
-abbrev pub decreases-loop-p : goal.decreases-loop-p
-decreases-loop-p l = l.n - l.p
+abbrev pub invariant-loop-c : goal.invariant-loop-c
+invariant-loop-c l = Totalling l.n l.counts l.total l.strays l.c-index

@@ -1,23 +1,7 @@
 -- `levels::legal::gather_part` meets its contract. Assumes nothing.
 use mathlib.Core.Path.{ap, ◌∙◌}
-use borrow.Author.Rules.{rules}
 use Rattle.levels.proofs.Gathered.{search_ask, collect_ask, wipe_ask, gathered_count, gathered-words}
 use Rattle.levels.proofs.legal.gather_part.Goals as goal
-
-pub overflow_sub-n : goal.overflow_sub-n
-overflow_sub-n c = search rules
-
-pub overflow_mul-n : goal.overflow_mul-n
-overflow_mul-n c = search rules
-
-pub slice_bounds-search-count : goal.slice_bounds-search-count
-slice_bounds-search-count c = search rules
-
-pub slice_bounds-search-start : goal.slice_bounds-search-start
-slice_bounds-search-start c = search rules
-
-pub slice_bounds-search-end : goal.slice_bounds-search-end
-slice_bounds-search-end c = search rules
 
 pub search-s-requires : goal.search-s-requires
 search-s-requires c = let done = search_ask c.args.starts.now c.args.neighbours.now c.args.node c.args.scratch.now c.requires.neighbours_value c.requires.le_node c.requires.starts_in_bounds c.requires.scratch_value in record { neighbours_value = done.0; le_root = done.1.0; root_len_bound = done.1.1.0; work_value = done.1.1.1 }
@@ -25,26 +9,8 @@ search-s-requires c = let done = search_ask c.args.starts.now c.args.neighbours.
 pub collect-count-requires : goal.collect-count-requires
 collect-count-requires c = collect_ask c.args.starts.now c.args.neighbours.now c.args.node c.args.scratch.now c.requires.neighbours_value c.requires.le_node c.requires.starts_in_bounds c.requires.scratch_value c.search-s.ensures.searched
 
-pub overflow_mul-n-2 : goal.overflow_mul-n-2
-overflow_mul-n-2 c = search rules
-
-pub slice_bounds-wipe-count : goal.slice_bounds-wipe-count
-slice_bounds-wipe-count c = search rules
-
-pub slice_bounds-wipe-start : goal.slice_bounds-wipe-start
-slice_bounds-wipe-start c = search rules
-
-pub slice_bounds-wipe-end : goal.slice_bounds-wipe-end
-slice_bounds-wipe-end c = search rules
-
-pub wide-requires : goal.wide-requires
-wide-requires c = search rules
-
 pub wipe-requires : goal.wipe-requires
-wipe-requires c = wipe_ask c.args.starts.now c.args.neighbours.now c.args.node c.args.scratch.now c.requires.neighbours_value c.requires.le_node c.requires.starts_in_bounds c.requires.scratch_value c.search-s.ensures.searched c.collect-count.ensures.value c.collect-count.ensures.scratch_value (c.wide.ensures ∙ ap (λ r. r.reached) c.search-s.ensures.value)
-
-pub shape_of-scratch : goal.shape_of-scratch
-shape_of-scratch c = search rules
+wipe-requires c = wipe_ask c.args.starts.now c.args.neighbours.now c.args.node c.args.scratch.now c.requires.neighbours_value c.requires.le_node c.requires.starts_in_bounds c.requires.scratch_value c.search-s.ensures.searched c.collect-count.ensures.value c.collect-count.ensures.scratch_value (c.from.ensures ∙ ap (λ r. r.reached) c.search-s.ensures.value)
 
 pub returns : goal.returns
 returns c = record { value = gathered_count c.args.starts.now c.args.neighbours.now c.args.node c.args.scratch.now c.requires.neighbours_value c.requires.le_node c.requires.starts_in_bounds c.requires.scratch_value c.search-s.ensures.searched c.collect-count.ensures.value c.collect-count.ensures.scratch_value; scratch_value_2 = gathered-words c.args.starts.now c.args.neighbours.now c.args.node c.args.scratch.now c.requires.neighbours_value c.requires.le_node c.requires.starts_in_bounds c.requires.scratch_value c.search-s.ensures.searched c.collect-count.ensures.value c.collect-count.ensures.scratch_value c.wipe.ensures }

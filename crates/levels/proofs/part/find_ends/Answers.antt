@@ -1,102 +1,46 @@
 -- `levels::part::find_ends` meets its contract. Assumes nothing.
 use mathlib.Core.Path.{◌≡◌, ap, ◌∙◌}
 use mathlib.Core.List.{List, ◌++◌}
-use Prim.Native.Nat.{ℕ, ◌+◌, ◌-◌, ◌*◌}
+use Prim.Native.Nat.{ℕ, ◌+◌, ◌*◌}
 use native.Mathlib.Omega.{arith}
-use lib.ListN.{length, take, drop, take-append-drop}
-use borrow.Author.Rules.{rules}
-use borrow.Rule.Slice.PartMut.{post_of}
+use lib.ListN.{take, drop, take-append-drop}
 use Rattle.spec.specs.Graph.{graph_of, size_of}
 use Rattle.spec.specs.Lent.{zeroed, words_per_node}
 use Rattle.laws.specs.Legal.{Node}
 use Rattle.laws.proofs.Lent.{zeroed_behind}
-use Rattle.laws.proofs.Refused.{passed, starts_of_lem}
 use Rattle.levels_ends.specs.Passes.{half}
-use Rattle.levels_ends.proofs.Areas.{front-lent, front-back}
 use Rattle.levels.proofs.Firsts.{first_range, first-own}
 use Rattle.levels.proofs.Scratch.{zero_front, behind_front, zeroed_again}
-use Rattle.levels.proofs.Widths.{alone_ask, alone_ends, room_back}
+use Rattle.levels.proofs.Widths.{alone_ask, alone_ends}
 use Rattle.levels.proofs.part.find_ends.Goals as goal
-
-pub overflow_sub-n : goal.overflow_sub-n
-overflow_sub-n c = search rules
-
-pub overflow_add-half : goal.overflow_add-half
-overflow_add-half c = search rules
-
-pub overflow_mul-n : goal.overflow_mul-n
-overflow_mul-n c = search rules
-
-pub clear-requires : goal.clear-requires
-clear-requires c = search rules
-
-pub slice_bounds-first_of_part-count : goal.slice_bounds-first_of_part-count
-slice_bounds-first_of_part-count c = search rules
-
-pub slice_bounds-first_of_part-start : goal.slice_bounds-first_of_part-start
-slice_bounds-first_of_part-start c = search rules
-
-pub slice_bounds-first_of_part-end : goal.slice_bounds-first_of_part-end
-slice_bounds-first_of_part-end c = search rules
 
 pub first_of_part-v-requires : goal.first_of_part-v-requires
 first_of_part-v-requires c =
     let h : ℕ = half c.args.starts.now in
-    record { neighbours_value = c.requires.neighbours_value; le_node = c.requires.le_node; work_value = front-lent h c.clear.new.words ∙ ap (take h) c.clear.ensures ∙ zero_front h (words_per_node * size_of c.args.starts.now) c.args.scratch.now (omega arith) }
-
-pub overflow_add-half-2 : goal.overflow_add-half-2
-overflow_add-half-2 c = search rules
-
-pub slice_bounds-ends_from-count : goal.slice_bounds-ends_from-count
-slice_bounds-ends_from-count c = search rules
-
-pub slice_bounds-ends_from-start : goal.slice_bounds-ends_from-start
-slice_bounds-ends_from-start c = search rules
-
-pub slice_bounds-ends_from-end : goal.slice_bounds-ends_from-end
-slice_bounds-ends_from-end c = search rules
+    record { neighbours_value = c.requires.neighbours_value; le_node = c.requires.le_node; work_value = ap (take h) c.clear.ensures ∙ zero_front h (words_per_node * size_of c.args.starts.now) c.args.scratch.now (omega arith) }
 
 pub ends_from-f-requires : goal.ends_from-f-requires
 ends_from-f-requires c =
     let node : Node (graph_of c.args.starts.now c.args.neighbours.now) c.args.node = record { low = c.requires.le_node.0; high = c.requires.le_node.1 } in
-    let words_are : (c.first_of_part-v.new.work ++ post_of 0 (half c.args.starts.now - 0) c.clear.new.words) ≡ zeroed (words_per_node * size_of c.args.starts.now) c.args.scratch.now = let h : ℕ = half c.args.starts.now in
-    front-back h c.clear.new.words c.first_of_part-v.new.work
-    ∙ ap (λ (l : List ℕ). l ++ drop h c.clear.new.words) (c.first_of_part-v.ensures.work_value_2 ∙ front-lent h c.clear.new.words)
+    let words_are : (c.first_of_part-v.new.work ++ drop (half c.args.starts.now) c.clear.new.words) ≡ zeroed (words_per_node * size_of c.args.starts.now) c.args.scratch.now = let h : ℕ = half c.args.starts.now in
+    ap (λ (l : List ℕ). l ++ drop h c.clear.new.words) c.first_of_part-v.ensures.work_value_2
     ∙ take-append-drop h c.clear.new.words ∙ c.clear.ensures in
     let h : ℕ = half c.args.starts.now in
-    let e = c.first_of_part-v.ensures.value in record { neighbours_value = c.requires.neighbours_value; le_first = first_range c.args.starts.now c.args.neighbours.now c.requires.neighbours_value node e; first_value = first-own c.args.starts.now c.args.neighbours.now c.requires.neighbours_value node e; work_value = front-lent (h + h) (c.first_of_part-v.new.work ++ post_of 0 (half c.args.starts.now - 0) c.clear.new.words) ∙ ap (take (h + h)) words_are ∙ zero_front (h + h) (words_per_node * size_of c.args.starts.now) c.args.scratch.now (omega arith) }
+    let e = c.first_of_part-v.ensures.value in record { neighbours_value = c.requires.neighbours_value; le_first = first_range c.args.starts.now c.args.neighbours.now c.requires.neighbours_value node e; first_value = first-own c.args.starts.now c.args.neighbours.now c.requires.neighbours_value node e; work_value = ap (take (h + h)) words_are ∙ zero_front (h + h) (words_per_node * size_of c.args.starts.now) c.args.scratch.now (omega arith) }
 
 pub end_widths-w-requires : goal.end_widths-w-requires
 end_widths-w-requires c =
     let node : Node (graph_of c.args.starts.now c.args.neighbours.now) c.args.node = record { low = c.requires.le_node.0; high = c.requires.le_node.1 } in
-    let words_are : (c.first_of_part-v.new.work ++ post_of 0 (half c.args.starts.now - 0) c.clear.new.words) ≡ zeroed (words_per_node * size_of c.args.starts.now) c.args.scratch.now = let h : ℕ = half c.args.starts.now in
-    front-back h c.clear.new.words c.first_of_part-v.new.work
-    ∙ ap (λ (l : List ℕ). l ++ drop h c.clear.new.words) (c.first_of_part-v.ensures.work_value_2 ∙ front-lent h c.clear.new.words)
+    let words_are : (c.first_of_part-v.new.work ++ drop (half c.args.starts.now) c.clear.new.words) ≡ zeroed (words_per_node * size_of c.args.starts.now) c.args.scratch.now = let h : ℕ = half c.args.starts.now in
+    ap (λ (l : List ℕ). l ++ drop h c.clear.new.words) c.first_of_part-v.ensures.work_value_2
     ∙ take-append-drop h c.clear.new.words ∙ c.clear.ensures in
     let done = alone_ask c.args.starts.now c.args.neighbours.now c.requires.neighbours_value node c.first_of_part-v.ensures.value c.ends_from-f.ensures.value c.ends_from-f.ensures.ended c.args.scratch.now words_are c.requires.starts_in_bounds in record { listable = done.0; listable_2 = done.1 }
-
-pub overflow_mul-n-2 : goal.overflow_mul-n-2
-overflow_mul-n-2 c = omega (arith, (starts_of_lem (passed c.args.starts.now c.args.neighbours.now c.requires.neighbours_value)).few)
-
-pub clear-requires-2 : goal.clear-requires-2
-clear-requires-2 c =
-    let node : Node (graph_of c.args.starts.now c.args.neighbours.now) c.args.node = record { low = c.requires.le_node.0; high = c.requires.le_node.1 } in
-    let words_are : (c.first_of_part-v.new.work ++ post_of 0 (half c.args.starts.now - 0) c.clear.new.words) ≡ zeroed (words_per_node * size_of c.args.starts.now) c.args.scratch.now = let h : ℕ = half c.args.starts.now in
-    front-back h c.clear.new.words c.first_of_part-v.new.work
-    ∙ ap (λ (l : List ℕ). l ++ drop h c.clear.new.words) (c.first_of_part-v.ensures.work_value_2 ∙ front-lent h c.clear.new.words)
-    ∙ take-append-drop h c.clear.new.words ∙ c.clear.ensures in
-    let r = room_back c.args.starts.now c.args.neighbours.now c.requires.neighbours_value node c.first_of_part-v.ensures.value c.ends_from-f.ensures.value c.ends_from-f.ensures.ended c.args.scratch.now words_are c.requires.starts_in_bounds in
-    omega (arith, r, ap length c.end_widths-w.ensures.scratch_value)
-
-pub shape_of-scratch : goal.shape_of-scratch
-shape_of-scratch c = search rules
 
 pub returns : goal.returns
 returns c =
     let node : Node (graph_of c.args.starts.now c.args.neighbours.now) c.args.node = record { low = c.requires.le_node.0; high = c.requires.le_node.1 } in
-    let words_are : (c.first_of_part-v.new.work ++ post_of 0 (half c.args.starts.now - 0) c.clear.new.words) ≡ zeroed (words_per_node * size_of c.args.starts.now) c.args.scratch.now = let h : ℕ = half c.args.starts.now in
-    front-back h c.clear.new.words c.first_of_part-v.new.work
-    ∙ ap (λ (l : List ℕ). l ++ drop h c.clear.new.words) (c.first_of_part-v.ensures.work_value_2 ∙ front-lent h c.clear.new.words)
+    let words_are : (c.first_of_part-v.new.work ++ drop (half c.args.starts.now) c.clear.new.words) ≡ zeroed (words_per_node * size_of c.args.starts.now) c.args.scratch.now = let h : ℕ = half c.args.starts.now in
+    ap (λ (l : List ℕ). l ++ drop h c.clear.new.words) c.first_of_part-v.ensures.work_value_2
     ∙ take-append-drop h c.clear.new.words ∙ c.clear.ensures in
     let h : ℕ = half c.args.starts.now in
     let m : ℕ = words_per_node * size_of c.args.starts.now in
@@ -105,6 +49,6 @@ returns c =
       value = alone_ends c.args.starts.now c.args.neighbours.now c.requires.neighbours_value node c.first_of_part-v.ensures.value c.ends_from-f.ensures.value c.ends_from-f.ensures.ended c.args.scratch.now words_are c.requires.starts_in_bounds c.end_widths-w.ensures.v_value c.end_widths-w.ensures.u_value;
       scratch_value = c.clear-2.ensures
           ∙ zeroed_again m c.end_widths-w.new.scratch c.args.scratch.now
-          (ap (drop m) (c.end_widths-w.ensures.scratch_value ∙ front-back (h + h) (c.first_of_part-v.new.work ++ post_of 0 (half c.args.starts.now - 0) c.clear.new.words) Y) ∙ behind_front (h + h) m Y (c.first_of_part-v.new.work ++ post_of 0 (half c.args.starts.now - 0) c.clear.new.words) c.ends_from-f.ensures.ended.full (omega arith)
+          (ap (drop m) c.end_widths-w.ensures.scratch_value ∙ behind_front (h + h) m Y (c.first_of_part-v.new.work ++ drop (half c.args.starts.now) c.clear.new.words) c.ends_from-f.ensures.ended.full (omega arith)
           ∙ ap (drop m) words_are ∙ zeroed_behind m c.args.scratch.now);
     }

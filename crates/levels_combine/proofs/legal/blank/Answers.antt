@@ -1,31 +1,25 @@
--- `levels_combine::legal::blank` meets its contract. Assumes nothing.
+-- `levels_combine::legal::blank` meets its contract: what is filled stands in the place of what was there. Assumes nothing.
+use mathlib.Core.Path.{◌≡◌, sym, ap, ◌∙◌}
+use mathlib.Core.List.{List, ◌++◌}
+use Prim.Native.Nat.{ℕ, ◌+◌, ◌-◌, ◌≤◌}
 use native.Mathlib.Omega.{arith}
-use Rattle.levels_laws.proofs.Blank.{blank_begin, blank_step, blank_size, blank_done}
+use lib.ListN.{length, take, drop, replicate, length-replicate, length-drop}
+use lib.Seq.{sets, sets-eq, drop-drop, length-take-le}
+use Rattle.std.proofs.Common.{append_assoc}
 use Rattle.levels_combine.proofs.legal.blank.Goals as goal
 
-pub loop-i-init : goal.loop-i-init
-loop-i-init c = blank_begin c.requires
-
-pub overflow_add-scratch : goal.overflow_add-scratch
-overflow_add-scratch c = let I = c.loop-i.invariant in omega (arith, c.loop-i.invariant.room, blank_size I)
-
-pub offset_bounds-scratch-a : goal.offset_bounds-scratch-a
-offset_bounds-scratch-a c = let I = c.loop-i.invariant in omega (arith, c.loop-i.invariant.room, blank_size I)
-
-pub bounds-scratch-a : goal.bounds-scratch-a
-bounds-scratch-a c = let I = c.loop-i.invariant in omega (arith, c.loop-i.invariant.room, blank_size I)
-
-pub overflow_add-i : goal.overflow_add-i
-overflow_add-i c = omega arith
-
-pub loop-i-smaller : goal.loop-i-smaller
-loop-i-smaller c = omega arith
-
-pub loop-i-preserved : goal.loop-i-preserved
-loop-i-preserved c = blank_step c.loop-i.invariant c.loop-i-test.true
-
-pub shape_of-scratch : goal.shape_of-scratch
-shape_of-scratch c = blank_size c.loop-i.invariant
+-- Y, which are k zeros, in the place of the k words from a on
+filled : (a k m : ℕ) (W Y : List ℕ) → a + m ≤ length W → k ≡ m → Y ≡ replicate (length (take k (drop a W))) 0
+    → take a W ++ (Y ++ drop k (drop a W)) ≡ sets W a (replicate m 0)
+filled a k m W Y r e y =
+    let zeros : List ℕ = replicate m 0 in
+    let count : length zeros ≡ m = length-replicate {A = ℕ} m 0 in
+    let size : length (take k (drop a W)) ≡ m = length-take-le k (drop a W) (omega (arith, length-drop a W)) ∙ e in
+    let front : Y ≡ zeros = y ∙ ap (λ (i : ℕ). replicate i 0) size in
+    let end : a + k ≡ a + length zeros = omega arith in
+    let rest : drop k (drop a W) ≡ drop (a + length zeros) W = drop-drop k a W ∙ ap (λ (i : ℕ). drop i W) end in
+    (λ i. take a W ++ (front i ++ rest i)) ∙ sym (append_assoc (take a W) zeros (drop (a + length zeros) W))
+    ∙ sym (sets-eq zeros W a (omega arith))
 
 pub returns : goal.returns
-returns c = blank_done c.loop-i.invariant c.loop-i-test.false
+returns c = filled c.args.a (c.args.a + c.args.count - c.args.a) c.args.count c.args.scratch.now c.fill.new.self c.requires (omega arith) (c.fill.ensures.after (λ y e. e))

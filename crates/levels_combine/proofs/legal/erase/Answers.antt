@@ -5,7 +5,6 @@ use Prim.Native.Nat.{ℕ, ◌+◌, ◌-◌, ◌*◌, ◌≤◌}
 use native.Mathlib.Nat.{le_refl}
 use native.Mathlib.Omega.{arith}
 use lib.ListN.{take, drop}
-use borrow.Author.Rules.{rules}
 use Rattle.basis.specs.Lists.{memb}
 use Rattle.basis.specs.Stored.{stored, nought}
 use Rattle.graph_words.specs.Erasable.{Erasable}
@@ -26,20 +25,8 @@ module _ {n from to : ℕ} {W : List ℕ} (A : Members n from to W) where
         (r.0, omega (arith, r.1));
   }
 
-pub overflow_mul-n : goal.overflow_mul-n
-overflow_mul-n c = omega (arith, c.requires.members.few)
-
-pub overflow_add-n : goal.overflow_add-n
-overflow_add-n c = omega (arith, c.requires.members.few, c.requires.members.order, c.requires.members.most)
-
-pub overflow_sub-to : goal.overflow_sub-to
-overflow_sub-to c = c.requires.members.order
-
 pub erase-requires : goal.erase-requires
 erase-requires c = ask c.requires.members c.args.base c.requires.n_bound
-
-pub shape_of-scratch : goal.shape_of-scratch
-shape_of-scratch c = search rules
 
 pub returns : goal.returns
 returns c = c.erase.ensures ∙ ap (stored c.args.base nought c.args.scratch.now) (is-list c.requires.members)

@@ -1,12 +1,6 @@
 -- `levels_combine::legal::level` meets its contract: each step asks what the steps before it have ensured. Assumes nothing.
-use native.Mathlib.Omega.{arith}
-use borrow.Author.Rules.{rules}
-use Rattle.laws.proofs.Refused.{passed, starts_of_lem}
 use Rattle.levels_laws.proofs.Level.{mirror_in, gather_in, settle_in, find_in, place_in_lem, level_in}
 use Rattle.levels_combine.proofs.legal.level.Goals as goal
-
-pub overflow_sub-n : goal.overflow_sub-n
-overflow_sub-n c = omega (arith, (starts_of_lem (passed c.args.starts.now c.args.neighbours.now c.requires.neighbours_value)).count)
 
 pub mirror-requires : goal.mirror-requires
 mirror-requires c = mirror_in c.args.scratch.now c.requires.entry_in c.requires.k_value
@@ -24,9 +18,6 @@ pub place_all-requires : goal.place_all-requires
 place_all-requires c =
     let done = place_in_lem c.args.scratch.now c.requires.entry_in c.requires.k_value c.mirror.new.scratch c.mirror.ensures c.gather-t.new.scratch c.gather-t.ensures.value c.gather-t.ensures.scratch_value c.settle.new.scratch c.settle.ensures.scratch_value c.settle.ensures.scratch_value_2
     c.find-m.new.scratch c.find-m.ensures c.requires.narrow_value in record { n_bound = done.0; placeable_all = done.1 }
-
-pub shape_of-scratch : goal.shape_of-scratch
-shape_of-scratch c = search rules
 
 pub returns : goal.returns
 returns c =

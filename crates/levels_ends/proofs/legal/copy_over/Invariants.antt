@@ -1,10 +1,6 @@
 -- `levels_ends::legal::copy_over` meets its contract: the loop is `Copying.antt`'s. Assumes nothing.
-use Prim.Native.Nat.{◌-◌}
 use Rattle.levels_ends.proofs.Copying.{Copying}
 use Rattle.levels_ends.proofs.legal.copy_over.Given as goal
 
 abbrev pub invariant-loop-i : goal.invariant-loop-i
 invariant-loop-i l = Copying l.n l.count l.initial.work l.work l.i
-
-abbrev pub decreases-loop-i : goal.decreases-loop-i
-decreases-loop-i l = l.count - l.i

@@ -4,11 +4,10 @@ use mathlib.Core.List.{List}
 use Prim.Native.Nat.{ℕ, ◌+◌, ◌*◌, ◌<◌}
 use native.Mathlib.Omega.{arith}
 use lib.ListN.{get_or}
-use borrow.Author.Rules.{rules}
 use Rattle.spec.specs.Graph.{graph_of, size_of}
 use Rattle.laws.proofs.Refused.{passed, starts_of_lem, not_refused}
 use Rattle.levels_laws.specs.Areas.{work_of, held_of}
-use Rattle.levels_laws.proofs.Areas.{member_read, view_room, view_size}
+use Rattle.levels_laws.proofs.Areas.{member_read, view_room}
 use Rattle.levels_laws.specs.Seek.{fresh_at}
 use Rattle.levels_laws.proofs.Discover.{Finding, finding_begin, shut_now}
 use Rattle.levels_laws.proofs.DiscoverStep.{z_node, finding_skip, finding_take}
@@ -37,56 +36,32 @@ overflow_sub-n c = omega (arith, (starts_of_lem (passed c.args.starts.now c.args
 pub loop-i-init : goal.loop-i-init
 loop-i-init c = loop-of c.args.scratch.now c.args.scratch.now (finding_begin (not_refused c.args.starts.now c.args.neighbours.now c.requires.neighbours_value) c.requires.findable_in)
 
-pub overflow_mul-z : goal.overflow_mul-z
-overflow_mul-z c = omega (arith, c.loop-i.invariant.few)
-
-pub overflow_add-z : goal.overflow_add-z
-overflow_add-z c = omega (arith, c.loop-i.invariant.few, c.loop-i.invariant.last)
-
-pub offset_bounds-scratch-n : goal.offset_bounds-scratch-n
-offset_bounds-scratch-n c = omega (arith, c.loop-i.invariant.few, c.loop-i.invariant.last)
-
-pub bounds-scratch-n : goal.bounds-scratch-n
-bounds-scratch-n c = omega (arith, c.loop-i.invariant.words, c.loop-i.invariant.last)
-
-pub wide-requires : goal.wide-requires
-wide-requires c = search rules
-
 pub fresh-requires : goal.fresh-requires
 fresh-requires c =
     let I = c.loop-i.invariant in
     let h = c.loop-i-test.true in
-    let N = z_node c.loop-i.invariant.on h (c.wide.ensures ∙ read I h) in
+    let N = z_node c.loop-i.invariant.on h (c.from.ensures ∙ read I h) in
     (c.loop-i.invariant.few, c.loop-i.invariant.words, N.low, omega (arith, N.high, c.loop-i.invariant.on.ask.is))
 
 pub grow-tail-requires : goal.grow-tail-requires
 grow-tail-requires c =
     let fresh_is : let n = size_of c.args.starts.now in fresh_at n (work_of n c.loop-i.scratch) (held_of n c.loop-i.scratch) (get_or c.loop-i.scratch (4 * n + c.loop-i.i) 0) ≡ c.fresh.result = let n = size_of c.args.starts.now in
-    sym (ap (fresh_at n (work_of n c.loop-i.scratch) (held_of n c.loop-i.scratch)) c.wide.ensures) ∙ sym c.fresh.ensures in
+    sym (ap (fresh_at n (work_of n c.loop-i.scratch) (held_of n c.loop-i.scratch)) c.from.ensures) ∙ sym c.fresh.ensures in
     let I = c.loop-i.invariant in
     let h = c.loop-i-test.true in
     record { neighbours_value = c.requires.neighbours_value; seek_in = c.loop-i.invariant.on.seek; node = z_node c.loop-i.invariant.on h (read I h); z_value = fresh_is ∙ c.if-fresh.true; shut_in = shut_now c.loop-i.invariant.on }
 
-pub overflow_add-m : goal.overflow_add-m
-overflow_add-m c = omega (arith, c.loop-i.invariant.few, c.loop-i.invariant.count)
-
-pub overflow_add-i : goal.overflow_add-i
-overflow_add-i c = omega arith
-
-pub loop-i-smaller : goal.loop-i-smaller
-loop-i-smaller c = omega arith
-
 pub loop-i-preserved : goal.loop-i-preserved
 loop-i-preserved c =
     let fresh_is : let n = size_of c.args.starts.now in fresh_at n (work_of n c.loop-i.scratch) (held_of n c.loop-i.scratch) (get_or c.loop-i.scratch (4 * n + c.loop-i.i) 0) ≡ c.fresh.result = let n = size_of c.args.starts.now in
-    sym (ap (fresh_at n (work_of n c.loop-i.scratch) (held_of n c.loop-i.scratch)) c.wide.ensures) ∙ sym c.fresh.ensures in
+    sym (ap (fresh_at n (work_of n c.loop-i.scratch) (held_of n c.loop-i.scratch)) c.from.ensures) ∙ sym c.fresh.ensures in
     let I = c.loop-i.invariant in
     let h = c.loop-i-test.true in
     let X₀ = c.args.scratch.now in
-    elim c.if-fresh.branch [ then-fresh w ↦ rw (w.scratch-is, w.tail-is, w.m-is) (loop-of X₀ w.grow-tail.new.scratch (finding_take c.loop-i.invariant.on h (read I h) (fresh_is ∙ w.if-fresh.true) w.grow-tail.ensures)) | else-fresh w ↦ rw (w.scratch-is, w.tail-is, w.m-is) (loop-of X₀ c.loop-i.scratch (finding_skip c.loop-i.invariant.on h (read I h) (fresh_is ∙ w.if-fresh.false))) ]
-
-pub shape_of-scratch : goal.shape_of-scratch
-shape_of-scratch c = view_size (size_of c.args.starts.now) c.args.scratch.now c.loop-i.scratch c.loop-i.invariant.on.beside.size c.loop-i.invariant.on.size
+    elim c.if-fresh.branch [
+      | then-fresh w ↦ rw (w.scratch-is, w.tail-is, w.m-is) (loop-of X₀ w.grow-tail.new.scratch (finding_take c.loop-i.invariant.on h (read I h) (fresh_is ∙ w.if-fresh.true) w.grow-tail.ensures))
+      | else-fresh w ↦ rw (w.scratch-is, w.tail-is, w.m-is) (loop-of X₀ c.loop-i.scratch (finding_skip c.loop-i.invariant.on h (read I h) (fresh_is ∙ w.if-fresh.false)))
+    ]
 
 pub returns : goal.returns
 returns c = finding_done c.loop-i.invariant.on c.loop-i-test.false

@@ -1,6 +1,6 @@
 -- `levels_pieces::legal::discover` meets its contract. Assumes nothing.
 use mathlib.Core.List.{List}
-use Prim.Native.Nat.{ℕ, ◌-◌, ◌*◌, ◌≤◌}
+use Prim.Native.Nat.{ℕ, ◌*◌, ◌≤◌}
 use lib.ListN.{length}
 use Rattle.spec.specs.Graph.{graph_of}
 use Rattle.levels_laws.specs.Areas.{work_of, held_of}
@@ -17,6 +17,3 @@ pub record Loop (S N X₀ : List ℕ) (from to n : ℕ) (X : List ℕ) (tail m i
 
 abbrev pub invariant-loop-i : goal.invariant-loop-i
 invariant-loop-i l = Loop l.starts l.neighbours l.initial.scratch l.from l.to l.n l.scratch l.tail l.m l.i
-
-abbrev pub decreases-loop-i : goal.decreases-loop-i
-decreases-loop-i l = l.to - l.i

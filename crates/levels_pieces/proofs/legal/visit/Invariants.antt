@@ -1,12 +1,7 @@
 -- `levels_pieces::legal::visit` meets its contract. Assumes nothing.
-use Prim.Native.Nat.{◌-◌}
-use lib.ListN.{length}
 use Rattle.levels_laws.specs.Areas.{work_of, held_of}
 use Rattle.levels_laws.proofs.Visit.{Visiting}
 use Rattle.levels_pieces.proofs.legal.visit.Given as goal
 
-abbrev pub invariant-loop-k : goal.invariant-loop-k
-invariant-loop-k l = Visiting l.n l.row (work_of l.n l.initial.scratch) (held_of l.n l.initial.scratch) l.tail (work_of l.n l.scratch) (held_of l.n l.scratch) l.t l.k
-
-abbrev pub decreases-loop-k : goal.decreases-loop-k
-decreases-loop-k l = length l.row - l.k
+abbrev pub invariant-loop-q : goal.invariant-loop-q
+invariant-loop-q l = Visiting l.n l.row (work_of l.n l.initial.scratch) (held_of l.n l.initial.scratch) l.tail (work_of l.n l.scratch) (held_of l.n l.scratch) l.t l.q-index

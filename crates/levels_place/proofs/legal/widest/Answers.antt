@@ -1,40 +1,21 @@
 -- `levels_place::legal::widest` meets its contract. Assumes nothing.
-use mathlib.Core.Path.{ap, ◌∙◌}
-use Prim.Native.Nat.{max}
+use mathlib.Core.Path.{◌≡◌, ap, ◌∙◌, subst}
+use mathlib.Core.List.{List}
+use Prim.Native.Nat.{ℕ, ◌+◌, ◌-◌, ◌*◌, ◌≤◌, max}
 use native.Mathlib.Omega.{arith}
-use borrow.Author.Rules.{rules}
-use Rattle.levels_laws.proofs.Widest.{top_begin, top-step, top_done}
+use lib.ListN.{get_or}
+use Rattle.levels_laws.proofs.Widest.{Topping, top-step, top_done}
 use Rattle.levels_place.proofs.legal.widest.Goals as goal
 
-pub loop-i-init : goal.loop-i-init
-loop-i-init c = top_begin c.requires.0 c.requires.1 c.requires.2
-
-pub overflow_add-i : goal.overflow_add-i
-overflow_add-i c = omega arith
-
-pub overflow_mul-n : goal.overflow_mul-n
-overflow_mul-n c = omega arith
-
-pub overflow_sub-n : goal.overflow_sub-n
-overflow_sub-n c = omega arith
-
-pub offset_bounds-scratch-n : goal.offset_bounds-scratch-n
-offset_bounds-scratch-n c = omega arith
-
-pub bounds-scratch-n : goal.bounds-scratch-n
-bounds-scratch-n c = omega arith
-
-pub wide-requires : goal.wide-requires
-wide-requires c = search rules
-
-pub larger-top-requires : goal.larger-top-requires
-larger-top-requires c = search rules
-
-pub loop-i-smaller : goal.loop-i-smaller
-loop-i-smaller c = omega arith
+-- a round by the level's number, which is one more than how many levels came before
+step : {n k : ℕ} {X : List ℕ} {top new i : ℕ} → Topping n k X top (i - 1) → 1 ≤ i → i ≤ k → new ≡ max top (get_or X (6 * n - i) 0) → Topping n k X new i
+step {n} {k} {X} {new = new} {i} I l h e = let b : i - 1 + 1 ≡ i = omega arith in subst (Topping n k X new) b (top-step I (omega arith) (rw b e))
 
 pub loop-i-preserved : goal.loop-i-preserved
-loop-i-preserved c = top-step c.loop-i.invariant c.loop-i-test.true (c.larger-top.ensures ∙ ap (max c.loop-i.top) c.wide.ensures)
+loop-i-preserved c =
+    let i = c.loop-i.i in
+    let b : i + 1 - 1 ≡ i = omega arith in
+    rw b (step c.loop-i.invariant c.loop-i.auto.i c.loop-i-test.true (c.max-top.ensures ∙ ap (max c.loop-i.top) c.from.ensures))
 
-pub returns : goal.returns
-returns c = top_done c.loop-i.invariant c.loop-i-test.false
+pub returns-2 : goal.returns-2
+returns-2 c = top_done (step c.loop-i.invariant c.loop-i.auto.i c.loop-i-test.true (c.max-top.ensures ∙ ap (max c.loop-i.top) c.from.ensures)) (omega arith)

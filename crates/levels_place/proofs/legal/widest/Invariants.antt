@@ -4,7 +4,4 @@ use Rattle.levels_laws.proofs.Widest.{Topping}
 use Rattle.levels_place.proofs.legal.widest.Given as goal
 
 abbrev pub invariant-loop-i : goal.invariant-loop-i
-invariant-loop-i l = Topping l.n l.k l.scratch l.top l.i
-
-abbrev pub decreases-loop-i : goal.decreases-loop-i
-decreases-loop-i l = l.k - l.i
+invariant-loop-i l = Topping l.n l.k l.scratch l.top (l.i - 1)

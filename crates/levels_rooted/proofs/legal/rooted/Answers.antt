@@ -3,55 +3,32 @@ use mathlib.Core.Path.{refl, sym, ap, ◌∙◌}
 use Prim.Native.Nat.{◌≤◌}
 use native.Mathlib.Omega.{arith}
 use lib.ListN.{length, replicate}
-use borrow.Author.Rules.{rules}
 use Rattle.spec.specs.Graph.{graph_of}
 use Rattle.laws.proofs.Lent.{zeroed-all}
 use Rattle.levels_rooted.proofs.Zeros.{d_most, zeros_behind}
 use Rattle.levels_rooted.proofs.legal.rooted.Goals as goal
-
--- ---- needs
-pub clear-requires : goal.clear-requires
-clear-requires c = search rules
 
 pub search-f-requires : goal.search-f-requires
 search-f-requires c =
     let L = c.args.levels.now in
     record { neighbours_value = c.requires.neighbours_value; le_root = c.requires.le_root; levels_value = c.clear.ensures ∙ zeroed-all (length L) L refl ∙ ap (λ n. replicate n 0) c.requires.levels_len; sizes_len = c.requires.sizes_len }
 
-pub wide-d-requires : goal.wide-d-requires
-wide-d-requires c = search rules
-
-pub offset_bounds-sizes-d : goal.offset_bounds-sizes-d
-offset_bounds-sizes-d c = search rules
-
 pub slice_bounds-clear-count : goal.slice_bounds-clear-count
 slice_bounds-clear-count c =
-    let few : c.wide-d.result ≤ length c.args.levels.now = d_most (graph_of c.args.starts.now c.args.neighbours.now) c.args.root c.search-f.ensures.value c.requires.levels_len c.wide-d.ensures in
+    let few : c.from-d.result ≤ length c.args.levels.now = d_most (graph_of c.args.starts.now c.args.neighbours.now) c.args.root c.search-f.ensures.value c.requires.levels_len c.from-d.ensures in
     few
 
 pub slice_bounds-clear-start : goal.slice_bounds-clear-start
 slice_bounds-clear-start c =
-    let few : c.wide-d.result ≤ length c.args.levels.now = d_most (graph_of c.args.starts.now c.args.neighbours.now) c.args.root c.search-f.ensures.value c.requires.levels_len c.wide-d.ensures in
+    let few : c.from-d.result ≤ length c.args.levels.now = d_most (graph_of c.args.starts.now c.args.neighbours.now) c.args.root c.search-f.ensures.value c.requires.levels_len c.from-d.ensures in
     few
-
-pub slice_bounds-clear-end : goal.slice_bounds-clear-end
-slice_bounds-clear-end c = search rules
 
 pub overflow_sub-n : goal.overflow_sub-n
 overflow_sub-n c =
-    let few : c.wide-d.result ≤ length c.args.levels.now = d_most (graph_of c.args.starts.now c.args.neighbours.now) c.args.root c.search-f.ensures.value c.requires.levels_len c.wide-d.ensures in
+    let few : c.from-d.result ≤ length c.args.levels.now = d_most (graph_of c.args.starts.now c.args.neighbours.now) c.args.root c.search-f.ensures.value c.requires.levels_len c.from-d.ensures in
     omega (arith, few)
-
-pub clear-requires-2 : goal.clear-requires-2
-clear-requires-2 c = search rules
-
-pub shape_of-levels : goal.shape_of-levels
-shape_of-levels c = search rules
-
-pub shape_of-sizes : goal.shape_of-sizes
-shape_of-sizes c = search rules
 
 pub returns : goal.returns
 returns c =
     let l = c.search-f.auto.sizes ∙ c.requires.sizes_len ∙ sym c.requires.levels_len in
-    record { value = c.search-f.ensures.value; levels_value = c.search-f.ensures.levels_value_2; sizes_value = zeros_behind (graph_of c.args.starts.now c.args.neighbours.now) c.args.root c.search-f.ensures.value c.requires.levels_len c.wide-d.ensures _ l c.search-f.ensures.sizes_value c.clear-2.ensures }
+    record { value = c.search-f.ensures.value; levels_value = c.search-f.ensures.levels_value_2; sizes_value = zeros_behind (graph_of c.args.starts.now c.args.neighbours.now) c.args.root c.search-f.ensures.value c.requires.levels_len c.from-d.ensures _ l c.search-f.ensures.sizes_value c.clear-2.ensures }

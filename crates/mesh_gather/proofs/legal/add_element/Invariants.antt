@@ -1,12 +1,6 @@
--- `mesh_gather::legal::add_element` meets its contract. Assumes nothing.
-use Prim.Native.Nat.{◌-◌, ◌≤◌}
-use mathlib.Core.Path.{◌≡◌}
-use lib.ListN.{length}
+-- `mesh_gather::legal::add_element` meets its contract: what is left of the nodes completes what was added. Assumes nothing.
 use Rattle.mesh_gather.proofs.Growing.{Towards, nodes_from}
 use Rattle.mesh_gather.proofs.legal.add_element.Given as goal
 
-abbrev pub invariant-loop-j : goal.invariant-loop-j
-invariant-loop-j l = (l.j ≤ length l.nodes) × (length l.sets ≡ 4096) × Towards (nodes_from l.base l.nodes l.j) (nodes_from l.base l.nodes 0) l.initial.sets l.sets
-
-abbrev pub decreases-loop-j : goal.decreases-loop-j
-decreases-loop-j l = length l.nodes - l.j
+abbrev pub invariant-loop-node : goal.invariant-loop-node
+invariant-loop-node l = Towards (nodes_from l.base l.nodes l.node-index) (nodes_from l.base l.nodes 0) l.initial.sets l.sets

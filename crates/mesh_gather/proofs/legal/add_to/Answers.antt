@@ -13,21 +13,3 @@ add-requires c = record { bits_len = search rules; by_index = c.requires.2.at; c
 
 pub returns : goal.returns
 returns c = grown_one c.args.sets.now c.add.new.bits c.args.row c.requires.0 c.requires.1 (c.add.auto.bits ∙ part_size c.args.sets.now (64 * c.args.row) (omega (arith, c.requires))) (λ q. memb q c.args.nodes.now) c.add.ensures.added
-
-pub overflow_mul-first : goal.overflow_mul-first
-overflow_mul-first c = omega (arith, c.requires)
-
-pub overflow_add-next : goal.overflow_add-next
-overflow_add-next c = omega (arith, c.requires)
-
-pub offset_bounds-sets-first : goal.offset_bounds-sets-first
-offset_bounds-sets-first c = omega (arith, c.requires)
-
-pub slice_bounds-add-count : goal.slice_bounds-add-count
-slice_bounds-add-count c = omega (arith, c.requires)
-
-pub slice_bounds-add-start : goal.slice_bounds-add-start
-slice_bounds-add-start c = omega (arith, c.requires)
-
-pub slice_bounds-add-end : goal.slice_bounds-add-end
-slice_bounds-add-end c = omega (arith, c.requires)

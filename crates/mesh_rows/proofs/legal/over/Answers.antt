@@ -19,18 +19,3 @@ returns-then-few c =
 pub returns : goal.returns
 unfolding refuses11
 returns c = record { value = ap (ltb 32768) c.count.ensures.value; lists_value = λ e. c.count.ensures.lists_value; starts_value = c.count.ensures.starts_value; neighbours_value = c.count.ensures.neighbours_value }
-
-pub few-requires : goal.few-requires
-few-requires c = (length c.args.lists.now, c.requires.lists_len_bound, c.requires.elements_value)
-
-pub count-requires : goal.count-requires
-count-requires c = record { lists_len_bound = c.requires.lists_len_bound; elements_value = c.requires.elements_value }
-
-pub shape_of-lists : goal.shape_of-lists
-shape_of-lists c = c.count.auto.lists
-
-pub shape_of-starts : goal.shape_of-starts
-shape_of-starts c = c.count.auto.starts
-
-pub shape_of-neighbours : goal.shape_of-neighbours
-shape_of-neighbours c = c.count.auto.neighbours

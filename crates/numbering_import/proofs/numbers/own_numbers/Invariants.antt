@@ -1,7 +1,7 @@
 -- `numbering_import::numbers::own_numbers` meets its contract: the words passed are the nodes' own numbers. Assumes nothing.
 use mathlib.Core.Path.{◌≡◌}
 use mathlib.Core.List.{List}
-use Prim.Native.Nat.{ℕ, ◌+◌, ◌-◌, ◌≤◌}
+use Prim.Native.Nat.{ℕ, ◌+◌, ◌≤◌}
 use lib.ListN.{length}
 use Rattle.graph_envelope.specs.Aheads.{Made}
 use Rattle.numbering_import.proofs.numbers.own_numbers.Given as goal
@@ -14,6 +14,3 @@ pub record Owned (W words : List ℕ) (i : ℕ) : Type 0 where
 
 abbrev pub invariant-loop-i : goal.invariant-loop-i
 invariant-loop-i l = Owned l.initial.numbers l.numbers l.i
-
-abbrev pub decreases-loop-i : goal.decreases-loop-i
-decreases-loop-i l = length l.initial.numbers - l.i

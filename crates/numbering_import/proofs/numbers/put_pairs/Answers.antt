@@ -11,10 +11,31 @@ use Rattle.numbering_import.proofs.Supplied.{new_at, puts_of, old_range, puts-al
 use Rattle.numbering_import.proofs.ByPair.{olds_length, olds_at}
 use Rattle.numbering_import.proofs.numbers.put_pairs.Goals as goal
 
+pub loop-i-init : goal.loop-i-init
+loop-i-init c = record { inside = omega arith; same_length = refl; words_are = puts_none _ _ _ }
+
+pub overflow_sub-numbers : goal.overflow_sub-numbers
+overflow_sub-numbers c =
+    let old : c.from-old.result ≡ get_or (old_numbers c.args.pairs.now) c.loop-i.i 0 = let P = c.args.pairs.now in
+    c.from-old.ensures ∙ sym (olds_at P c.loop-i.i (omega (arith, olds_length P))) in
+    let range : (1 ≤ c.from-old.result) × (c.from-old.result ≤ length c.args.numbers.now) = let P = c.args.pairs.now in
+    let w = old_range (length c.args.numbers.now) P c.requires.pairs_value c.loop-i.i (omega (arith, olds_length P)) in
+    (omega (arith, w.0, old), omega (arith, w.1, old)) in
+    omega (arith, range)
+
+pub bounds-numbers-old : goal.bounds-numbers-old
+bounds-numbers-old c =
+    let old : c.from-old.result ≡ get_or (old_numbers c.args.pairs.now) c.loop-i.i 0 = let P = c.args.pairs.now in
+    c.from-old.ensures ∙ sym (olds_at P c.loop-i.i (omega (arith, olds_length P))) in
+    let range : (1 ≤ c.from-old.result) × (c.from-old.result ≤ length c.args.numbers.now) = let P = c.args.pairs.now in
+    let w = old_range (length c.args.numbers.now) P c.requires.pairs_value c.loop-i.i (omega (arith, olds_length P)) in
+    (omega (arith, w.0, old), omega (arith, w.1, old)) in
+    omega (arith, range)
+
 pub loop-i-preserved : goal.loop-i-preserved
 loop-i-preserved c =
-    let old : c.wide-old.result ≡ get_or (old_numbers c.args.pairs.now) c.loop-i.i 0 = let P = c.args.pairs.now in
-    c.wide-old.ensures ∙ sym (olds_at P c.loop-i.i (omega (arith, olds_length P))) in
+    let old : c.from-old.result ≡ get_or (old_numbers c.args.pairs.now) c.loop-i.i 0 = let P = c.args.pairs.now in
+    c.from-old.ensures ∙ sym (olds_at P c.loop-i.i (omega (arith, olds_length P))) in
     let P = c.args.pairs.now in
     record {
       inside = omega (arith, olds_length P);
@@ -28,36 +49,3 @@ returns c =
     let W = c.args.numbers.now in
     let e : c.loop-i.i ≡ length (old_numbers P) = omega (arith, olds_length P, c.loop-i.invariant.inside) in
     c.loop-i.invariant.words_are ∙ ap (puts_of P W) e ∙ ap (λ (w : List ℕ). puts_of P w (length (old_numbers P))) c.requires.numbers_value ∙ puts-all (length W) P c.requires.pairs_value
-
-pub loop-i-init : goal.loop-i-init
-loop-i-init c = record { inside = omega arith; same_length = refl; words_are = puts_none _ _ _ }
-
-pub overflow_sub-numbers : goal.overflow_sub-numbers
-overflow_sub-numbers c =
-    let old : c.wide-old.result ≡ get_or (old_numbers c.args.pairs.now) c.loop-i.i 0 = let P = c.args.pairs.now in
-    c.wide-old.ensures ∙ sym (olds_at P c.loop-i.i (omega (arith, olds_length P))) in
-    let range : (1 ≤ c.wide-old.result) × (c.wide-old.result ≤ length c.args.numbers.now) = let P = c.args.pairs.now in
-    let w = old_range (length c.args.numbers.now) P c.requires.pairs_value c.loop-i.i (omega (arith, olds_length P)) in
-    (omega (arith, w.0, old), omega (arith, w.1, old)) in
-    omega (arith, range)
-
-pub offset_bounds-numbers-old : goal.offset_bounds-numbers-old
-offset_bounds-numbers-old c =
-    let old : c.wide-old.result ≡ get_or (old_numbers c.args.pairs.now) c.loop-i.i 0 = let P = c.args.pairs.now in
-    c.wide-old.ensures ∙ sym (olds_at P c.loop-i.i (omega (arith, olds_length P))) in
-    let range : (1 ≤ c.wide-old.result) × (c.wide-old.result ≤ length c.args.numbers.now) = let P = c.args.pairs.now in
-    let w = old_range (length c.args.numbers.now) P c.requires.pairs_value c.loop-i.i (omega (arith, olds_length P)) in
-    (omega (arith, w.0, old), omega (arith, w.1, old)) in
-    omega (arith, range)
-
-pub bounds-numbers-old : goal.bounds-numbers-old
-bounds-numbers-old c =
-    let old : c.wide-old.result ≡ get_or (old_numbers c.args.pairs.now) c.loop-i.i 0 = let P = c.args.pairs.now in
-    c.wide-old.ensures ∙ sym (olds_at P c.loop-i.i (omega (arith, olds_length P))) in
-    let range : (1 ≤ c.wide-old.result) × (c.wide-old.result ≤ length c.args.numbers.now) = let P = c.args.pairs.now in
-    let w = old_range (length c.args.numbers.now) P c.requires.pairs_value c.loop-i.i (omega (arith, olds_length P)) in
-    (omega (arith, w.0, old), omega (arith, w.1, old)) in
-    omega (arith, range)
-
-pub loop-i-smaller : goal.loop-i-smaller
-loop-i-smaller c = omega (arith, olds_length c.args.pairs.now)

@@ -1,5 +1,5 @@
 -- `numbering_measures::fronts::steps` meets its contract: the words passed are steps, the others as they were. Assumes nothing.
-use Prim.Native.Nat.{ℕ, ◌-◌, ◌≤◌}
+use Prim.Native.Nat.{ℕ, ◌≤◌}
 use mathlib.Core.Path.{◌≡◌}
 use mathlib.Core.List.{List}
 use lib.ListN.{length}
@@ -16,8 +16,5 @@ pub record Stepped (W words : List ℕ) (last i : ℕ) : Type 0 where
   pub last_is : last ≡ of_node W i
   pub made : Made (step W) W i words
 
-abbrev pub invariant-loop-i : goal.invariant-loop-i
-invariant-loop-i l = Stepped l.initial.words l.words l.last l.i
-
-abbrev pub decreases-loop-i : goal.decreases-loop-i
-decreases-loop-i l = length l.initial.words - l.i
+abbrev pub invariant-loop-word : goal.invariant-loop-word
+invariant-loop-word l = Stepped l.initial.words l.words l.last l.word-index

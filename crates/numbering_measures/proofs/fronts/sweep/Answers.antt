@@ -1,34 +1,29 @@
 -- `numbering_measures::fronts::sweep` meets its contract: the words passed are summed, and are 0. Assumes nothing.
 use Prim.Native.Nat.{ℕ, ◌+◌, ◌-◌, ◌*◌}
-use mathlib.Core.Path.{◌≡◌, refl, sym, ap, ap₂, ◌∙◌}
-use mathlib.Core.List.{List, map}
+use mathlib.Core.Path.{◌≡◌, sym, ap, ap₂, ◌∙◌}
+use mathlib.Core.List.{List}
 use native.Mathlib.Omega.{arith}
 use borrow.Author.Fill.{fill_more}
-use lib.ListN.{length, set, take, length-set}
-use Rattle.basis.specs.Lists.{greatest, sum, up_from}
+use lib.ListN.{set, take, length-set}
+use Rattle.basis.specs.Lists.{sum}
 use Rattle.graph_envelope.proofs.Folds.{greatest_more}
-use Rattle.numbering_ones.proofs.Passed.{take_more, word-ahead, words-passed}
+use Rattle.numbering_ones.proofs.Max.{ord_max-nat}
+use Rattle.numbering_ones.proofs.Max.{ord_max-nat}
+use Rattle.numbering_ones.proofs.Passed.{take_more, word-ahead}
 use Rattle.numbering_measures.proofs.fronts.sweep.Goals as goal
 use Rattle.numbering_measures.proofs.fronts.sweep.Invariants.{standing}
 
-pub overflow_add-live : goal.overflow_add-live
-overflow_add-live c =
-    let up : c.loop-i.live + c.wide-live.result ≡ sum (take (c.loop-i.i + 1) c.args.words.now) = let C = c.args.words.now in
-    ap₂ ◌+◌ c.loop-i.invariant.live-is (c.wide-live.ensures ∙ word-ahead C c.loop-i.words c.loop-i.i c.loop-i.invariant.cleared)
-    ∙ sym (take_more C c.loop-i.i (omega arith)) in
-    omega (arith, up, c.requires.most (c.loop-i.i + 1) (omega arith))
-
 pub overflow_sub-live : goal.overflow_sub-live
 overflow_sub-live c =
-    let up : c.loop-i.live + c.wide-live.result ≡ sum (take (c.loop-i.i + 1) c.args.words.now) = let C = c.args.words.now in
-    ap₂ ◌+◌ c.loop-i.invariant.live-is (c.wide-live.ensures ∙ word-ahead C c.loop-i.words c.loop-i.i c.loop-i.invariant.cleared)
+    let up : c.loop-i.live + c.from-live.result ≡ sum (take (c.loop-i.i + 1) c.args.words.now) = let C = c.args.words.now in
+    ap₂ ◌+◌ c.loop-i.invariant.live-is (c.from-live.ensures ∙ word-ahead C c.loop-i.words c.loop-i.i c.loop-i.invariant.cleared)
     ∙ sym (take_more C c.loop-i.i (omega arith)) in
     omega (arith, up, c.requires.enough c.loop-i.i (omega arith))
 
 pub loop-i-preserved : goal.loop-i-preserved
 loop-i-preserved c =
-    let up : c.loop-i.live + c.wide-live.result ≡ sum (take (c.loop-i.i + 1) c.args.words.now) = let C = c.args.words.now in
-    ap₂ ◌+◌ c.loop-i.invariant.live-is (c.wide-live.ensures ∙ word-ahead C c.loop-i.words c.loop-i.i c.loop-i.invariant.cleared)
+    let up : c.loop-i.live + c.from-live.result ≡ sum (take (c.loop-i.i + 1) c.args.words.now) = let C = c.args.words.now in
+    ap₂ ◌+◌ c.loop-i.invariant.live-is (c.from-live.ensures ∙ word-ahead C c.loop-i.words c.loop-i.i c.loop-i.invariant.cleared)
     ∙ sym (take_more C c.loop-i.i (omega arith)) in
     let C = c.args.words.now in
     record {
@@ -36,17 +31,5 @@ loop-i-preserved c =
       same_length = length-set c.loop-i.words _ _ ∙ c.loop-i.invariant.same_length;
       cleared = ap (λ (w : List ℕ). set w c.loop-i.i 0) c.loop-i.invariant.cleared ∙ fill_more c.loop-i.i 0 C (omega arith);
       live-is = up;
-      most-is = greatest_more (standing C) c.loop-i.i c.loop-i.invariant.most-is (ap (λ (k : ℕ). k - 6 * (c.loop-i.i + 1)) up) c.larger-most.ensures;
+      most-is = greatest_more (standing C) c.loop-i.i c.loop-i.invariant.most-is (ap (λ (k : ℕ). k - 6 * (c.loop-i.i + 1)) up) (c.max-most.ensures ∙ ord_max-nat _ _);
     }
-
-pub returns : goal.returns
-returns c =
-    let C = c.args.words.now in
-    let e : c.loop-i.i ≡ length C = omega arith in
-    record { value = c.loop-i.invariant.most-is ∙ ap (λ (k : ℕ). greatest (map (standing C) (up_from 1 k))) e; words_value = words-passed C c.loop-i.words c.loop-i.i e c.loop-i.invariant.cleared }
-
-pub loop-i-init : goal.loop-i-init
-loop-i-init c = record { inside = omega arith; same_length = refl; cleared = refl; live-is = refl; most-is = refl }
-
-pub overflow_mul-i : goal.overflow_mul-i
-overflow_mul-i c = omega (arith, c.requires.few)

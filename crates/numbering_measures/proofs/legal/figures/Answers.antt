@@ -10,6 +10,3 @@ pub returns-then-total-numbering : goal.returns-then-total-numbering
 returns-then-total-numbering c =
     let as_many : sum c.args.counts.now ≡ size_of c.args.starts.now = sym c.requires.total_value ∙ c.if-total-numbering.true ∙ numbering_length _ _ c.requires.numbering_value in
     record { result_value = c.figures.ensures.result_value ∙ ones_figures c.requires.legal_lists.graph c.args.numbering.now c.requires.numbering_value c.args.counts.now c.requires.counts_value as_many; words_value = c.figures.ensures.counts_value }
-
-pub figures_in_unknowns-requires : goal.figures_in_unknowns-requires
-figures_in_unknowns-requires c = record { measurable = record { lists = c.requires.legal_lists; counted = c.requires.counts_value; numbered = c.requires.numbering_value }; words_len = c.requires.words_len }

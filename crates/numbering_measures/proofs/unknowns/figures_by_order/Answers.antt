@@ -18,11 +18,6 @@ use Rattle.numbering_measures.proofs.unknowns.figures_by_order.Goals as goal
 pub add_up-requires : goal.add_up-requires
 add_up-requires c = let done = order_ready c.requires.measurable c.requires.words_value in record { counts_value = done.0; words = done.1.0; order_len_bound = done.1.1 }
 
-pub walk-spans-requires : goal.walk-spans-requires
-walk-spans-requires c =
-    let added : c.add_up.new.order ≡ (aheads c.args.counts.now (order_of c.args.numbering.now)) = c.add_up.ensures ∙ ap (aheads c.args.counts.now) c.requires.words_value in
-    record { measurable = c.requires.measurable; ahead_value = added }
-
 pub steps-requires : goal.steps-requires
 steps-requires c =
     let added : c.add_up.new.order ≡ (aheads c.args.counts.now (order_of c.args.numbering.now)) = c.add_up.ensures ∙ ap (aheads c.args.counts.now) c.requires.words_value in
@@ -36,6 +31,15 @@ gather-requires c =
     let climbs : Climbs (aheads c.args.counts.now (order_of c.args.numbering.now)) = aheads_climbs c.requires.measurable in
     let e = stepped in
     record { measurable = c.requires.measurable; words_len = ap length e ∙ steps_long c.requires.measurable; low = subst (λ (l : List ℕ). Low l) (sym e) (steps_low (aheads c.args.counts.now (order_of c.args.numbering.now)) climbs) }
+
+pub sweep-most-requires : goal.sweep-most-requires
+sweep-most-requires c =
+    let added : c.add_up.new.order ≡ (aheads c.args.counts.now (order_of c.args.numbering.now)) = c.add_up.ensures ∙ ap (aheads c.args.counts.now) c.requires.words_value in
+    let stepped : c.steps.new.words ≡ steps_of (aheads c.args.counts.now (order_of c.args.numbering.now)) = c.steps.ensures ∙ ap steps_of added in
+    let gathered : c.gather.new.words ≡ opened (graph_of c.args.starts.now c.args.neighbours.now) c.args.counts.now c.args.numbering.now (steps_of (aheads c.args.counts.now (order_of c.args.numbering.now))) (size_of c.args.starts.now) = c.gather.ensures
+    ∙ ap (λ (l : List ℕ). opened (graph_of c.args.starts.now c.args.neighbours.now) c.args.counts.now c.args.numbering.now l (size_of c.args.starts.now)) stepped in
+    let sweeps : Sweeps c.gather.new.words = opened_sweeps c.requires.measurable c.gather.new.words gathered in
+    sweeps
 
 -- the front is small
 pub overflow_cast-result : goal.overflow_cast-result
@@ -61,12 +65,3 @@ returns c =
           (c.sweep-most.ensures.value ∙ front_swept c.requires.measurable C gathered);
       words_value_2 = c.sweep-most.ensures.words_value ∙ ap (λ (k : ℕ). replicate k 0) (swept_long c.requires.measurable C gathered);
     }
-
-pub sweep-most-requires : goal.sweep-most-requires
-sweep-most-requires c =
-    let added : c.add_up.new.order ≡ (aheads c.args.counts.now (order_of c.args.numbering.now)) = c.add_up.ensures ∙ ap (aheads c.args.counts.now) c.requires.words_value in
-    let stepped : c.steps.new.words ≡ steps_of (aheads c.args.counts.now (order_of c.args.numbering.now)) = c.steps.ensures ∙ ap steps_of added in
-    let gathered : c.gather.new.words ≡ opened (graph_of c.args.starts.now c.args.neighbours.now) c.args.counts.now c.args.numbering.now (steps_of (aheads c.args.counts.now (order_of c.args.numbering.now))) (size_of c.args.starts.now) = c.gather.ensures
-    ∙ ap (λ (l : List ℕ). opened (graph_of c.args.starts.now c.args.neighbours.now) c.args.counts.now c.args.numbering.now l (size_of c.args.starts.now)) stepped in
-    let sweeps : Sweeps c.gather.new.words = opened_sweeps c.requires.measurable c.gather.new.words gathered in
-    sweeps

@@ -16,6 +16,3 @@ pub record Swept (C counts : List ℕ) (live most i : ℕ) : Type 0 where
 
 abbrev pub invariant-loop-i : goal.invariant-loop-i
 invariant-loop-i l = Swept l.initial.counts l.counts l.live l.most l.i
-
-abbrev pub decreases-loop-i : goal.decreases-loop-i
-decreases-loop-i l = length l.initial.counts - l.i

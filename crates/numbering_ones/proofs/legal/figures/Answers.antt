@@ -24,6 +24,11 @@ walk-spans-requires c =
     let W = c.args.counts.now in
     record { legal_lists = c.requires.legal_lists; numbering_value = c.requires.numbering_value; counts_value = c.clear.ensures ∙ ap (λ (k : ℕ). zeroed k W) long ∙ zeroed-all (size_of c.args.starts.now) W c.requires.counts_len }
 
+pub sweep-most-requires : goal.sweep-most-requires
+sweep-most-requires c =
+    let sweeps : Sweeps c.walk-spans.new.counts = opened_sweeps c.requires.legal_lists.graph c.args.numbering.now c.requires.numbering_value c.walk-spans.new.counts c.walk-spans.ensures.counts_value_2 c.requires.legal_lists.starts.few in
+    sweeps
+
 pub overflow_cast-result : goal.overflow_cast-result
 overflow_cast-result c =
     let sweeps : Sweeps c.walk-spans.new.counts = opened_sweeps c.requires.legal_lists.graph c.args.numbering.now c.requires.numbering_value c.walk-spans.new.counts c.walk-spans.ensures.counts_value_2 c.requires.legal_lists.starts.few in
@@ -37,8 +42,3 @@ returns c =
           (c.sweep-most.ensures.value ∙ front_swept c.requires.legal_lists.graph x c.requires.numbering_value c.walk-spans.new.counts c.walk-spans.ensures.counts_value_2);
       counts_value = c.sweep-most.ensures.counts_value ∙ ap (λ (k : ℕ). replicate k 0) (opened_long c.requires.legal_lists.graph x c.requires.numbering_value c.walk-spans.new.counts c.walk-spans.ensures.counts_value_2);
     }
-
-pub sweep-most-requires : goal.sweep-most-requires
-sweep-most-requires c =
-    let sweeps : Sweeps c.walk-spans.new.counts = opened_sweeps c.requires.legal_lists.graph c.args.numbering.now c.requires.numbering_value c.walk-spans.new.counts c.walk-spans.ensures.counts_value_2 c.requires.legal_lists.starts.few in
-    sweeps

@@ -1,17 +1,8 @@
 -- `numbering_order::legal::forward` meets its contract. Assumes nothing.
 use mathlib.Core.Path.{refl}
-use native.Mathlib.Omega.{arith}
-use Rattle.laws.proofs.Refused.{passed, starts_of_lem}
 use Rattle.numbering_stacks.specs.Part.{members_in}
 use Rattle.numbering_order.proofs.Forward.{whole-zeros, whole_standing, whole_start, whole-placed, whole-held, whole_done}
-use borrow.Author.Rules.{rules}
 use Rattle.numbering_order.proofs.legal.forward.Goals as goal
-
-pub overflow_sub-n : goal.overflow_sub-n
-overflow_sub-n c = omega (arith, (starts_of_lem (passed c.args.starts.now c.args.neighbours.now c.requires.neighbours_value)).count)
-
-pub rank-requires : goal.rank-requires
-rank-requires c = record { neighbours_value = c.requires.neighbours_value; n_value = refl; work_value = c.requires.work_value; behind = c.requires.behind }
 
 pub number-requires : goal.number-requires
 number-requires c =
@@ -28,9 +19,6 @@ unrank-requires c =
     let l = c.number.auto.work in
     let F = c.number.ensures in
     record { placed = whole-placed S N c.requires.neighbours_value c.requires.work_value c.requires.behind c.requires.starting R l F; held = whole-held S N c.requires.neighbours_value c.requires.work_value c.requires.behind c.requires.starting R l F }
-
-pub shape_of-work : goal.shape_of-work
-shape_of-work c = search rules
 
 pub returns : goal.returns
 returns c = whole_done c.args.starts.now c.args.neighbours.now c.requires.neighbours_value c.requires.work_value c.requires.behind c.requires.starting c.rank.ensures c.number.auto.work c.number.ensures c.unrank.ensures

@@ -1,20 +1,10 @@
 -- `numbering_order::legal::from_before` meets its contract. The invariant: what the rest of the level before adds from here is what all of it adds from the start. Assumes nothing.
-use native.Mathlib.Omega.{arith}
-use Rattle.numbering_order.proofs.Walk.{walk_open, walk_far, walk_range, walk_index}
-use Rattle.numbering_order.proofs.FromBefore.{before_begin, before_in_lem, before-step, before_done}
+use Rattle.numbering_order.proofs.Walk.{walk_open, walk_far, walk_range}
+use Rattle.numbering_order.proofs.FromBefore.{before_begin, before_in_lem, before-step}
 use Rattle.numbering_order.proofs.legal.from_before.Goals as goal
 
 pub loop-h-init : goal.loop-h-init
 loop-h-init c = before_begin c.args.i c.requires.neighbours_value c.requires.n_value c.requires.fact c.requires.far c.requires.a_le_b
-
-pub overflow_add-w : goal.overflow_add-w
-overflow_add-w c = let I = c.loop-h.invariant in omega (arith, walk_index c.loop-h.invariant.walk c.loop-h.h (before_in_lem I c.loop-h-test.true))
-
-pub offset_bounds-work-n : goal.offset_bounds-work-n
-offset_bounds-work-n c = let I = c.loop-h.invariant in omega (arith, walk_index c.loop-h.invariant.walk c.loop-h.h (before_in_lem I c.loop-h-test.true))
-
-pub bounds-work-n : goal.bounds-work-n
-bounds-work-n c = let I = c.loop-h.invariant in walk_index c.loop-h.invariant.walk c.loop-h.h (before_in_lem I c.loop-h-test.true)
 
 pub extend-e-requires : goal.extend-e-requires
 extend-e-requires c =
@@ -22,17 +12,5 @@ extend-e-requires c =
     let K = c.loop-h.invariant.walk in
     record { neighbours_value = c.loop-h.invariant.walk.ok; n_value = c.loop-h.invariant.walk.sized; fact = walk_open K; far = walk_far K; le_w = walk_range K c.loop-h.h (before_in_lem I c.loop-h-test.true) }
 
-pub overflow_add-h : goal.overflow_add-h
-overflow_add-h c = omega (arith, c.loop-h-test.true)
-
-pub loop-h-smaller : goal.loop-h-smaller
-loop-h-smaller c = omega (arith, c.loop-h-test.true)
-
 pub loop-h-preserved : goal.loop-h-preserved
 loop-h-preserved c = before-step c.loop-h.invariant c.loop-h-test.true c.extend-e.auto.work c.extend-e.ensures
-
-pub shape_of-work : goal.shape_of-work
-shape_of-work c = c.loop-h.invariant.walk.size
-
-pub returns : goal.returns
-returns c = before_done c.loop-h.invariant c.loop-h-test.false

@@ -1,10 +1,6 @@
 -- `numbering_order::legal::from_before` meets its contract. The invariant: what the rest of the level before adds from here is what all of it adds from the start. Assumes nothing.
-use Prim.Native.Nat.{◌-◌}
 use Rattle.numbering_order.proofs.FromBefore.{Before}
 use Rattle.numbering_order.proofs.legal.from_before.Given as goal
 
 abbrev pub invariant-loop-h : goal.invariant-loop-h
 invariant-loop-h l = Before l.starts l.neighbours l.n l.at l.initial.work l.a l.b l.i l.work l.e l.h
-
-abbrev pub decreases-loop-h : goal.decreases-loop-h
-decreases-loop-h l = l.b - l.h

@@ -1,14 +1,8 @@
 -- `numbering_order::legal::level` meets its contract. Assumes nothing.
-use native.Mathlib.Omega.{arith}
-use Rattle.numbering_order.proofs.Words.{open_at}
 use Rattle.numbering_order.proofs.Walk.{walk_open}
-use Rattle.numbering_order.proofs.Stack.{standing_far, standing_on}
+use Rattle.numbering_order.proofs.Stack.{standing_on}
 use Rattle.numbering_order.proofs.LaterLevels.{level_walk, level_begun, level_done}
-use borrow.Author.Rules.{rules}
 use Rattle.numbering_order.proofs.legal.level.Goals as goal
-
-pub from_before-e-requires : goal.from_before-e-requires
-from_before-e-requires c = record { neighbours_value = c.requires.neighbours_value; n_value = c.requires.n_value; fact = c.requires.fact; far = standing_far c.requires.by_index.1.0; a_le_b = omega (arith, c.requires.by_index.1.1.inside, (open_at c.requires.fact).count) }
 
 pub fill-requires : goal.fill-requires
 fill-requires c =
@@ -17,9 +11,6 @@ fill-requires c =
     let K = level_walk S N c.requires.neighbours_value c.requires.n_value c.requires.fact c.requires.by_index.1.0 c.requires.by_index.1.1 c.from_before-e.auto.work c.from_before-e.ensures in
     let D = level_begun S N c.requires.neighbours_value c.requires.n_value c.requires.fact c.requires.by_index.1.0 c.requires.by_index.1.1 c.from_before-e.auto.work c.from_before-e.ensures in
     record { neighbours_value = c.requires.neighbours_value; n_value = c.requires.n_value; fact = walk_open K; i_le_n = c.requires.i_le_n; by_index = (c.requires.by_index.0, (standing_on K c.requires.by_index.1.0, D)) }
-
-pub shape_of-work : goal.shape_of-work
-shape_of-work c = search rules
 
 pub returns : goal.returns
 returns c R F =

@@ -4,7 +4,6 @@ use native.Mathlib.Omega.{arith}
 use Rattle.numbering_order.proofs.Walk.{walk_open}
 use Rattle.numbering_order.proofs.Stack.{standing_on}
 use Rattle.numbering_order.proofs.Number.{start_open, start_range, start_levels, walk_one, begun_one, walk_two, levelled_two, walk_all, forward_done}
-use borrow.Author.Rules.{rules}
 use Rattle.numbering_order.proofs.legal.number.Goals as goal
 
 pub push-requires : goal.push-requires
@@ -34,9 +33,6 @@ wipe-requires c =
     let S = c.args.starts.now in
     let N = c.args.neighbours.now in
     walk_open (walk_all S N c.requires.neighbours_value c.requires.n_value c.requires.work_value c.requires.by_index.1.0 c.requires.by_index.1.1 c.push.auto.work c.push.ensures c.fill-b.auto.work c.fill-b.ensures c.later_levels-t.auto.work c.later_levels-t.ensures)
-
-pub shape_of-work : goal.shape_of-work
-shape_of-work c = search rules
 
 pub returns : goal.returns
 returns c P F =

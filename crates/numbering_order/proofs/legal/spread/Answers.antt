@@ -31,8 +31,5 @@ loop-h-smaller c = omega (arith, c.loop-h-test.true, at_most c.loop-h.invariant.
 pub loop-h-preserved : goal.loop-h-preserved
 loop-h-preserved c = spread_step c.loop-h.invariant c.loop-h-test.true c.extend-e.auto.work c.extend-e.ensures
 
-pub shape_of-work : goal.shape_of-work
-shape_of-work c = c.loop-h.invariant.walk.size
-
 pub returns : goal.returns
 returns c = spread_done c.loop-h.invariant c.loop-h-test.false

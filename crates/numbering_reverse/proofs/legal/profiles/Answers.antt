@@ -6,7 +6,7 @@ use Rattle.spec.specs.Graph.{graph_of}
 use Rattle.spec.specs.Unknowns.{bad_counts}
 use Rattle.numbering_reverse.specs.Places.{segment}
 use Rattle.numbering_reverse.proofs.Spans.{profile_same}
-use Rattle.numbering_reverse.proofs.Ready.{ready_small, ready_listed, order_kept, fit-after, part-after, placed-after, erase_ask, erased}
+use Rattle.numbering_reverse.proofs.Ready.{ready_small, ready_listed, order_kept, fit-after, part-after, placed-after, erased}
 use Rattle.numbering_reverse.proofs.legal.profiles.Goals as goal
 
 pub put_aheads-requires : goal.put_aheads-requires
@@ -20,9 +20,6 @@ spans-sums-requires c =
     let K = c.args.counts.now in
     let W = c.put_aheads.new.work in
     let p = c.put_aheads.ensures in record { n_value = (c.requires.n_value.0, fit-after c.args.n c.args.m B c.requires.n_value.0 c.requires.n_value.1 c.requires.part K W p); part = part-after c.args.n c.args.m B c.requires.n_value.0 c.requires.n_value.1 c.requires.part K W p; counts_value = c.requires.counts_value; placed = placed-after c.args.n c.args.m B c.requires.n_value.0 c.requires.n_value.1 c.requires.part K W p }
-
-pub erase-requires : goal.erase-requires
-erase-requires c = erase_ask c.args.n c.args.m c.args.work.now c.requires.n_value.0 c.requires.n_value.1 c.requires.part c.args.counts.now c.put_aheads.new.work c.put_aheads.ensures
 
 pub returns : goal.returns
 returns c =

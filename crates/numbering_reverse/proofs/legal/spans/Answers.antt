@@ -1,15 +1,21 @@
 -- `numbering_reverse::legal::spans` meets its contract: the shares of the places passed are summed, from the front and from the back. Assumes nothing.
-use Prim.Native.Nat.{◌≤◌}
-use mathlib.Core.Path.{◌≡◌, refl, ap, ◌∙◌}
+use mathlib.Core.Path.{◌≡◌, ap, ◌∙◌}
 use mathlib.Core.List.{reverse}
 use native.Mathlib.Omega.{arith}
 use lib.ListN.{length, length-reverse}
 use Rattle.spec.specs.Graph.{graph_of}
 use Rattle.numbering_reverse.specs.Places.{segment}
 use Rattle.numbering_reverse.proofs.Placing.{segment-length}
-use Rattle.numbering_reverse.proofs.Spans.{spans_to, spans_more, spans-back, spans-back-all, spans_all, spans_turned, part_small}
+use Rattle.numbering_reverse.proofs.Spans.{spans_to, spans_more, spans-back, spans-back-all, spans_all, spans_turned}
+use Rattle.numbering_reverse.proofs.Ready.{ready_small}
 use Rattle.numbering_reverse.proofs.legal.spans.Goals as goal
 use Rattle.numbering_reverse.proofs.legal.spans.Invariants.{share}
+
+pub overflow_add-forward : goal.overflow_add-forward
+overflow_add-forward c = omega (arith, c.span-s.ensures.forward_bound, ready_small c.args.n c.args.m c.args.work.now c.requires.n_value.0 c.requires.n_value.1 c.requires.part)
+
+pub overflow_add-backward : goal.overflow_add-backward
+overflow_add-backward c = omega (arith, c.span-s.ensures.forward_bound, ready_small c.args.n c.args.m c.args.work.now c.requires.n_value.0 c.requires.n_value.1 c.requires.part)
 
 pub loop-a-preserved : goal.loop-a-preserved
 loop-a-preserved c =
@@ -33,21 +39,3 @@ returns c =
           ∙ ap (spans_to (share (graph_of c.args.starts.now c.args.neighbours.now) c.args.counts.now (reverse (segment c.args.n c.args.m c.args.work.now)))) b
           ∙ spans_turned c.requires.part c.args.counts.now c.requires.counts_value;
     }
-
-pub loop-a-init : goal.loop-a-init
-loop-a-init c = record { inside = omega arith; forward-small = omega arith; backward-small = omega arith; forward_is = refl; backward-is = refl }
-
-pub span-s-requires : goal.span-s-requires
-span-s-requires c = record { n_value = (c.requires.n_value.0, c.requires.n_value.1, c.loop-a-test.true); part = c.requires.part; counts_value = c.requires.counts_value; placed = c.requires.placed }
-
-pub overflow_add-forward : goal.overflow_add-forward
-overflow_add-forward c =
-    let long : length (segment c.args.n c.args.m c.args.work.now) ≡ c.args.m = segment-length c.args.n c.args.m c.args.work.now c.requires.n_value.1 in
-    let small : c.args.m ≤ 4096 = omega (arith, part_small c.requires.part, long, c.requires.part.starts.few) in
-    omega (arith, c.span-s.ensures.forward_bound, small)
-
-pub overflow_add-backward : goal.overflow_add-backward
-overflow_add-backward c =
-    let long : length (segment c.args.n c.args.m c.args.work.now) ≡ c.args.m = segment-length c.args.n c.args.m c.args.work.now c.requires.n_value.1 in
-    let small : c.args.m ≤ 4096 = omega (arith, part_small c.requires.part, long, c.requires.part.starts.few) in
-    omega (arith, c.span-s.ensures.forward_bound, small)

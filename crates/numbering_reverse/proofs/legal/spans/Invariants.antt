@@ -1,5 +1,5 @@
 -- `numbering_reverse::legal::spans` meets its contract: the shares of the places passed are summed, from the front and from the back. Assumes nothing.
-use Prim.Native.Nat.{ℕ, ◌-◌, ◌*◌, ◌≤◌}
+use Prim.Native.Nat.{ℕ, ◌*◌, ◌≤◌}
 use mathlib.Core.Path.{◌≡◌}
 use mathlib.Core.List.{List, reverse}
 use Rattle.spec.specs.Graph.{Graph, graph_of}
@@ -24,6 +24,3 @@ pub record Summed (g : Graph) (K order : List ℕ) (m forward backward a : ℕ) 
 
 abbrev pub invariant-loop-a : goal.invariant-loop-a
 invariant-loop-a l = Summed (graph_of l.starts l.neighbours) l.counts (segment l.n l.m l.work) l.m l.forward l.backward l.a
-
-abbrev pub decreases-loop-a : goal.decreases-loop-a
-decreases-loop-a l = l.m - l.a

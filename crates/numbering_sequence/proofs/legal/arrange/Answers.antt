@@ -1,6 +1,5 @@
 -- `numbering_sequence::legal::arrange` meets its contract: the order level by level, then the turn. Assumes nothing.
 use native.Mathlib.Omega.{arith}
-use borrow.Author.Rules.{rules}
 use Rattle.laws.proofs.Refused.{passed, starts_of_lem}
 use Rattle.numbering_sequence.proofs.Arranged.{named_behind, named_starting, arranged_turn, arranged_turns, arranged_words}
 use Rattle.numbering_sequence.proofs.legal.arrange.Goals as goal
@@ -16,9 +15,6 @@ forward-requires c =
 
 pub turn-requires : goal.turn-requires
 turn-requires c = let done = arranged_turn c.args.starts.now c.args.neighbours.now c.requires.neighbours_value c.requires.named c.forward.ensures c.args.counts.now c.requires.counts_value in record { n_value = done.0; part = done.1.0; counts_value = done.1.1.0; clean = done.1.1.1 }
-
-pub shape_of-work : goal.shape_of-work
-shape_of-work c = search rules
 
 pub returns : goal.returns
 returns c =

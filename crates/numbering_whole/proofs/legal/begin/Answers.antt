@@ -2,7 +2,6 @@
 use mathlib.Core.Path.{◌∙◌}
 use Prim.Native.Nat.{◌*◌}
 use native.Mathlib.Omega.{arith}
-use borrow.Author.Rules.{rules}
 use lib.ListN.{drop}
 use Rattle.spec.specs.Graph.{size_of}
 use Rattle.laws.proofs.Lent.{zeroed-all}
@@ -14,35 +13,11 @@ use Rattle.numbering_whole.proofs.legal.begin.Goals as goal
 pub overflow_sub-n : goal.overflow_sub-n
 overflow_sub-n c = omega (arith, (starts _ _ c.requires.neighbours_value).count)
 
-pub overflow_mul-n : goal.overflow_mul-n
-overflow_mul-n c = omega (arith, (starts _ _ c.requires.neighbours_value).few)
-
-pub clear-requires : goal.clear-requires
-clear-requires c = search rules
-
-pub clear-requires-2 : goal.clear-requires-2
-clear-requires-2 c = search rules
-
-pub clear-requires-3 : goal.clear-requires-3
-clear-requires-3 c = search rules
-
 pub members-requires : goal.members-requires
 members-requires c =
     let S = c.args.starts.now in
     let N = c.args.neighbours.now in
     let W = c.args.scratch.now in record { neighbours_value = c.requires.neighbours_value; starts_in_bounds = members_room S N c.requires.neighbours_value W c.requires.starts_in_bounds c.clear.ensures; scratch_value = members_blank S N c.requires.neighbours_value W c.requires.starts_in_bounds c.clear.ensures; sizes_len = c.requires.numbers_len.0 }
-
-pub shape_of-numbers : goal.shape_of-numbers
-shape_of-numbers c = search rules
-
-pub shape_of-levels : goal.shape_of-levels
-shape_of-levels c = search rules
-
-pub shape_of-passes : goal.shape_of-passes
-shape_of-passes c = search rules
-
-pub shape_of-scratch : goal.shape_of-scratch
-shape_of-scratch c = search rules
 
 pub returns : goal.returns
 returns c =

@@ -1,12 +1,10 @@
 -- `store_eliminate::legal::climb` meets its contract: p is due in place of the first. Assumes nothing.
-use mathlib.Core.Path.{◌≡◌}
 use Prim.Native.Nat.{◌-◌}
-use lib.ListN.{length}
 use Rattle.store_eliminate.specs.Walk.{Risen}
 use Rattle.store_eliminate.proofs.legal.climb.Given as goal
 
 abbrev pub invariant-loop-p : goal.invariant-loop-p
-invariant-loop-p l = (length l.scratch ≡ length l.initial.scratch) × (length l.bytes ≡ length l.initial.bytes) × Risen l.row l.from l.p l.initial.scratch l.initial.bytes l.scratch l.bytes
+invariant-loop-p l = Risen l.row l.from l.p l.initial.scratch l.initial.bytes l.scratch l.bytes
 
 abbrev pub decreases-loop-p : goal.decreases-loop-p
 decreases-loop-p l = l.row.q - l.p

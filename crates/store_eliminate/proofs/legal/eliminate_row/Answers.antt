@@ -11,14 +11,14 @@ pub bounds-scratch-done : goal.bounds-scratch-done
 bounds-scratch-done c = node_index c.requires.0 c.requires.1 c.requires.2
 
 pub row_of-row-requires : goal.row_of-row-requires
-row_of-row-requires c = (c.requires.0, rw c.wide-node.ensures (node_node c.requires.0 c.requires.1 c.requires.2))
+row_of-row-requires c = (c.requires.0, rw c.from-node.ensures (node_node c.requires.0 c.requires.1 c.requires.2))
 
 pub row-adjacent-requires : goal.row-adjacent-requires
-row-adjacent-requires c = record { starts = c.requires.0.starts; node = rw c.wide-node.ensures (node_node c.requires.0 c.requires.1 c.requires.2) }
+row-adjacent-requires c = record { starts = c.requires.0.starts; node = rw c.from-node.ensures (node_node c.requires.0 c.requires.1 c.requires.2) }
 
 pub join_edges-requires : goal.join_edges-requires
 join_edges-requires c =
-    let a = c.wide-node.ensures in
+    let a = c.from-node.ensures in
     let e = c.row_of-row.ensures in
     rw c.row-adjacent.ensures (opened_reach c.requires.0 c.requires.1 c.requires.2 a c.requires.3 e, (_, _, opened-row c.requires.0 c.requires.1 c.requires.2 a c.requires.3 e, opened_walk c.requires.0 c.requires.1 c.requires.2 a c.requires.3 e))
 
@@ -27,7 +27,7 @@ bounds-scratch-done-2 c = omega (arith, node_index c.requires.0 c.requires.1 c.r
 
 pub place-requires : goal.place-requires
 place-requires c =
-    let a = c.wide-node.ensures in
+    let a = c.from-node.ensures in
     let e = c.row_of-row.ensures in
     (first_high (opened-row c.requires.0 c.requires.1 c.requires.2 a c.requires.3 e), next_small c.requires.0 c.requires.1 c.requires.2 a c.requires.3 e)
 
@@ -36,7 +36,7 @@ returns c =
     let S = c.args.starts.now in
     let N = c.args.neighbours.now in
     let x = c.args.numbering.now in
-    let a = c.wide-node.ensures in
+    let a = c.from-node.ensures in
     let e = c.row_of-row.ensures in
     let R = opened-row c.requires.0 c.requires.1 c.requires.2 a c.requires.3 e in
     let w = c.join_edges.ensures (new_graph S N x) (order_of x) R (rw c.row-adjacent.ensures (opened_walk c.requires.0 c.requires.1 c.requires.2 a c.requires.3 e)) in

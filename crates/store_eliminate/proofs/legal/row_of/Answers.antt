@@ -12,9 +12,3 @@ row_same {s = s} e g = λ i. record { q = e i; first = g i; start = s }
 
 pub number-requires : goal.number-requires
 number-requires c = (c.requires.1.low, omega (arith, c.requires.1.high, numbering_length _ _ c.requires.0.numbering))
-
-pub first-requires : goal.first-requires
-first-requires c = record { starts = c.requires.0.starts; legal_graph = c.requires.0.graph; numbering_value = c.requires.0.numbering; node = c.requires.1 }
-
-pub returns : goal.returns
-returns c = row_same c.number.ensures c.first.ensures

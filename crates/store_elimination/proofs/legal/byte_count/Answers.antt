@@ -4,5 +4,5 @@ use Rattle.spec.specs.Store.{mark_byte_count}
 use Rattle.store_elimination.proofs.OneEach.{one_each}
 use Rattle.store_elimination.proofs.legal.byte_count.Goals as goal
 
-pub returns-then-total-numbering : goal.returns-then-total-numbering
-returns-then-total-numbering c = record { value = c.byte_count.ensures ∙ ap mark_byte_count (one_each c.requires.given c.requires.total_value c.if-total-numbering.true); scratch_value = c.requires.given.order }
+pub returns-then-total-numbering-clause-value : goal.returns-then-total-numbering-clause-value
+returns-then-total-numbering-clause-value c = c.byte_count.ensures ∙ ap mark_byte_count (one_each c.requires.given c.requires.total_value c.if-total-numbering.true)

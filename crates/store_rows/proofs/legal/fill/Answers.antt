@@ -1,31 +1,16 @@
--- `store_rows::legal::fill` meets its contract: a run of stores of one value. Assumes nothing.
-use Prim.Native.Nat.{ℕ, ◌+◌}
-use mathlib.Core.Path.{◌≡◌, refl, ap, ◌∙◌}
+-- `store_rows::legal::fill` meets its contract: the part is filled, the rest is as it was. Assumes nothing.
+use mathlib.Core.Path.{◌≡◌, ap, ◌∙◌}
+use Prim.Native.Nat.{ℕ, ◌+◌, ◌-◌}
+use mathlib.Core.List.{◌++◌}
 use native.Mathlib.Omega.{arith}
-use lib.ListN.{length}
-use Rattle.basis.specs.Stored.{puts}
-use Rattle.basis.proofs.Puts.{puts_none, puts-step, length-puts}
+use lib.ListN.{length, take, drop, replicate}
 use Rattle.store_rows.proofs.Columns.{filled-run}
 use Rattle.store_rows.proofs.legal.fill.Goals as goal
 
-pub loop-i-preserved : goal.loop-i-preserved
-loop-i-preserved c =
-    let e = puts-step (λ j. c.args.at + j) (λ (j : ℕ). c.args.value) c.args.words.now c.loop-i.invariant.2 refl refl in
-    (omega arith, ap length e ∙ length-puts (λ j. c.args.at + j) (λ (j : ℕ). c.args.value) c.args.words.now (c.loop-i.i + 1), e)
-
 pub returns : goal.returns
 returns c =
-    let e : c.loop-i.i ≡ c.args.count = omega arith in
-    c.loop-i.invariant.2 ∙ ap (puts (λ j. c.args.at + j) (λ (j : ℕ). c.args.value) c.args.words.now) e ∙ filled-run c.args.at c.args.count c.args.value c.args.words.now
-
-pub loop-i-init : goal.loop-i-init
-loop-i-init c = (omega arith, refl, puts_none _ _ _)
-
-pub overflow_add-words : goal.overflow_add-words
-overflow_add-words c = omega (arith, c.requires)
-
-pub offset_bounds-words-at : goal.offset_bounds-words-at
-offset_bounds-words-at c = omega (arith, c.requires)
-
-pub bounds-words-at : goal.bounds-words-at
-bounds-words-at c = omega (arith, c.requires)
+    let at = c.args.at in
+    let W = c.args.words.now in
+    let k : at + c.args.count - at ≡ c.args.count = omega arith in
+    let filled : c.fill.new.self ≡ replicate (length (take c.args.count (drop at W))) c.args.value = c.fill.ensures.after (λ y e. e) ∙ ap (λ (m : ℕ). replicate (length (take m (drop at W))) c.args.value) k in
+    ap (λ (m : ℕ). take at W ++ (c.fill.new.self ++ drop m (drop at W))) k ∙ filled-run at c.args.count c.args.value W c.requires filled

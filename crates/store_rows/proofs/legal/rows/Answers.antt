@@ -9,11 +9,6 @@ use Rattle.store_rows.proofs.legal.rows.Goals as goal
 pub add_up-requires : goal.add_up-requires
 add_up-requires c = let done = order_ready c.requires.legal_lists c.args.counts.now c.requires.counts_value c.args.numbering.now c.requires.numbering_value c.requires.scratch_value in record { counts_value = done.0; words = done.1.0; order_len_bound = done.1.1 }
 
-pub columns-requires : goal.columns-requires
-columns-requires c =
-    let added : c.add_up.new.order ≡ aheads c.args.counts.now (order_of c.args.numbering.now) = c.add_up.ensures ∙ ap (aheads c.args.counts.now) c.requires.scratch_value in
-    record { legal_lists = c.requires.legal_lists; counts_value = c.requires.counts_value; numbering_value = c.requires.numbering_value; ahead_value = added; first_len = c.requires.first_len }
-
 pub clear-requires : goal.clear-requires
 clear-requires c =
     let added : c.add_up.new.order ≡ aheads c.args.counts.now (order_of c.args.numbering.now) = c.add_up.ensures ∙ ap (aheads c.args.counts.now) c.requires.scratch_value in

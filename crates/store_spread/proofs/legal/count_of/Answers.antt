@@ -7,13 +7,10 @@ use Rattle.store_spread.proofs.Rows.{node_low, node_high, count_word}
 use Rattle.store_spread.proofs.legal.count_of.Goals as goal
 
 pub overflow_sub-node : goal.overflow_sub-node
-overflow_sub-node c = omega (arith, c.wide-node.ensures, node_low c.requires.0 c.args.p c.requires.1 c.requires.2)
-
-pub offset_bounds-counts-node : goal.offset_bounds-counts-node
-offset_bounds-counts-node c = omega (arith, c.wide-node.ensures, c.shared_slice_known-3-1.given (c.args.p - 1))
+overflow_sub-node c = omega (arith, c.from-node.ensures, node_low c.requires.0 c.args.p c.requires.1 c.requires.2)
 
 pub bounds-counts-node : goal.bounds-counts-node
-bounds-counts-node c = omega (arith, c.wide-node.ensures, node_low c.requires.0 c.args.p c.requires.1 c.requires.2, node_high c.requires.0 c.args.p c.requires.1 c.requires.2)
+bounds-counts-node c = omega (arith, c.from-node.ensures, node_low c.requires.0 c.args.p c.requires.1 c.requires.2, node_high c.requires.0 c.args.p c.requires.1 c.requires.2)
 
 pub returns : goal.returns
-returns c = c.amount.ensures ∙ ap (λ (n : ℕ). get_or c.args.counts.now (n - 1) 0) c.wide-node.ensures ∙ count_word c.requires.0 c.args.p c.requires.1 c.requires.2
+returns c = c.from.ensures ∙ ap (λ (n : ℕ). get_or c.args.counts.now (n - 1) 0) c.from-node.ensures ∙ count_word c.requires.0 c.args.p c.requires.1 c.requires.2

@@ -1,11 +1,7 @@
 -- `store_spread::legal::spread_row` meets its contract: the row's marks of nodes are moved to row 0 of its unknowns, and the other rows repeat it. Assumes nothing.
 use native.Mathlib.Omega.{arith}
 use Rattle.store_spread.proofs.Spreading.{given-listed, opened-ahead, opened_some, opened-within, opened-end, opened_clear, opened_rows, opened_done, opened-ends}
-use borrow.Author.Rules.{rules}
 use Rattle.store_spread.proofs.legal.spread_row.Goals as goal
-
-pub row_of-row-requires : goal.row_of-row-requires
-row_of-row-requires c = search rules
 
 pub expand-requires : goal.expand-requires
 expand-requires c =
@@ -19,9 +15,6 @@ repeat-requires c =
     let e = c.row_of-row.ensures in
     let n = opened-end c.requires.given.0 q c.requires.given.1 c.requires.given.2 e c.requires.ends_at.0 in
     let x = c.expand.ensures in record { room = record { fits = omega (arith, n, c.requires.ends_at.1.fits, c.expand.ensures.size); small = omega (arith, n, c.requires.ends_at.1.small) }; le_c = (opened_some c.requires.given.0 q c.requires.given.1 c.requires.given.2 e, opened_rows c.requires.given.0 q c.requires.given.1 c.requires.given.2 e _ c.requires.spread x) }
-
-pub shape_of-bytes : goal.shape_of-bytes
-shape_of-bytes c = search rules
 
 pub returns : goal.returns
 returns c =

@@ -1,12 +1,8 @@
 -- `store_spread::legal::width` meets its contract: the unknowns of the nodes passed are summed. Assumes nothing.
 use mathlib.Core.Path.{◌≡◌}
-use Prim.Native.Nat.{◌-◌, ◌≤◌}
 use Rattle.spec.specs.Unknowns.{counts_in}
 use Rattle.store_spread.specs.Rows.{offset}
 use Rattle.store_spread.proofs.legal.width.Given as goal
 
 abbrev pub invariant-loop-p : goal.invariant-loop-p
-invariant-loop-p l = (l.from ≤ l.p) × (l.p ≤ l.q) × (l.sum ≡ offset (counts_in l.counts l.order) l.from l.p)
-
-abbrev pub decreases-loop-p : goal.decreases-loop-p
-decreases-loop-p l = l.q - l.p
+invariant-loop-p l = l.sum ≡ offset (counts_in l.counts l.order) l.from l.p

@@ -5,9 +5,6 @@ use Rattle.store_unknowns.proofs.legal.figures.Goals as goal
 pub count-marked-requires : goal.count-marked-requires
 count-marked-requires c = bytes_few c.requires.counted c.args.bytes.now c.requires.bytes_value
 
-pub edges-joined-requires : goal.edges-joined-requires
-edges-joined-requires c = c.requires.counted
-
 pub overflow_sub-result : goal.overflow_sub-result
 overflow_sub-result c = edges_fit c.requires.counted c.args.bytes.now c.requires.bytes_value c.count-marked.ensures c.edges-joined.ensures
 

@@ -1,5 +1,4 @@
 -- `graph_envelope::legal::unknowns::add_up` meets its contract: the words passed are sums, the others still nodes. Assumes nothing.
-use Prim.Native.Nat.{◌-◌, ◌≤◌}
 use mathlib.Core.Path.{◌≡◌}
 use lib.ListN.{length}
 use Rattle.laws.specs.Unknowns.{ahead}
@@ -7,7 +6,4 @@ use Rattle.graph_envelope.specs.Aheads.{Made}
 use Rattle.graph_envelope.proofs.legal.unknowns.add_up.Given as goal
 
 abbrev pub invariant-loop-i : goal.invariant-loop-i
-invariant-loop-i l = (l.i ≤ length l.initial.order) × (length l.order ≡ length l.initial.order) × (l.sum ≡ ahead l.counts l.initial.order l.i) × Made (ahead l.counts l.initial.order) l.initial.order l.i l.order
-
-abbrev pub decreases-loop-i : goal.decreases-loop-i
-decreases-loop-i l = length l.initial.order - l.i
+invariant-loop-i l = (length l.order ≡ length l.initial.order) × (l.sum ≡ ahead l.counts l.initial.order l.i) × Made (ahead l.counts l.initial.order) l.initial.order l.i l.order

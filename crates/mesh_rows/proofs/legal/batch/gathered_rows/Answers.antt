@@ -1,26 +1,13 @@
 -- `mesh_rows::legal::batch::gathered_rows` meets its contract. Assumes nothing.
 use Prim.Native.Nat.{ℕ, ◌+◌, ◌<◌}
-use mathlib.Core.Path.{◌≡◌, sym, ap, subst, ◌∙◌}
-use native.Mathlib.Nat.{add-zero}
+use mathlib.Core.Path.{◌≡◌, subst, ◌∙◌}
 use native.Mathlib.Omega.{arith}
-use lib.ListN.{length, length-replicate}
 use Rattle.spec.specs.CallsMesh.{graph_of_elements}
 use Rattle.mesh_gather.specs.Sets.{set_at}
 use Rattle.mesh_rows.specs.Rows.{Goes}
-use Rattle.mesh_rows.proofs.Laying.{Filling, filling_begin, filling_step}
-use Rattle.mesh_rows.proofs.Rows.{SetOf, left_begin, left_step, row_room, row_small, row_goes}
+use Rattle.mesh_rows.proofs.Laying.{Filling, filling_step}
+use Rattle.mesh_rows.proofs.Rows.{SetOf, left_step, row_room, row_small, row_goes}
 use Rattle.mesh_rows.proofs.legal.batch.gathered_rows.Goals as goal
-
-pub loop-row-init : goal.loop-row-init
-loop-row-init c =
-    let size : length c.args.group.now ≡ 4096 = ap length c.requires.group_value ∙ length-replicate {A = ℕ} 4096 0 in
-    record {
-      most = omega arith;
-      size = c.gather.auto.sets ∙ size;
-      sets = left_begin c.gather.ensures;
-      filling = subst (λ (i : ℕ). Filling c.args.n c.args.elements.now c.args.base c.args.starts.now c.args.neighbours.now c.args.starts.now c.args.neighbours.now c.args.at i) (sym (add-zero c.args.base))
-          (filling_begin c.args.base c.args.neighbours.now c.requires.ready.0 c.requires.at_value);
-    }
 
 pub gathered_row-to-requires : goal.gathered_row-to-requires
 gathered_row-to-requires c =
@@ -43,7 +30,6 @@ loop-row-preserved c =
     let F = c.loop-row.invariant.filling in
     let e : c.args.base + c.loop-row.row + 1 ≡ c.args.base + (c.loop-row.row + 1) = omega arith in
     record {
-      most = omega (arith, c.loop-row-test.true);
       size = c.gathered_row-to.auto.group ∙ c.loop-row.invariant.size;
       sets = left_step c.loop-row.invariant.sets c.gathered_row-to.ensures.by_index;
       filling = subst (λ (i : ℕ). Filling c.args.n c.args.elements.now c.args.base c.args.starts.now c.args.neighbours.now c.gathered_row-to.new.starts c.gathered_row-to.new.neighbours c.gathered_row-to.result i) e
@@ -54,19 +40,5 @@ loop-row-preserved c =
 
 pub returns : goal.returns
 returns c =
-    let e : c.args.base + c.loop-row.row ≡ c.args.base + c.args.rows = omega (arith, c.loop-row.invariant.most, c.loop-row-test.false) in
+    let e : c.args.base + c.loop-row.row ≡ c.args.base + c.args.rows = omega arith in
     subst (λ (i : ℕ). Goes (graph_of_elements c.args.n c.args.elements.now) c.args.base c.args.starts.now c.args.neighbours.now i c.loop-row.starts c.loop-row.neighbours c.loop-row.to) e c.loop-row.invariant.filling.gone
-
-pub gather-requires : goal.gather-requires
-gather-requires c = record { sets_value = c.requires.group_value; by_index = (c.args.n, c.requires.ready.0.few, c.requires.ready.0.good) }
-
-pub shape_of-group : goal.shape_of-group
-shape_of-group c =
-    let size : length c.args.group.now ≡ 4096 = ap length c.requires.group_value ∙ length-replicate {A = ℕ} 4096 0 in
-    c.loop-row.invariant.size ∙ sym size
-
-pub shape_of-starts : goal.shape_of-starts
-shape_of-starts c = c.loop-row.invariant.filling.starts_length
-
-pub shape_of-neighbours : goal.shape_of-neighbours
-shape_of-neighbours c = c.loop-row.invariant.filling.neighbours_length

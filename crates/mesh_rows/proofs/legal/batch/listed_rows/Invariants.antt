@@ -1,12 +1,9 @@
 -- `mesh_rows::legal::batch::listed_rows` meets its contract. Assumes nothing.
-use Prim.Native.Nat.{◌+◌, ◌-◌, ◌≤◌}
+use Prim.Native.Nat.{◌+◌}
 use lib.ListN.{length}
 use Rattle.mesh_rows.specs.Rows.{Clean}
 use Rattle.mesh_rows.proofs.Laying.{Filling}
 use Rattle.mesh_rows.proofs.legal.batch.listed_rows.Given as goal
 
 abbrev pub invariant-loop-row : goal.invariant-loop-row
-invariant-loop-row l = (l.row ≤ l.rows) × Filling (length l.lists) l.elements l.base l.initial.starts l.initial.neighbours l.starts l.neighbours l.to (l.base + l.row) × Clean l.bits
-
-abbrev pub decreases-loop-row : goal.decreases-loop-row
-decreases-loop-row l = l.rows - l.row
+invariant-loop-row l = Filling (length l.lists) l.elements l.base l.initial.starts l.initial.neighbours l.starts l.neighbours l.to (l.base + l.row) × Clean l.bits

@@ -28,25 +28,3 @@ returns c =
       goes = row_goes (length c.args.lists.now) c.args.elements.now c.args.starts.now c.requires.ready.0 (c.args.base + c.args.row) inside c.args.at c.requires.at_value c.add_listed-mask.new.bits filled
           c.args.neighbours.now c.close_row.new.starts c.close_row.new.neighbours c.close_row.result c.close_row.ensures.value c.close_row.ensures.starts_value c.close_row.ensures.neighbours_value;
     }
-
-pub add_listed-mask-requires : goal.add_listed-mask-requires
-add_listed-mask-requires c = record { bits_len = (c.requires.ready.1.size, c.requires.ready.0.few, c.requires.listed.1); empty = (c.requires.ready.1.empty, c.requires.listed.0.linked) }
-
-pub overflow_add-base : goal.overflow_add-base
-overflow_add-base c =
-    let inside : c.args.base + c.args.row < length c.args.lists.now = omega (arith, c.requires.listed.1, c.requires.listed.2) in
-    omega (arith, inside, c.requires.ready.0.few)
-
-pub overflow_add-base-2 : goal.overflow_add-base-2
-overflow_add-base-2 c =
-    let inside : c.args.base + c.args.row < length c.args.lists.now = omega (arith, c.requires.listed.1, c.requires.listed.2) in
-    omega (arith, inside, c.requires.ready.0.few)
-
-pub shape_of-bits : goal.shape_of-bits
-shape_of-bits c = c.close_row.auto.bits ∙ c.add_listed-mask.auto.bits
-
-pub shape_of-starts : goal.shape_of-starts
-shape_of-starts c = c.close_row.auto.starts
-
-pub shape_of-neighbours : goal.shape_of-neighbours
-shape_of-neighbours c = c.close_row.auto.neighbours

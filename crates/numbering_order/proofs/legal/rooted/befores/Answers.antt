@@ -7,23 +7,14 @@ use Rattle.numbering_order.proofs.legal.rooted.befores.Goals as goal
 pub loop-i-init : goal.loop-i-init
 loop-i-init c = rooting_begin c.requires.neighbours_value c.requires.n_value c.requires.fact c.requires.far c.requires.levelled
 
-pub overflow_add-i : goal.overflow_add-i
-overflow_add-i c = omega (arith, c.loop-i-test.true)
-
 pub from_before-e-requires : goal.from_before-e-requires
 from_before-e-requires c =
     let I = c.loop-i.invariant in
     let K = c.loop-i.invariant.walk in
     record { neighbours_value = c.loop-i.invariant.walk.ok; n_value = c.loop-i.invariant.walk.sized; fact = walk_open K; far = walk_far K; a_le_b = rooting_inside I }
 
-pub loop-i-smaller : goal.loop-i-smaller
-loop-i-smaller c = omega (arith, c.loop-i-test.true)
-
 pub loop-i-preserved : goal.loop-i-preserved
 loop-i-preserved c = rooting_step c.loop-i.invariant c.loop-i-test.true c.from_before-e.auto.work c.from_before-e.ensures
 
-pub shape_of-work : goal.shape_of-work
-shape_of-work c = c.loop-i.invariant.walk.size
-
-pub returns : goal.returns
-returns c = rooting_done c.loop-i.invariant c.loop-i-test.false
+pub returns-2 : goal.returns-2
+returns-2 c = rooting_done (rooting_step c.loop-i.invariant c.loop-i-test.true c.from_before-e.auto.work c.from_before-e.ensures) (omega arith)

@@ -1,14 +1,8 @@
 -- `numbering_order::legal::rooted::from_root` meets its contract. Assumes nothing.
 use mathlib.Core.Path.{refl}
-use native.Mathlib.Omega.{arith}
-use Rattle.laws.proofs.Refused.{passed, starts_of_lem}
 use Rattle.numbering_order.proofs.Walk.{walk_open, walk_far}
 use Rattle.numbering_order.proofs.Rooted.{root_open, root_range, root_walk, root_levelled, root_all, root_done}
-use borrow.Author.Rules.{rules}
 use Rattle.numbering_order.proofs.legal.rooted.from_root.Goals as goal
-
-pub overflow_sub-n : goal.overflow_sub-n
-overflow_sub-n c = omega (arith, (starts_of_lem (passed c.args.starts.now c.args.neighbours.now c.requires.neighbours_value)).count)
 
 pub push-requires : goal.push-requires
 push-requires c =
@@ -28,9 +22,6 @@ wipe-requires c =
     let S = c.args.starts.now in
     let N = c.args.neighbours.now in
     walk_open (root_all S N c.requires.neighbours_value refl c.requires.rooted c.push.auto.work c.push.ensures c.args.k c.befores-t.auto.work c.befores-t.ensures)
-
-pub shape_of-work : goal.shape_of-work
-shape_of-work c = search rules
 
 pub returns : goal.returns
 returns c =

@@ -20,9 +20,3 @@ returns c =
     let odd : c.count_bytes.result ≡ ones_in B to (length B - to) = c.count_bytes.ensures in
     let e : to + (length B - to) ≡ length B = omega arith in
     ap₂ ◌+◌ words odd ∙ in_first B to (length B - to) ∙ ap (ones_in B 0) e ∙ in_all B
-
-pub count_words-requires : goal.count_words-requires
-count_words-requires c = (omega arith, omega arith, omega arith)
-
-pub count_bytes-requires : goal.count_bytes-requires
-count_bytes-requires c = (omega arith, omega arith)

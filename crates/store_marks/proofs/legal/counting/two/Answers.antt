@@ -4,20 +4,5 @@ use native.Mathlib.Omega.{arith}
 use Rattle.store_marks.proofs.Words.{gathered-two}
 use Rattle.store_marks.proofs.legal.counting.two.Goals as goal
 
--- a byte is below 256
-pub overflow_cast-result : goal.overflow_cast-result
-overflow_cast-result c = omega (arith, c.shared_slice_known-1.given (c.args.at + 1))
-
-pub overflow_mul-result : goal.overflow_mul-result
-overflow_mul-result c = omega (arith, c.shared_slice_known-1.given (c.args.at + 1))
-
-pub overflow_cast-result-2 : goal.overflow_cast-result-2
-overflow_cast-result-2 c = omega (arith, c.shared_slice_known-2-1.given c.args.at)
-
-pub overflow_add-result-2 : goal.overflow_add-result-2
-overflow_add-result-2 c =
-    let at = c.args.at in
-    omega (arith, c.shared_slice_known-2-1.given at, c.shared_slice_known-2-1.given (at + 1))
-
 pub returns : goal.returns
-returns c = (gathered-two c.args.bytes.now c.args.at, omega (arith, c.shared_slice_known-2-1.given c.args.at, c.shared_slice_known-2-1.given (c.args.at + 1)))
+returns c = (gathered-two c.args.bytes.now c.args.at, omega (arith, c.type_inv.bytes c.args.at, c.type_inv.bytes (c.args.at + 1)))

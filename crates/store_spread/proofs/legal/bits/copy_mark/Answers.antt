@@ -2,23 +2,10 @@
 use mathlib.Core.Path.{sym, ◌∙◌}
 use native.Mathlib.Omega.{arith}
 use Rattle.store_spread.proofs.Places.{copied_mark, copied_clear}
-use borrow.Author.Rules.{rules}
 use Rattle.store_spread.proofs.legal.bits.copy_mark.Goals as goal
-
-pub test-requires : goal.test-requires
-test-requires c = search rules
-
-pub set-requires : goal.set-requires
-set-requires c = search rules
-
-pub shape_of-bytes-then-test : goal.shape_of-bytes-then-test
-shape_of-bytes-then-test c = search rules
 
 pub returns-then-test : goal.returns-then-test
 returns-then-test c = rw c.set.ensures (copied_mark c.requires.s_lt_t.1 (omega (arith, c.requires.room.fits)) (sym c.test.ensures ∙ c.if-test.true))
-
-pub shape_of-bytes-else-test : goal.shape_of-bytes-else-test
-shape_of-bytes-else-test c = search rules
 
 pub returns-else-test : goal.returns-else-test
 returns-else-test c = copied_clear c.requires.s_lt_t.1 (sym c.test.ensures ∙ c.if-test.false)

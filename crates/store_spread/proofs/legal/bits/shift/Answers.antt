@@ -2,26 +2,10 @@
 use mathlib.Core.Path.{sym, ◌∙◌}
 use native.Mathlib.Omega.{arith}
 use Rattle.store_spread.proofs.Places.{moved_one, moved_none}
-use borrow.Author.Rules.{rules}
 use Rattle.store_spread.proofs.legal.bits.shift.Goals as goal
-
-pub test-requires : goal.test-requires
-test-requires c = search rules
-
-pub unset-requires : goal.unset-requires
-unset-requires c = search rules
-
-pub fill-requires : goal.fill-requires
-fill-requires c = search rules
-
-pub shape_of-bytes-then-test : goal.shape_of-bytes-then-test
-shape_of-bytes-then-test c = search rules
 
 pub returns-then-test : goal.returns-then-test
 returns-then-test c = moved_one c.requires.s_le_t.0 c.requires.s_le_t.1 c.requires.s_le_t.2 (omega (arith, c.requires.room.fits)) (sym c.test.ensures ∙ c.if-test.true) (rw c.unset.ensures at c.fill.ensures)
-
-pub shape_of-bytes-else-test : goal.shape_of-bytes-else-test
-shape_of-bytes-else-test c = search rules
 
 pub returns-else-test : goal.returns-else-test
 returns-else-test c = moved_none c.requires.s_le_t.0 c.requires.s_le_t.1 c.requires.s_le_t.2 (sym c.test.ensures ∙ c.if-test.false)

@@ -1,21 +1,12 @@
--- `store_unknowns::legal::edges::edges` meets its contract: the pairs of the nodes passed are summed. Assumes nothing.
-use Prim.Native.Nat.{ℕ, ◌-◌, ◌*◌, ◌≤◌}
+-- `store_unknowns::legal::edges::edges` meets its contract: the pairs of the nodes before p are summed. Assumes nothing.
+use Prim.Native.Nat.{◌-◌, ◌*◌, ◌≤◌}
 use mathlib.Core.Path.{◌≡◌}
-use mathlib.Core.List.{List}
-use lib.ListN.{length}
-use Rattle.spec.specs.Graph.{Graph, size_of, graph_of}
+use Rattle.spec.specs.Graph.{graph_of}
 use Rattle.store_unknowns.proofs.Edges.{edges_to}
 use Rattle.store_unknowns.proofs.legal.edges.edges.Given as goal
 
--- after p nodes of the n: the sum of their pairs
-pub record Summed (g : Graph) (K x : List ℕ) (n sum p : ℕ) : Type 0 where
-  pub inside : p ≤ length x
-  pub nodes : length x ≡ n
-  pub small : sum ≤ 147471 * p
-  pub sum_is : sum ≡ edges_to g K x p
-
 abbrev pub invariant-loop-p : goal.invariant-loop-p
-invariant-loop-p l = Summed (graph_of l.starts l.neighbours) l.counts l.numbering (size_of l.starts) l.sum l.p
-
-abbrev pub decreases-loop-p : goal.decreases-loop-p
-decreases-loop-p l = length l.numbering - l.p
+invariant-loop-p l = record {
+  small : l.sum ≤ 147471 * (l.p - 1);
+  sum_is : l.sum ≡ edges_to (graph_of l.starts l.neighbours) l.counts l.numbering (l.p - 1);
+}

@@ -1,6 +1,0 @@
--- `test_vectors::places::checksum`: the sum is below the modulus.
-use Rattle.std.proofs.Common.{◌<◌}
-use Rattle.test_vectors.proofs.places.checksum.Given as goal
-
-abbrev pub invariant-loop-x : goal.invariant-loop-x
-invariant-loop-x l = l.sum < 4294967291
