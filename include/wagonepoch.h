@@ -64,8 +64,8 @@ extern "C" {
 #endif
 
 /* The version, that of the file VERSION, as a text and as 10000 a + 100 b + c for a.b.c; CHANGES.md says what each of the three numbers means. */
-#define WAGONEPOCH_VERSION "1.8.2"
-#define WAGONEPOCH_VERSION_NUMBER 10802
+#define WAGONEPOCH_VERSION "1.8.3"
+#define WAGONEPOCH_VERSION_NUMBER 10803
 
 /* The most nodes, neighbour entries and unknowns of a node. */
 #define WAGONEPOCH_NODES 4096

@@ -44,6 +44,17 @@ pub(crate) fn find_ends(
     }
 }
 
+// Copies the words of `from` over those of `to`, which are as many. No `copy_from_slice`, which would make the archive for C ask its
+// surroundings for `memmove`.
+fn copy(to: &mut [u16], from: &[u16])
+    requires { length to.old ≡ length from.now }
+    ensures { to.new ≡ from.now }
+{
+    for i in 0..from.len() {
+        to[i] = from[i];
+    }
+}
+
 // The combined levels of the part of `node`, in scratch that is set to 0 before and after.
 pub(crate) fn find_levels(
     starts: &[u16],
@@ -64,7 +75,7 @@ pub(crate) fn find_levels(
     clear(scratch, WORDS_PER_NODE * n);
     let count = gather_part(starts, neighbours, node, scratch);
     let f = combine_part(starts, neighbours, scratch, 0, count);
-    levels.copy_from_slice(&scratch[TALLY * n..AREAS * n]);
+    copy(levels, &scratch[TALLY * n..AREAS * n]);
     clear(scratch, WORDS_PER_NODE * n);
     f
 }

@@ -12,4 +12,4 @@ combine_part-f-requires c = let done = part_ask c.args.starts.now c.args.neighbo
 pub returns : goal.returns
 returns c =
     let z = c.clear.ensures in
-    record { value = part_figures c.args.starts.now c.args.neighbours.now c.args.node c.args.scratch.now c.requires.neighbours_value c.requires.le_node c.requires.starts_in_bounds z c.gather_part-count.ensures.value c.gather_part-count.ensures.scratch_value_2 c.combine_part-f.ensures.value; levels_value = c.copy_from_slice.ensures.after ∙ levels-lent c.args.starts.now c.args.neighbours.now c.args.node c.args.scratch.now c.requires.neighbours_value c.requires.le_node c.requires.starts_in_bounds z c.gather_part-count.ensures.value c.gather_part-count.ensures.scratch_value_2 c.combine_part-f.ensures.scratch_value; scratch_value = part-words c.args.starts.now c.args.neighbours.now c.args.node c.args.scratch.now c.requires.neighbours_value c.requires.le_node c.requires.starts_in_bounds z c.gather_part-count.ensures.value c.gather_part-count.ensures.scratch_value_2 c.combine_part-f.ensures.scratch_value c.clear-2.ensures }
+    record { value = part_figures c.args.starts.now c.args.neighbours.now c.args.node c.args.scratch.now c.requires.neighbours_value c.requires.le_node c.requires.starts_in_bounds z c.gather_part-count.ensures.value c.gather_part-count.ensures.scratch_value_2 c.combine_part-f.ensures.value; levels_value = c.copy.ensures ∙ levels-lent c.args.starts.now c.args.neighbours.now c.args.node c.args.scratch.now c.requires.neighbours_value c.requires.le_node c.requires.starts_in_bounds z c.gather_part-count.ensures.value c.gather_part-count.ensures.scratch_value_2 c.combine_part-f.ensures.scratch_value; scratch_value = part-words c.args.starts.now c.args.neighbours.now c.args.node c.args.scratch.now c.requires.neighbours_value c.requires.le_node c.requires.starts_in_bounds z c.gather_part-count.ensures.value c.gather_part-count.ensures.scratch_value_2 c.combine_part-f.ensures.scratch_value c.clear-2.ensures }
