@@ -1,13 +1,21 @@
 -- What a file is refused by, test after test: its header, its counts, its elements; and what the list of counts has then. Assumes nothing.
-use mathlib.Core.Path.{◌≡◌, sym, ap, ◌∙◌}
+use mathlib.Core.Path.{◌≡◌, refl, sym, ap, ◌∙◌}
 use mathlib.Core.List.{List}
 use Prim.Native.Nat.{ℕ, ◌≤◌}
+use Rattle.std.specs.Prelude.{Result, Ok, Err}
+use Rattle.refusals.specs.Numbers.{number_in}
+use Rattle.refusals.specs.declared.Refusal.{Refusal}
 use Rattle.spec.specs.Lent.{filled}
 use Rattle.spec.specs.Refusal.{◌or_else◌}
 use Rattle.spec.specs.File.{file_counts, header_refusal, counts_refusal, body_refusal, file_refusal}
 use Rattle.laws.proofs.Lent.{filled_refused}
 use Rattle.laws.proofs.Refused.{or_else_first}
 use Rattle.file_listing.specs.Counted.{counts_after}
+
+-- a test that refuses nothing has the number 0
+pub number_none : (r : Result (Unit {0}) Refusal) → ((e : Refusal) → r ≡ Err e → ⊥) → number_in r ≡ 0
+number_none (Ok u) other = refl
+number_none (Err e) other = absurd (other e refl)
 
 module _ (file : List ℕ) where
   -- by the header, and the counts are untouched

@@ -29,8 +29,12 @@ fn read(
     ensures neighbours_value { neighbours.new ≡ filled (file_refusal file.now) (neighbour_list (file_graph file.now)) neighbours.old }
     ensures counts_value { counts.new ≡ counts_after file.now counts.old }
 {
-    file_reading::test_header(file)?;
-    file_reading::legal::counts::read_counts(file, counts)?;
+    if let Err(header) = file_reading::test_header(file) {
+        return Err(header);
+    }
+    if let Err(counted) = file_reading::legal::counts::read_counts(file, counts) {
+        return Err(counted);
+    }
     file_reading::legal::read_mesh(file, words, starts, neighbours, scratch)
 }
 

@@ -8,8 +8,9 @@ pub(crate) fn total(passes: &[u16]) -> u32
     ensures { result ≡ sum passes.now }
 {
     let mut sum: u32 = 0;
-    for &x in passes {
-        sum += u32::from(x);
+    // By index, so that the edit `second_word` plants a wrong start and nothing else.
+    for i in 0..passes.len() {
+        sum += u32::from(passes[i]);
     }
     sum
 }

@@ -41,7 +41,7 @@ each (x ∷ l) f h =
     let one : x ≡ 1 = omega (arith, f x (memb_here x l), least l r) in
     ap₂ (λ (y : ℕ) (k : List ℕ). y ∷ k) one (each l r (omega (arith, f x (memb_here x l))))
 
-counts_least : (n : ℕ) (K : List ℕ) → bad_counts n K ≡ false → n ≤ sum K
+pub counts_least : (n : ℕ) (K : List ℕ) → bad_counts n K ≡ false → n ≤ sum K
 counts_least n K ok = omega (arith, least K (λ x m. (in_range n K ok x m).0), counts_size n K ok)
 
 -- a list of another length
@@ -107,6 +107,11 @@ unknowns_kept n K {r} {t} is ok = go (bad_counts n K) refl (sym is ∙ ok)
 -- counts that are not refused have an answer
 pub unknowns_given : (n : ℕ) (K : List ℕ) {r : Result ℕ Refusal} → bad_counts n K ≡ false → r ≡ unknowns_of n K → r ≡ Ok (sum K)
 unknowns_given n K ok is = is ∙ ap (λ (b : Bool). answer b K) ok
+
+-- no `Ok`: they are refused
+pub unknowns_other : (n : ℕ) (K : List ℕ) {r : Result ℕ Refusal} → r ≡ unknowns_of n K → ((t : ℕ) → r ≡ Ok t → ⊥) → bad_counts n K ≡ true
+unknowns_other n K is other =
+    by_test (bad_counts n K) (λ (y : bad_counts n K ≡ true). y) (λ (f : bad_counts n K ≡ false). absurd (other (sum K) (unknowns_given n K f is)))
 
 -- as many as nodes: one each
 pub unknowns_ones : (n : ℕ) (K : List ℕ) → bad_counts n K ≡ false → sum K ≡ n → K ≡ ones n

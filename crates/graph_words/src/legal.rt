@@ -47,9 +47,11 @@ pub fn unknowns(counts: &[u16], n: usize) -> Result<usize, Refusal>
     }
     let mut total: u32 = 0;
     let mut strays: u32 = 0;
-    for c in counts {
-        strays += stray(*c);
-        total += u32::from(*c);
+    // By index, so that the edit `past_n` plants a wrong end and nothing else.
+    for p in 0..n {
+        let c = counts[p];
+        strays += stray(c);
+        total += u32::from(c);
     }
     if strays != 0 {
         return Err(Refusal::Counts);

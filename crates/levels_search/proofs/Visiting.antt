@@ -15,6 +15,7 @@ use Rattle.basis.proofs.Logic.{by_test, clash}
 use Rattle.basis.proofs.Walk.{chain_broken}
 use Rattle.levels_search.specs.Marks.{within, found}
 use Rattle.levels_search.specs.Queue.{Ready, Pushed, Lent, Moved}
+use Rattle.levels_search.proofs.Halves.{front_length}
 use Rattle.levels_search.proofs.Pushed.{pushed_none, pushed-append, pushed_ready, pushed_size}
 use Rattle.levels_search.proofs.Within.{within-at}
 
@@ -61,6 +62,9 @@ pub record Visiting (row : List ℕ) (n : ℕ) (W₀ : List ℕ) (tail j : ℕ) 
   pub full : length W ≡ n + n
   pub rises : chainb ltb row ≡ true
   pub on : Going row n (take n W₀) (drop n W₀) tail j (take n W) (drop n W) t k
+
+pub visit_begin : {row W : List ℕ} {n tail j : ℕ} → Lent n W tail j → within n row → chainb ltb row ≡ true → Visiting row n W tail j W tail 0
+visit_begin {W = W} {n} R w r = record { full = R.size; rises = r; on = going_begin R.ready (front_length n W R.size) w }
 
 module _ {row W₀ : List ℕ} {n tail j : ℕ} {W : List ℕ} {t k : ℕ} (I : Visiting row n W₀ tail j W t k) where
   pub lent : Lent n W t j

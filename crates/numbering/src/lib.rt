@@ -61,7 +61,9 @@ fn number(
     if any_short(n, numbers.len(), levels.len(), passes.len(), scratch.len()) {
         return Err(Refusal::ShortBuffer);
     }
-    let total = unknowns(counts, n)?;
+    let Ok(total) = unknowns(counts, n) else {
+        return Err(Refusal::Counts);
+    };
     Ok(number_all(
         order,
         starts,

@@ -37,7 +37,9 @@ pub fn import_numbering(
     if scratch.len() < n {
         return Err(Refusal::ShortBuffer);
     }
-    let total = graph_words::legal::unknowns(counts, n)?;
+    let Ok(total) = graph_words::legal::unknowns(counts, n) else {
+        return Err(Refusal::Counts);
+    };
     legal::import(
         starts,
         neighbours,

@@ -28,7 +28,9 @@ pub fn measures(
     if scratch.len() < n {
         return Err(Refusal::ShortBuffer);
     }
-    let total = graph_words::legal::unknowns(counts, n)?;
+    let Ok(total) = graph_words::legal::unknowns(counts, n) else {
+        return Err(Refusal::Counts);
+    };
     if !graph_envelope::legal::numbered(numbering, n, scratch) {
         return Err(Refusal::NoNumbering);
     }

@@ -32,7 +32,9 @@ pub fn part_report(
     if scratch.len() < WORDS_PER_NODE * n {
         return Err(Refusal::ShortBuffer);
     }
-    unknowns(counts, n)?;
+    let Ok(_) = unknowns(counts, n) else {
+        return Err(Refusal::Counts);
+    };
     if no_node(n, node) {
         return Err(Refusal::NoSuchNode);
     }

@@ -44,7 +44,9 @@ pub fn store_map(
     if any_short(n, scratch.len(), first.len(), place.len()) {
         return Err(Refusal::ShortBuffer);
     }
-    let total = graph_words::legal::unknowns(counts, n)?;
+    let Ok(total) = graph_words::legal::unknowns(counts, n) else {
+        return Err(Refusal::Counts);
+    };
     if !graph_envelope::legal::numbered(numbering, n, scratch) {
         return Err(Refusal::NoNumbering);
     }

@@ -1,6 +1,7 @@
 // The store in unknowns of a legal graph, numbering and counts: its byte count, and its marks. Callers have tested the lists, and the room.
 ghost use Rattle.std.specs.Prelude.{◌≡◌, true, ◌++◌, ◌-◌, ◌≤◌, length, replicate};
 ghost use Rattle.spec.specs.CallsStore.{elimination_figures};
+ghost use Rattle.spec.specs.Lent.{zeroed};
 ghost use Rattle.spec.specs.Measures.{is_numbering, order_of, profile};
 ghost use Rattle.spec.specs.Store.{mark_bytes, mark_byte_count};
 ghost use Rattle.spec.specs.Unknowns.{renumbered_unknowns};
@@ -58,6 +59,14 @@ pub fn byte_count(
     ((profile + 7) / 8) as usize
 }
 
+// Sets the first n bytes to 0. How many they are is handed in, so that the edit `not_cleared` plants another number and nothing else.
+fn clear(bytes: &mut [u8], n: usize)
+    requires { n ≤ length bytes.old }
+    ensures { bytes.new ≡ zeroed n bytes.old }
+{
+    bytes[..n].fill(0);
+}
+
 // The marks of the nodes' store of `nodes` places in the front of the bytes, and zeros behind. The order of the numbering is in scratch; that ends as zeros.
 fn mark_nodes(
     starts: &[u16],
@@ -76,7 +85,7 @@ fn mark_nodes(
     ensures scratch_value { scratch.new ≡ replicate (size_was starts) 0 }
 {
     let m = ((nodes + 7) / 8) as usize;
-    bytes.fill(0);
+    clear(bytes, bytes.len());
     store_eliminate::legal::mark(starts, neighbours, numbering, scratch, &mut bytes[..m]);
 }
 

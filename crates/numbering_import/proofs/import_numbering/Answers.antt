@@ -10,7 +10,7 @@ use Rattle.spec.specs.Graph.{size_of}
 use Rattle.spec.specs.Unknowns.{bad_counts}
 use Rattle.graph.specs.Facts.{LegalLists}
 use Rattle.graph.proofs.Answers.{legal_lists, refused_lists}
-use Rattle.graph_words.proofs.Unknowns.{unknowns_kept, unknowns_refused}
+use Rattle.graph_words.proofs.Unknowns.{unknowns_kept, unknowns_other}
 use Rattle.numbering_import.specs.Answer.{sent_three}
 use Rattle.numbering_import.proofs.Answers.{answered_lists, numbers_short, scratch_short, counts_refused, answered_late}
 use Rattle.std.proofs.lemmas.Result.{err_from_is_err_and}
@@ -39,20 +39,19 @@ returns-then-scratch-n c =
     scratch_short c.args.starts.now c.args.neighbours.now c.args.counts.now c.args.pairs.now (sent_three c.args.sent) c.args.numbers.now c.args.scratch.now legal c.if-scratch-n.true in
     record { result_value = r.answer; numbers_value = r.numbers; scratch_value = r.scratch }
 
-pub returns-in_err-total : goal.returns-in_err-total
-returns-in_err-total c =
-    let p = err_from_is_err_and c.from_residual-in_err-total.result c.from_residual-in_err-total.ensures.1 in
+pub returns-in_default : goal.returns-in_default
+returns-in_default c =
     let legal : LegalLists c.args.starts.now c.args.neighbours.now = legal_lists c.args.starts.now c.args.neighbours.now c.test_adjacency.ensures c.in_ok-test_adjacency.was in
     let r =
     counts_refused c.args.starts.now c.args.neighbours.now c.args.counts.now c.args.pairs.now (sent_three c.args.sent) c.args.numbers.now c.args.scratch.now legal c.if-numbers-n.false
-    c.if-scratch-n.false ((unknowns_refused _ _ c.unknowns.ensures c.in_err-total.was).0) in
-    rw (p.1, p.2, (unknowns_refused _ _ c.unknowns.ensures c.in_err-total.was).1) record { result_value = r.answer; numbers_value = r.numbers; scratch_value = r.scratch }
+    c.if-scratch-n.false (unknowns_other _ _ c.unknowns.ensures c.in_default.not-Ok) in
+    record { result_value = r.answer; numbers_value = r.numbers; scratch_value = r.scratch }
 
 pub import-requires : goal.import-requires
 import-requires c =
     let legal : LegalLists c.args.starts.now c.args.neighbours.now = legal_lists c.args.starts.now c.args.neighbours.now c.test_adjacency.ensures c.in_ok-test_adjacency.was in
-    let fit : bad_counts (size_of c.args.starts.now) c.args.counts.now ≡ false = (unknowns_kept _ _ c.unknowns.ensures c.in_ok-total.was).0 in
-    let total : c.in_ok-total.total ≡ sum c.args.counts.now = (unknowns_kept _ _ c.unknowns.ensures c.in_ok-total.was).1 in
+    let fit : bad_counts (size_of c.args.starts.now) c.args.counts.now ≡ false = (unknowns_kept _ _ c.unknowns.ensures c.in-Ok.is).0 in
+    let total : c.in-Ok.total ≡ sum c.args.counts.now = (unknowns_kept _ _ c.unknowns.ensures c.in-Ok.is).1 in
     let numbers-room : size_of c.args.starts.now ≤ length c.args.numbers.now = c.if-numbers-n.false in
     let numbers-part : length (take (size_of c.args.starts.now) c.args.numbers.now) ≡ size_of c.args.starts.now = length-take-le _ _ numbers-room in
     let scratch-room : size_of c.args.starts.now ≤ length c.args.scratch.now = c.if-scratch-n.false in
@@ -62,7 +61,7 @@ import-requires c =
 pub returns : goal.returns
 returns c =
     let legal : LegalLists c.args.starts.now c.args.neighbours.now = legal_lists c.args.starts.now c.args.neighbours.now c.test_adjacency.ensures c.in_ok-test_adjacency.was in
-    let fit : bad_counts (size_of c.args.starts.now) c.args.counts.now ≡ false = (unknowns_kept _ _ c.unknowns.ensures c.in_ok-total.was).0 in
+    let fit : bad_counts (size_of c.args.starts.now) c.args.counts.now ≡ false = (unknowns_kept _ _ c.unknowns.ensures c.in-Ok.is).0 in
     let numbers-room : size_of c.args.starts.now ≤ length c.args.numbers.now = c.if-numbers-n.false in
     let scratch-room : size_of c.args.starts.now ≤ length c.args.scratch.now = c.if-scratch-n.false in
     let r =

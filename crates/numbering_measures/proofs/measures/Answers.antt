@@ -11,7 +11,7 @@ use Rattle.spec.specs.Lent.{accepted}
 use Rattle.spec.specs.Unknowns.{bad_counts}
 use Rattle.graph.specs.Facts.{LegalLists}
 use Rattle.graph.proofs.Answers.{legal_lists, refused_lists}
-use Rattle.graph_words.proofs.Unknowns.{unknowns_kept, unknowns_refused}
+use Rattle.graph_words.proofs.Unknowns.{unknowns_kept, unknowns_other}
 use Rattle.graph_envelope.proofs.Lent.{Numbered, numbered_yes, numbered-zeroed, numbered_no}
 use Rattle.numbering_measures.proofs.Answers.{lists_refused, scratch_short, counts_refused, misnumbered, measured}
 use Rattle.std.proofs.lemmas.Result.{err_from_is_err_and}
@@ -33,12 +33,11 @@ returns-then-scratch-n c =
     let legal : LegalLists c.args.starts.now c.args.neighbours.now = legal_lists c.args.starts.now c.args.neighbours.now c.test_adjacency.ensures c.in_ok-test_adjacency.was in
     let done = scratch_short c.args.starts.now c.args.neighbours.now c.args.counts.now c.args.numbering.now c.args.scratch.now legal c.if-scratch-n.true in record { result_value = done.0; scratch_value = done.1 }
 
-pub returns-in_err-total : goal.returns-in_err-total
-returns-in_err-total c =
-    let p = err_from_is_err_and c.from_residual-in_err-total.result c.from_residual-in_err-total.ensures.1 in
+pub returns-in_default : goal.returns-in_default
+returns-in_default c =
     let legal : LegalLists c.args.starts.now c.args.neighbours.now = legal_lists c.args.starts.now c.args.neighbours.now c.test_adjacency.ensures c.in_ok-test_adjacency.was in
     let done = counts_refused c.args.starts.now c.args.neighbours.now c.args.counts.now c.args.numbering.now c.args.scratch.now legal c.if-scratch-n.false
-    ((unknowns_refused _ _ c.unknowns.ensures c.in_err-total.was).0) in rw (p.1, p.2, (unknowns_refused _ _ c.unknowns.ensures c.in_err-total.was).1) record { result_value = done.0; scratch_value = done.1 }
+    (unknowns_other _ _ c.unknowns.ensures c.in_default.not-Ok) in record { result_value = done.0; scratch_value = done.1 }
 
 pub numbered-requires : goal.numbered-requires
 numbered-requires c =
@@ -48,8 +47,8 @@ numbered-requires c =
 pub figures-requires : goal.figures-requires
 figures-requires c =
     let legal : LegalLists c.args.starts.now c.args.neighbours.now = legal_lists c.args.starts.now c.args.neighbours.now c.test_adjacency.ensures c.in_ok-test_adjacency.was in
-    let fit : bad_counts (size_of c.args.starts.now) c.args.counts.now ≡ false = (unknowns_kept _ _ c.unknowns.ensures c.in_ok-total.was).0 in
-    let total : c.in_ok-total.total ≡ sum c.args.counts.now = (unknowns_kept _ _ c.unknowns.ensures c.in_ok-total.was).1 in
+    let fit : bad_counts (size_of c.args.starts.now) c.args.counts.now ≡ false = (unknowns_kept _ _ c.unknowns.ensures c.in-Ok.is).0 in
+    let total : c.in-Ok.total ≡ sum c.args.counts.now = (unknowns_kept _ _ c.unknowns.ensures c.in-Ok.is).1 in
     let numbered : Numbered (size_of c.args.starts.now) c.args.numbering.now c.args.scratch.now c.numbered.new.scratch = numbered_yes _ _ _ _ c.numbered.result c.numbered.ensures.value c.numbered.ensures.scratch_value c.if-not-numbered.false in
     let room : size_of c.args.starts.now ≤ length c.args.scratch.now = c.if-scratch-n.false in
     let part : length (take (size_of c.args.starts.now) c.numbered.new.scratch) ≡ size_of c.args.starts.now = length-take-le (size_of c.args.starts.now) c.numbered.new.scratch (omega (arith, c.numbered.auto.scratch, room)) in
@@ -58,7 +57,7 @@ figures-requires c =
 pub returns : goal.returns
 returns c =
     let legal : LegalLists c.args.starts.now c.args.neighbours.now = legal_lists c.args.starts.now c.args.neighbours.now c.test_adjacency.ensures c.in_ok-test_adjacency.was in
-    let fit : bad_counts (size_of c.args.starts.now) c.args.counts.now ≡ false = (unknowns_kept _ _ c.unknowns.ensures c.in_ok-total.was).0 in
+    let fit : bad_counts (size_of c.args.starts.now) c.args.counts.now ≡ false = (unknowns_kept _ _ c.unknowns.ensures c.in-Ok.is).0 in
     let room : size_of c.args.starts.now ≤ length c.args.scratch.now = c.if-scratch-n.false in
     let numbered : Numbered (size_of c.args.starts.now) c.args.numbering.now c.args.scratch.now c.numbered.new.scratch = numbered_yes _ _ _ _ c.numbered.result c.numbered.ensures.value c.numbered.ensures.scratch_value c.if-not-numbered.false in
     let M = numbered in
@@ -70,7 +69,7 @@ returns c =
 pub returns-then-not-numbered : goal.returns-then-not-numbered
 returns-then-not-numbered c =
     let legal : LegalLists c.args.starts.now c.args.neighbours.now = legal_lists c.args.starts.now c.args.neighbours.now c.test_adjacency.ensures c.in_ok-test_adjacency.was in
-    let fit : bad_counts (size_of c.args.starts.now) c.args.counts.now ≡ false = (unknowns_kept _ _ c.unknowns.ensures c.in_ok-total.was).0 in
+    let fit : bad_counts (size_of c.args.starts.now) c.args.counts.now ≡ false = (unknowns_kept _ _ c.unknowns.ensures c.in-Ok.is).0 in
     let room : size_of c.args.starts.now ≤ length c.args.scratch.now = c.if-scratch-n.false in
     let r =
     misnumbered c.args.starts.now c.args.neighbours.now c.args.counts.now c.args.numbering.now c.args.scratch.now legal room fit

@@ -11,7 +11,7 @@ use Rattle.spec.specs.Unknowns.{bad_counts}
 use Rattle.graph.specs.Facts.{LegalLists}
 use Rattle.graph.proofs.Answers.{legal_lists, refused_lists}
 use Rattle.graph_envelope.proofs.Lent.{Numbered, numbered_yes, numbered-front, numbered-zeroed, numbered_no}
-use Rattle.graph_words.proofs.Unknowns.{unknowns_kept, unknowns_refused}
+use Rattle.graph_words.proofs.Unknowns.{unknowns_kept, unknowns_other}
 use Rattle.store_map.proofs.Answers.{any_short, answered_lists, answered_5, answered_15, answered_7, answered_0, room_scratch, room_first, room_place, total_few}
 use Rattle.std.proofs.lemmas.Result.{err_from_is_err_and}
 use Rattle.store_map.proofs.store_map.Goals as goal
@@ -37,15 +37,14 @@ returns-then-any_short c =
     (sym c.any_short.ensures ∙ c.if-any_short.true) in
     record { result_value = r.answer; scratch_value = r.scratch; first_value = r.first; place_value = r.place }
 
-pub returns-in_err-total : goal.returns-in_err-total
-returns-in_err-total c =
-    let p = err_from_is_err_and c.from_residual-in_err-total.result c.from_residual-in_err-total.ensures.1 in
+pub returns-in_default : goal.returns-in_default
+returns-in_default c =
     let legal : LegalLists c.args.starts.now c.args.neighbours.now = legal_lists c.args.starts.now c.args.neighbours.now c.test_adjacency.ensures c.in_ok-test_adjacency.was in
     let room : any_short c.args.starts.now c.args.neighbours.now c.args.counts.now c.args.numbering.now c.args.scratch.now c.args.first.now c.args.place.now ≡ false = sym c.any_short.ensures ∙ c.if-any_short.false in
     let r =
     answered_15 c.args.starts.now c.args.neighbours.now c.args.counts.now c.args.numbering.now c.args.scratch.now c.args.first.now c.args.place.now legal room
-    ((unknowns_refused _ _ c.unknowns.ensures c.in_err-total.was).0) in
-    rw (p.1, p.2, (unknowns_refused _ _ c.unknowns.ensures c.in_err-total.was).1) record { result_value = r.answer; scratch_value = r.scratch; first_value = r.first; place_value = r.place }
+    (unknowns_other _ _ c.unknowns.ensures c.in_default.not-Ok) in
+    record { result_value = r.answer; scratch_value = r.scratch; first_value = r.first; place_value = r.place }
 
 pub numbered-requires : goal.numbered-requires
 numbered-requires c =
@@ -57,11 +56,11 @@ numbered-requires c =
 pub rows-profile-requires : goal.rows-profile-requires
 rows-profile-requires c =
     let legal : LegalLists c.args.starts.now c.args.neighbours.now = legal_lists c.args.starts.now c.args.neighbours.now c.test_adjacency.ensures c.in_ok-test_adjacency.was in
-    let fit : bad_counts (size_of c.args.starts.now) c.args.counts.now ≡ false = (unknowns_kept _ _ c.unknowns.ensures c.in_ok-total.was).0 in
-    let total : c.in_ok-total.total ≡ sum c.args.counts.now = (unknowns_kept _ _ c.unknowns.ensures c.in_ok-total.was).1 in
+    let fit : bad_counts (size_of c.args.starts.now) c.args.counts.now ≡ false = (unknowns_kept _ _ c.unknowns.ensures c.in-Ok.is).0 in
+    let total : c.in-Ok.total ≡ sum c.args.counts.now = (unknowns_kept _ _ c.unknowns.ensures c.in-Ok.is).1 in
     let room : any_short c.args.starts.now c.args.neighbours.now c.args.counts.now c.args.numbering.now c.args.scratch.now c.args.first.now c.args.place.now ≡ false = sym c.any_short.ensures ∙ c.if-any_short.false in
-    let first-room : c.in_ok-total.total ≤ length c.args.first.now = omega (arith, total, room_first c.args.starts.now c.args.neighbours.now c.args.counts.now c.args.numbering.now c.args.scratch.now c.args.first.now c.args.place.now legal room fit) in
-    let place-room : c.in_ok-total.total + 1 ≤ length c.args.place.now = omega (arith, total, room_place c.args.starts.now c.args.neighbours.now c.args.counts.now c.args.numbering.now c.args.scratch.now c.args.first.now c.args.place.now legal room fit) in
+    let first-room : c.in-Ok.total ≤ length c.args.first.now = omega (arith, total, room_first c.args.starts.now c.args.neighbours.now c.args.counts.now c.args.numbering.now c.args.scratch.now c.args.first.now c.args.place.now legal room fit) in
+    let place-room : c.in-Ok.total + 1 ≤ length c.args.place.now = omega (arith, total, room_place c.args.starts.now c.args.neighbours.now c.args.counts.now c.args.numbering.now c.args.scratch.now c.args.first.now c.args.place.now legal room fit) in
     let numbered : Numbered (size_of c.args.starts.now) c.args.numbering.now c.args.scratch.now c.numbered.new.scratch = numbered_yes _ _ _ _ c.numbered.result c.numbered.ensures.value c.numbered.ensures.scratch_value c.if-not-numbered.false in
     let M = numbered in record { legal_lists = legal; counts_value = fit; numbering_value = M.numbering; scratch_value = numbered-front M; first_len = length-take-le _ _ first-room ∙ total; place_len = length-take-le _ _ place-room ∙ ap (λ (k : ℕ). k + 1) total }
 
@@ -69,8 +68,8 @@ pub returns : goal.returns
 returns c =
     let legal : LegalLists c.args.starts.now c.args.neighbours.now = legal_lists c.args.starts.now c.args.neighbours.now c.test_adjacency.ensures c.in_ok-test_adjacency.was in
     let room : any_short c.args.starts.now c.args.neighbours.now c.args.counts.now c.args.numbering.now c.args.scratch.now c.args.first.now c.args.place.now ≡ false = sym c.any_short.ensures ∙ c.if-any_short.false in
-    let fit : bad_counts (size_of c.args.starts.now) c.args.counts.now ≡ false = (unknowns_kept _ _ c.unknowns.ensures c.in_ok-total.was).0 in
-    let total : c.in_ok-total.total ≡ sum c.args.counts.now = (unknowns_kept _ _ c.unknowns.ensures c.in_ok-total.was).1 in
+    let fit : bad_counts (size_of c.args.starts.now) c.args.counts.now ≡ false = (unknowns_kept _ _ c.unknowns.ensures c.in-Ok.is).0 in
+    let total : c.in-Ok.total ≡ sum c.args.counts.now = (unknowns_kept _ _ c.unknowns.ensures c.in-Ok.is).1 in
     let numbered : Numbered (size_of c.args.starts.now) c.args.numbering.now c.args.scratch.now c.numbered.new.scratch = numbered_yes _ _ _ _ c.numbered.result c.numbered.ensures.value c.numbered.ensures.scratch_value c.if-not-numbered.false in
     let M = numbered in
     let r =
@@ -82,7 +81,7 @@ pub returns-then-not-numbered : goal.returns-then-not-numbered
 returns-then-not-numbered c =
     let legal : LegalLists c.args.starts.now c.args.neighbours.now = legal_lists c.args.starts.now c.args.neighbours.now c.test_adjacency.ensures c.in_ok-test_adjacency.was in
     let room : any_short c.args.starts.now c.args.neighbours.now c.args.counts.now c.args.numbering.now c.args.scratch.now c.args.first.now c.args.place.now ≡ false = sym c.any_short.ensures ∙ c.if-any_short.false in
-    let fit : bad_counts (size_of c.args.starts.now) c.args.counts.now ≡ false = (unknowns_kept _ _ c.unknowns.ensures c.in_ok-total.was).0 in
+    let fit : bad_counts (size_of c.args.starts.now) c.args.counts.now ≡ false = (unknowns_kept _ _ c.unknowns.ensures c.in-Ok.is).0 in
     let r =
     answered_7 c.args.starts.now c.args.neighbours.now c.args.counts.now c.args.numbering.now c.args.scratch.now c.args.first.now c.args.place.now
     legal room fit (sym c.numbered.ensures.value ∙ c.if-not-numbered.true) in
@@ -102,52 +101,52 @@ pub overflow_add-total : goal.overflow_add-total
 overflow_add-total c =
     let legal : LegalLists c.args.starts.now c.args.neighbours.now = legal_lists c.args.starts.now c.args.neighbours.now c.test_adjacency.ensures c.in_ok-test_adjacency.was in
     let room : any_short c.args.starts.now c.args.neighbours.now c.args.counts.now c.args.numbering.now c.args.scratch.now c.args.first.now c.args.place.now ≡ false = sym c.any_short.ensures ∙ c.if-any_short.false in
-    let fit : bad_counts (size_of c.args.starts.now) c.args.counts.now ≡ false = (unknowns_kept _ _ c.unknowns.ensures c.in_ok-total.was).0 in
-    let total : c.in_ok-total.total ≡ sum c.args.counts.now = (unknowns_kept _ _ c.unknowns.ensures c.in_ok-total.was).1 in
-    let few : c.in_ok-total.total ≤ 24576 = omega (arith, total, total_few c.args.starts.now c.args.neighbours.now c.args.counts.now c.args.numbering.now c.args.scratch.now c.args.first.now c.args.place.now legal room fit) in
+    let fit : bad_counts (size_of c.args.starts.now) c.args.counts.now ≡ false = (unknowns_kept _ _ c.unknowns.ensures c.in-Ok.is).0 in
+    let total : c.in-Ok.total ≡ sum c.args.counts.now = (unknowns_kept _ _ c.unknowns.ensures c.in-Ok.is).1 in
+    let few : c.in-Ok.total ≤ 24576 = omega (arith, total, total_few c.args.starts.now c.args.neighbours.now c.args.counts.now c.args.numbering.now c.args.scratch.now c.args.first.now c.args.place.now legal room fit) in
     omega (arith, few)
 
 pub overflow_cast-result : goal.overflow_cast-result
 overflow_cast-result c =
     let legal : LegalLists c.args.starts.now c.args.neighbours.now = legal_lists c.args.starts.now c.args.neighbours.now c.test_adjacency.ensures c.in_ok-test_adjacency.was in
     let room : any_short c.args.starts.now c.args.neighbours.now c.args.counts.now c.args.numbering.now c.args.scratch.now c.args.first.now c.args.place.now ≡ false = sym c.any_short.ensures ∙ c.if-any_short.false in
-    let fit : bad_counts (size_of c.args.starts.now) c.args.counts.now ≡ false = (unknowns_kept _ _ c.unknowns.ensures c.in_ok-total.was).0 in
-    let total : c.in_ok-total.total ≡ sum c.args.counts.now = (unknowns_kept _ _ c.unknowns.ensures c.in_ok-total.was).1 in
-    let few : c.in_ok-total.total ≤ 24576 = omega (arith, total, total_few c.args.starts.now c.args.neighbours.now c.args.counts.now c.args.numbering.now c.args.scratch.now c.args.first.now c.args.place.now legal room fit) in
+    let fit : bad_counts (size_of c.args.starts.now) c.args.counts.now ≡ false = (unknowns_kept _ _ c.unknowns.ensures c.in-Ok.is).0 in
+    let total : c.in-Ok.total ≡ sum c.args.counts.now = (unknowns_kept _ _ c.unknowns.ensures c.in-Ok.is).1 in
+    let few : c.in-Ok.total ≤ 24576 = omega (arith, total, total_few c.args.starts.now c.args.neighbours.now c.args.counts.now c.args.numbering.now c.args.scratch.now c.args.first.now c.args.place.now legal room fit) in
     omega (arith, few)
 
 pub slice_bounds-rows-end-3 : goal.slice_bounds-rows-end-3
 slice_bounds-rows-end-3 c =
     let legal : LegalLists c.args.starts.now c.args.neighbours.now = legal_lists c.args.starts.now c.args.neighbours.now c.test_adjacency.ensures c.in_ok-test_adjacency.was in
     let room : any_short c.args.starts.now c.args.neighbours.now c.args.counts.now c.args.numbering.now c.args.scratch.now c.args.first.now c.args.place.now ≡ false = sym c.any_short.ensures ∙ c.if-any_short.false in
-    let fit : bad_counts (size_of c.args.starts.now) c.args.counts.now ≡ false = (unknowns_kept _ _ c.unknowns.ensures c.in_ok-total.was).0 in
-    let total : c.in_ok-total.total ≡ sum c.args.counts.now = (unknowns_kept _ _ c.unknowns.ensures c.in_ok-total.was).1 in
-    let first-room : c.in_ok-total.total ≤ length c.args.first.now = omega (arith, total, room_first c.args.starts.now c.args.neighbours.now c.args.counts.now c.args.numbering.now c.args.scratch.now c.args.first.now c.args.place.now legal room fit) in
+    let fit : bad_counts (size_of c.args.starts.now) c.args.counts.now ≡ false = (unknowns_kept _ _ c.unknowns.ensures c.in-Ok.is).0 in
+    let total : c.in-Ok.total ≡ sum c.args.counts.now = (unknowns_kept _ _ c.unknowns.ensures c.in-Ok.is).1 in
+    let first-room : c.in-Ok.total ≤ length c.args.first.now = omega (arith, total, room_first c.args.starts.now c.args.neighbours.now c.args.counts.now c.args.numbering.now c.args.scratch.now c.args.first.now c.args.place.now legal room fit) in
     first-room
 
 pub slice_bounds-rows-end-4 : goal.slice_bounds-rows-end-4
 slice_bounds-rows-end-4 c =
     let legal : LegalLists c.args.starts.now c.args.neighbours.now = legal_lists c.args.starts.now c.args.neighbours.now c.test_adjacency.ensures c.in_ok-test_adjacency.was in
     let room : any_short c.args.starts.now c.args.neighbours.now c.args.counts.now c.args.numbering.now c.args.scratch.now c.args.first.now c.args.place.now ≡ false = sym c.any_short.ensures ∙ c.if-any_short.false in
-    let fit : bad_counts (size_of c.args.starts.now) c.args.counts.now ≡ false = (unknowns_kept _ _ c.unknowns.ensures c.in_ok-total.was).0 in
-    let total : c.in_ok-total.total ≡ sum c.args.counts.now = (unknowns_kept _ _ c.unknowns.ensures c.in_ok-total.was).1 in
-    let first-room : c.in_ok-total.total ≤ length c.args.first.now = omega (arith, total, room_first c.args.starts.now c.args.neighbours.now c.args.counts.now c.args.numbering.now c.args.scratch.now c.args.first.now c.args.place.now legal room fit) in
+    let fit : bad_counts (size_of c.args.starts.now) c.args.counts.now ≡ false = (unknowns_kept _ _ c.unknowns.ensures c.in-Ok.is).0 in
+    let total : c.in-Ok.total ≡ sum c.args.counts.now = (unknowns_kept _ _ c.unknowns.ensures c.in-Ok.is).1 in
+    let first-room : c.in-Ok.total ≤ length c.args.first.now = omega (arith, total, room_first c.args.starts.now c.args.neighbours.now c.args.counts.now c.args.numbering.now c.args.scratch.now c.args.first.now c.args.place.now legal room fit) in
     sym (length-take-le _ _ first-room)
 
 pub slice_bounds-rows-end-5 : goal.slice_bounds-rows-end-5
 slice_bounds-rows-end-5 c =
     let legal : LegalLists c.args.starts.now c.args.neighbours.now = legal_lists c.args.starts.now c.args.neighbours.now c.test_adjacency.ensures c.in_ok-test_adjacency.was in
     let room : any_short c.args.starts.now c.args.neighbours.now c.args.counts.now c.args.numbering.now c.args.scratch.now c.args.first.now c.args.place.now ≡ false = sym c.any_short.ensures ∙ c.if-any_short.false in
-    let fit : bad_counts (size_of c.args.starts.now) c.args.counts.now ≡ false = (unknowns_kept _ _ c.unknowns.ensures c.in_ok-total.was).0 in
-    let total : c.in_ok-total.total ≡ sum c.args.counts.now = (unknowns_kept _ _ c.unknowns.ensures c.in_ok-total.was).1 in
-    let place-room : c.in_ok-total.total + 1 ≤ length c.args.place.now = omega (arith, total, room_place c.args.starts.now c.args.neighbours.now c.args.counts.now c.args.numbering.now c.args.scratch.now c.args.first.now c.args.place.now legal room fit) in
+    let fit : bad_counts (size_of c.args.starts.now) c.args.counts.now ≡ false = (unknowns_kept _ _ c.unknowns.ensures c.in-Ok.is).0 in
+    let total : c.in-Ok.total ≡ sum c.args.counts.now = (unknowns_kept _ _ c.unknowns.ensures c.in-Ok.is).1 in
+    let place-room : c.in-Ok.total + 1 ≤ length c.args.place.now = omega (arith, total, room_place c.args.starts.now c.args.neighbours.now c.args.counts.now c.args.numbering.now c.args.scratch.now c.args.first.now c.args.place.now legal room fit) in
     place-room
 
 pub slice_bounds-rows-end-6 : goal.slice_bounds-rows-end-6
 slice_bounds-rows-end-6 c =
     let legal : LegalLists c.args.starts.now c.args.neighbours.now = legal_lists c.args.starts.now c.args.neighbours.now c.test_adjacency.ensures c.in_ok-test_adjacency.was in
     let room : any_short c.args.starts.now c.args.neighbours.now c.args.counts.now c.args.numbering.now c.args.scratch.now c.args.first.now c.args.place.now ≡ false = sym c.any_short.ensures ∙ c.if-any_short.false in
-    let fit : bad_counts (size_of c.args.starts.now) c.args.counts.now ≡ false = (unknowns_kept _ _ c.unknowns.ensures c.in_ok-total.was).0 in
-    let total : c.in_ok-total.total ≡ sum c.args.counts.now = (unknowns_kept _ _ c.unknowns.ensures c.in_ok-total.was).1 in
-    let place-room : c.in_ok-total.total + 1 ≤ length c.args.place.now = omega (arith, total, room_place c.args.starts.now c.args.neighbours.now c.args.counts.now c.args.numbering.now c.args.scratch.now c.args.first.now c.args.place.now legal room fit) in
+    let fit : bad_counts (size_of c.args.starts.now) c.args.counts.now ≡ false = (unknowns_kept _ _ c.unknowns.ensures c.in-Ok.is).0 in
+    let total : c.in-Ok.total ≡ sum c.args.counts.now = (unknowns_kept _ _ c.unknowns.ensures c.in-Ok.is).1 in
+    let place-room : c.in-Ok.total + 1 ≤ length c.args.place.now = omega (arith, total, room_place c.args.starts.now c.args.neighbours.now c.args.counts.now c.args.numbering.now c.args.scratch.now c.args.first.now c.args.place.now legal room fit) in
     sym (length-take-le _ _ place-room)

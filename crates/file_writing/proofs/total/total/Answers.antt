@@ -3,5 +3,5 @@ use Rattle.std.proofs.Common.{arith}
 use Rattle.file_writing.proofs.Totals.{totalled_step}
 use Rattle.file_writing.proofs.total.total.Goals as goal
 
-pub loop-x-preserved : goal.loop-x-preserved
-loop-x-preserved c = rw c.from-sum.ensures (totalled_step c.loop-x.invariant c.loop-x-test.true (omega (arith, c.type_inv.passes c.loop-x.x-index)))
+pub loop-i-preserved : goal.loop-i-preserved
+loop-i-preserved c = rw c.from-sum.ensures (totalled_step c.loop-i.invariant c.loop-i-test.true (omega (arith, c.type_inv.passes c.loop-i.i)))

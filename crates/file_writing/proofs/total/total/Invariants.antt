@@ -2,5 +2,5 @@
 use Rattle.file_writing.proofs.Totals.{Totalled}
 use Rattle.file_writing.proofs.total.total.Given as goal
 
-abbrev pub invariant-loop-x : goal.invariant-loop-x
-invariant-loop-x l = Totalled l.passes l.x-index l.sum
+abbrev pub invariant-loop-i : goal.invariant-loop-i
+invariant-loop-i l = Totalled l.passes l.i l.sum

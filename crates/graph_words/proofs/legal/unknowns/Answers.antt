@@ -7,7 +7,7 @@ pub returns-then-counts-n : goal.returns-then-counts-n
 returns-then-counts-n c = unknowns_misfit _ _ c.if-counts-n.true
 
 pub returns-then-strays-ne0 : goal.returns-then-strays-ne0
-returns-then-strays-ne0 c = unknowns_bad c.loop-c.invariant (omega arith) c.if-strays-ne0.true
+returns-then-strays-ne0 c = unknowns_bad c.loop-p.invariant (omega arith) c.if-strays-ne0.true
 
 pub returns : goal.returns
-returns c = unknowns_good c.loop-c.invariant (omega arith) c.if-strays-ne0.false
+returns c = unknowns_good c.loop-p.invariant (omega arith) c.if-strays-ne0.false

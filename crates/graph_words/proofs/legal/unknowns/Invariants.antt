@@ -2,5 +2,5 @@
 use Rattle.graph_words.proofs.Unknowns.{Totalling}
 use Rattle.graph_words.proofs.legal.unknowns.Given as goal
 
-abbrev pub invariant-loop-c : goal.invariant-loop-c
-invariant-loop-c l = Totalling l.n l.counts l.total l.strays l.c-index
+abbrev pub invariant-loop-p : goal.invariant-loop-p
+invariant-loop-p l = Totalling l.n l.counts l.total l.strays l.p

@@ -1,6 +1,9 @@
 -- `levels_search::legal::visit` meets its contract: the loop is `Visiting.antt`'s. Assumes nothing.
-use Rattle.levels_search.proofs.Visiting.{lent, a_node, both-nodes, a-before, step-one, step-two, visit_done}
+use Rattle.levels_search.proofs.Visiting.{visit_begin, lent, a_node, both-nodes, a-before, step-one, step-two, visit_done}
 use Rattle.levels_search.proofs.legal.visit.Goals as goal
+
+pub loop-k-init : goal.loop-k-init
+loop-k-init c = visit_begin c.requires.lent c.requires.within c.requires.row_value
 
 pub visit_two-t-requires : goal.visit_two-t-requires
 visit_two-t-requires c =
